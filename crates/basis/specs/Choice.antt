@@ -1,0 +1,28 @@
+-- Choosing among cases.
+use Prim.Native.Nat.{ℕ}
+use mathlib.Core.Bool.{Bool, true, false, cond}
+use mathlib.Core.List.{List, [], _∷_}
+use mathlib.Core.Option.{Option, none, some}
+
+-- what follows from a value that may be missing
+abbrev pub given : {A B : Type 0} → Option A → B → (A → B) → B
+given none b f = b
+given (some a) b f = f a
+
+-- whether there is a value
+abbrev pub there : {A : Type 0} → Option A → Bool
+there none = false
+there (some a) = true
+
+-- a refusal's number, and whether its condition is met
+pub record Check : Type 0 where
+  pub number : ℕ
+  pub broken : Bool
+
+abbrev pub check : ℕ → Bool → Check
+check n b = record { number = n; broken = b }
+
+-- "the lowest that applies": the first of the checks, which stand in rising order, that is broken
+unfoldable pub lowest : List Check → Option ℕ
+lowest [] = none
+lowest (c ∷ cs) = cond (c .broken) (some (c .number)) (lowest cs)

@@ -1,0 +1,4 @@
+pub mod Bytes
+pub mod Choice
+pub mod Lists
+pub mod Numbers

@@ -1,0 +1,64 @@
+-- "The first field is one of nine words", and which kind may follow which.
+use Prim.Native.Nat.{ℕ}
+use mathlib.Core.Bool.{Bool, true, false, cond, _||_}
+use mathlib.Core.List.{List, [], _∷_}
+use lib.Dec.{eqb, leb}
+use Rattle.basis.specs.Bytes.{bytes}
+use Rattle.basis.specs.Lists.{same}
+use Rattle.text.specs.declared.kind.Kind.{Kind}
+use Rattle.text.specs.declared.kind.Kind.the-variants.{Policy, Uattr, Oattr, Usen, Osen, User, Object, Rule, End}
+use Rattle.text.specs.declared.kind.Named.{Named}
+use Rattle.text.specs.declared.kind.Named.the-variants.{Is, Unknown}
+
+-- each kind word is a fixed byte string
+abbrev pub wordOf : Kind → List ℕ
+wordOf Policy = bytes "policy"
+wordOf Uattr = bytes "uattr"
+wordOf Oattr = bytes "oattr"
+wordOf Usen = bytes "usen"
+wordOf Osen = bytes "osen"
+wordOf User = bytes "user"
+wordOf Object = bytes "object"
+wordOf Rule = bytes "rule"
+wordOf End = bytes "end"
+
+abbrev pub kinds : List Kind
+kinds = Policy ∷ Uattr ∷ Oattr ∷ Usen ∷ Osen ∷ User ∷ Object ∷ Rule ∷ End ∷ []
+
+-- the kind of a list whose word a first field is
+unfoldable pub namedIn : List Kind → List ℕ → Named
+namedIn [] f = Unknown
+namedIn (k ∷ ks) f = cond (same eqb f (wordOf k)) (Is k) (namedIn ks f)
+
+abbrev pub named : List ℕ → Named
+named f = namedIn kinds f
+
+-- a kind's place in the list of nine
+abbrev pub placeOf : Kind → ℕ
+placeOf Policy = 0
+placeOf Uattr = 1
+placeOf Oattr = 2
+placeOf Usen = 3
+placeOf Osen = 4
+placeOf User = 5
+placeOf Object = 6
+placeOf Rule = 7
+placeOf End = 8
+
+abbrev pub isKind : Kind → Kind → Bool
+isKind j k = eqb (placeOf j) (placeOf k)
+
+abbrev pub notBefore : Kind → Kind → Bool
+notBefore j k = leb (placeOf j) (placeOf k)
+
+-- "policy is followed by uattr; uattr by uattr or oattr; each of oattr to rule by itself or any later kind; end by nothing"
+unfoldable pub follows : Kind → Kind → Bool
+follows Policy k = isKind Uattr k
+follows Uattr k = isKind Uattr k || isKind Oattr k
+follows Oattr k = notBefore Oattr k
+follows Usen k = notBefore Usen k
+follows Osen k = notBefore Osen k
+follows User k = notBefore User k
+follows Object k = notBefore Object k
+follows Rule k = notBefore Rule k
+follows End k = false

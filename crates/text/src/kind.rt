@@ -1,0 +1,112 @@
+// The nine words that a line may start with, and which kind may follow which.
+ghost use mathlib.Core.Path.{_≡_};
+ghost use lib.Dec.{eqb};
+ghost use Rattle.basis.specs.Lists.{same};
+ghost use Rattle.text.specs.Kind.{named, placeOf, follows};
+
+pub enum Kind {
+    Policy,
+    Uattr,
+    Oattr,
+    Usen,
+    Osen,
+    User,
+    Object,
+    Rule,
+    End,
+}
+
+pub enum Named {
+    Is(Kind),
+    Unknown,
+}
+
+// Whether a and b are the same bytes.
+fn equal(a: &[u8], b: &[u8]) -> bool
+    ensures { λ r. ⌜ r ≡ same eqb (now (a .entry)) (now (b .entry)) ⌝ }
+{
+    if a.len() != b.len() {
+        return false;
+    }
+    let mut i = 0;
+    while i < a.len() {
+        if a[i] != b[i] {
+            return false;
+        }
+        i += 1;
+    }
+    true
+}
+
+// The kind that a first field names.
+pub fn parse(f: &[u8]) -> Named
+    ensures { λ r. ⌜ r ≡ named (now (f .entry)) ⌝ }
+{
+    if equal(f, b"policy") {
+        return Named::Is(Kind::Policy);
+    }
+    if equal(f, b"uattr") {
+        return Named::Is(Kind::Uattr);
+    }
+    if equal(f, b"oattr") {
+        return Named::Is(Kind::Oattr);
+    }
+    if equal(f, b"usen") {
+        return Named::Is(Kind::Usen);
+    }
+    if equal(f, b"osen") {
+        return Named::Is(Kind::Osen);
+    }
+    if equal(f, b"user") {
+        return Named::Is(Kind::User);
+    }
+    if equal(f, b"object") {
+        return Named::Is(Kind::Object);
+    }
+    if equal(f, b"rule") {
+        return Named::Is(Kind::Rule);
+    }
+    if equal(f, b"end") {
+        return Named::Is(Kind::End);
+    }
+    Named::Unknown
+}
+
+// A kind's place in the list of nine.
+fn place(k: Kind) -> usize
+    ensures { λ r. ⌜ r ≡ placeOf k ⌝ }
+{
+    match k {
+        Kind::Policy => 0,
+        Kind::Uattr => 1,
+        Kind::Oattr => 2,
+        Kind::Usen => 3,
+        Kind::Osen => 4,
+        Kind::User => 5,
+        Kind::Object => 6,
+        Kind::Rule => 7,
+        Kind::End => 8,
+    }
+}
+
+// Row by the kind before, column by the kind after.
+const FOLLOWS: [[bool; 9]; 9] = [
+    [false, true, false, false, false, false, false, false, false],
+    [false, true, true, false, false, false, false, false, false],
+    [false, false, true, true, true, true, true, true, true],
+    [false, false, false, true, true, true, true, true, true],
+    [false, false, false, false, true, true, true, true, true],
+    [false, false, false, false, false, true, true, true, true],
+    [false, false, false, false, false, false, true, true, true],
+    [false, false, false, false, false, false, false, true, true],
+    [false, false, false, false, false, false, false, false, false],
+];
+
+// Whether a line of kind k may follow one of kind j.
+pub fn may_follow(j: Kind, k: Kind) -> bool
+    ensures { λ r. ⌜ r ≡ follows j k ⌝ }
+{
+    let row = place(j);
+    let column = place(k);
+    FOLLOWS[row][column]
+}

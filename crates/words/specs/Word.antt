@@ -1,0 +1,70 @@
+-- "A word is a truth value, a holding, a comparison or a connective": its form in a text, both ways.
+use Prim.Native.Nat.{ℕ, _+_}
+use mathlib.Core.Bool.{Bool, true, false, cond, _&&_}
+use mathlib.Core.List.{List, [], _∷_}
+use lib.Dec.{eqb}
+use Rattle.basis.specs.Bytes.{byte}
+use Rattle.text.specs.Number.{isDigit, digitOf}
+use Rattle.words.specs.declared.Holding.{Holding}
+use Rattle.words.specs.declared.Holding.the-variants.{User, Object}
+use Rattle.words.specs.declared.Comparison.{Comparison}
+use Rattle.words.specs.declared.Comparison.the-variants.{Dominates, Equals}
+use Rattle.words.specs.declared.Word.{Word}
+use Rattle.words.specs.declared.Word.the-variants.{True, False, Holds, Compares, Not, And, Or}
+use Rattle.words.specs.declared.Parsed.{Parsed}
+use Rattle.words.specs.declared.Parsed.the-variants.{Is, Malformed}
+
+-- `t` `f` `n` `a` `r`
+abbrev pub letter : ℕ → Parsed
+letter c =
+    cond (eqb c (byte "t")) (Is True)
+    (cond (eqb c (byte "f")) (Is False)
+    (cond (eqb c (byte "n")) (Is Not)
+    (cond (eqb c (byte "a")) (Is And)
+    (cond (eqb c (byte "r")) (Is Or) Malformed))))
+
+-- `uV` `oV`
+abbrev pub holding : ℕ → ℕ → Parsed
+holding c v =
+    cond (isDigit v)
+    (cond (eqb c (byte "u")) (Is (Holds (User (digitOf v))))
+    (cond (eqb c (byte "o")) (Is (Holds (Object (digitOf v)))) Malformed))
+    Malformed
+
+-- `dIJ` `qIJ`
+abbrev pub comparison : ℕ → ℕ → ℕ → Parsed
+comparison c i j =
+    cond (isDigit i && isDigit j)
+    (cond (eqb c (byte "d")) (Is (Compares (Dominates (digitOf i) (digitOf j))))
+    (cond (eqb c (byte "q")) (Is (Compares (Equals (digitOf i) (digitOf j)))) Malformed))
+    Malformed
+
+-- the word that a field is
+abbrev pub parsed : List ℕ → Parsed
+parsed [] = Malformed
+parsed (c ∷ []) = letter c
+parsed (c ∷ v ∷ []) = holding c v
+parsed (c ∷ i ∷ j ∷ []) = comparison c i j
+parsed (c ∷ i ∷ j ∷ x ∷ xs) = Malformed
+
+-- a field in the form of a word
+abbrev pub isWord : Parsed → Bool
+isWord (Is w) = true
+isWord Malformed = false
+
+-- and the word, where it is one
+abbrev pub wordIn : Parsed → Word
+wordIn (Is w) = w
+wordIn Malformed = True
+
+-- a word as it is written
+abbrev pub written : Word → List ℕ
+written True = byte "t" ∷ []
+written False = byte "f" ∷ []
+written (Holds (User v)) = byte "u" ∷ (byte "0" + v) ∷ []
+written (Holds (Object v)) = byte "o" ∷ (byte "0" + v) ∷ []
+written (Compares (Dominates i j)) = byte "d" ∷ (byte "0" + i) ∷ (byte "0" + j) ∷ []
+written (Compares (Equals i j)) = byte "q" ∷ (byte "0" + i) ∷ (byte "0" + j) ∷ []
+written Not = byte "n" ∷ []
+written And = byte "a" ∷ []
+written Or = byte "r" ∷ []

@@ -1,0 +1,109 @@
+// The words of a formula.
+ghost use mathlib.Core.Path.{_≡_};
+ghost use Rattle.words.specs.Word as word;
+
+// A side and a value of it.
+pub enum Holding {
+    User(u8),
+    Object(u8),
+}
+
+// A user attribute and an object attribute: each place held in the second is held in the first, or the same places are.
+pub enum Comparison {
+    Dominates(u8, u8),
+    Equals(u8, u8),
+}
+
+pub enum Word {
+    True,
+    False,
+    Holds(Holding),
+    Compares(Comparison),
+    Not,
+    And,
+    Or,
+}
+
+pub enum Parsed {
+    Is(Word),
+    Malformed,
+}
+
+fn letter(c: u8) -> Parsed
+    ensures { λ r. ⌜ r ≡ word.letter c ⌝ }
+{
+    if c == b't' {
+        return Parsed::Is(Word::True);
+    }
+    if c == b'f' {
+        return Parsed::Is(Word::False);
+    }
+    if c == b'n' {
+        return Parsed::Is(Word::Not);
+    }
+    if c == b'a' {
+        return Parsed::Is(Word::And);
+    }
+    if c == b'r' {
+        return Parsed::Is(Word::Or);
+    }
+    Parsed::Malformed
+}
+
+fn holding(c: u8, v: u8) -> Parsed
+    ensures { λ r. ⌜ r ≡ word.holding c v ⌝ }
+{
+    if v < b'0' {
+        return Parsed::Malformed;
+    }
+    if b'9' < v {
+        return Parsed::Malformed;
+    }
+    if c == b'u' {
+        return Parsed::Is(Word::Holds(Holding::User(v - b'0')));
+    }
+    if c == b'o' {
+        return Parsed::Is(Word::Holds(Holding::Object(v - b'0')));
+    }
+    Parsed::Malformed
+}
+
+fn comparison(c: u8, i: u8, j: u8) -> Parsed
+    ensures { λ r. ⌜ r ≡ word.comparison c i j ⌝ }
+{
+    if i < b'0' {
+        return Parsed::Malformed;
+    }
+    if b'9' < i {
+        return Parsed::Malformed;
+    }
+    if j < b'0' {
+        return Parsed::Malformed;
+    }
+    if b'9' < j {
+        return Parsed::Malformed;
+    }
+    if c == b'd' {
+        return Parsed::Is(Word::Compares(Comparison::Dominates(i - b'0', j - b'0')));
+    }
+    if c == b'q' {
+        return Parsed::Is(Word::Compares(Comparison::Equals(i - b'0', j - b'0')));
+    }
+    Parsed::Malformed
+}
+
+// The word that a field is.
+pub fn parse(f: &[u8]) -> Parsed
+    ensures { λ r. ⌜ r ≡ word.parsed (now (f .entry)) ⌝ }
+{
+    if f.len() == 1 {
+        return letter(f[0]);
+    }
+    if f.len() == 2 {
+        return holding(f[0], f[1]);
+    }
+    if f.len() == 3 {
+        return comparison(f[0], f[1], f[2]);
+    }
+    Parsed::Malformed
+}
