@@ -14,6 +14,11 @@ abbrev pub there : {A : Type 0} → Option A → Bool
 there none = false
 there (some a) = true
 
+-- what a call gives, or the number of its refusal
+pub data Result (A : Type 0) : Type 0 where
+  gives : A → Result A
+  refuses : ℕ → Result A
+
 -- a refusal's number, and whether its condition is met
 pub record Check : Type 0 where
   pub number : ℕ
@@ -26,3 +31,7 @@ check n b = record { number = n; broken = b }
 unfoldable pub lowest : List Check → Option ℕ
 lowest [] = none
 lowest (c ∷ cs) = cond (c .broken) (some (c .number)) (lowest cs)
+
+-- what a call gives where no check is broken, and else the lowest refusal
+abbrev pub unlessRefused : {A : Type 0} → List Check → A → Result A
+unlessRefused cs a = given (lowest cs) (gives a) refuses

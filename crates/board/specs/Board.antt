@@ -1,0 +1,131 @@
+-- The board: what each of the five calls answers and leaves, whatever board, policy value and buffers it is handed.
+use Prim.Native.Nat.{ℕ, _+_, _*_}
+use mathlib.Core.Bool.{Bool, true, false, cond, not, _&&_, _||_}
+use mathlib.Core.List.{List, [], _∷_, _++_}
+use mathlib.Core.Option.{Option, none, some}
+use lib.Dec.{leb}
+use lib.ListN.{length, getD, set, replicate}
+use Rattle.basis.specs.Choice.{given, there, Check, check, lowest}
+use Rattle.basis.specs.Lists.{all}
+use Rattle.sets.specs.Set.{has, within}
+use Rattle.policy.specs.Policy.{Policy, setOfNumber}
+use Rattle.policy.specs.Value.{policyOf}
+use Rattle.policy.specs.Valid.{valid}
+use Rattle.policy.specs.Answers.{numberOf, Reply, done, granted, denied, refused, decided}
+use Rattle.policy.specs.declared.value.PolicyValue.{PolicyValue}
+use Rattle.labels.specs.Compile.{Buffers}
+use Rattle.board.specs.Machine.{Entry, Call, opens, adds, drops, closes, requests, sessionNumbers, sessionOf, reachOf, objectSet, checks, entry, entryAfter, heldIn, Out}
+use Rattle.board.specs.declared.Session.{Session}
+use Rattle.board.specs.declared.Board.{Board}
+use Rattle.board.specs.declared.Answer.{Answer}
+use Rattle.board.specs.declared.Answer.the-variants.{Done, Granted, Denied, Refused}
+use Rattle.board.specs.declared.Step.{Step}
+
+-- what the code's answer and step stand for
+abbrev pub replyOf : Answer → Reply
+replyOf Done = done
+replyOf Granted = granted
+replyOf Denied = denied
+replyOf (Refused r) = refused (numberOf r)
+
+abbrev pub outOf : Step → Out Board
+outOf r = record { reply = replyOf (r .answer); state = r .board }
+
+-- ---- the sessions that a board holds
+
+abbrev pub closed : Session
+closed = record { live = false; user = 0; held = 0 }
+
+abbrev pub entryOf : Session → Option Entry
+entryOf x = cond (x .live) (some (entry (x .user) (x .held))) none
+
+abbrev pub sessionFor : Option Entry → Session
+sessionFor none = closed
+sessionFor (some e) = record { live = true; user = e .user; held = e .held }
+
+unfoldable pub entryAt : Board → ℕ → Option Entry
+entryAt b s = entryOf (getD (b .sessions) s closed)
+
+unfoldable pub store : Board → ℕ → Option Entry → Board
+store b s e = record { sessions = set (b .sessions) s (sessionFor e) }
+
+-- "a fresh board for the text, which holds no session"
+unfoldable pub fresh : Board
+fresh = record { sessions = replicate sessionNumbers closed }
+
+-- ---- 11: "or a board holds a session whose user is not registered or whose set is out of reach"
+
+abbrev pub entryFits : Policy → Entry → Bool
+entryFits p e = there (setOfNumber (p .users) (e .user)) && within (e .held) (reachOf p (e .user))
+
+unfoldable pub boardFits : Policy → Board → Bool
+boardFits p b = all (λ x. given (entryOf x) true (entryFits p)) (b .sessions)
+
+unfoldable pub fits : PolicyValue → Board → Bool
+fits v b = valid v && boardFits (policyOf v) b
+
+-- ---- what a request reads: "one byte of each lent buffer"
+
+-- the lent buffers with NU and NO as handed in
+pub record Labels : Type 0 where
+  pub buffers : Buffers
+  pub nu : ℕ
+  pub no : ℕ
+
+-- "the held set's label ul, the object set's label ol, and the table byte at ul × NO + ol"
+abbrev pub userLabelAt : Labels → ℕ → ℕ
+userLabelAt l held = getD (l .buffers .users) held 0
+
+abbrev pub objectLabelAt : Labels → ℕ → ℕ
+objectLabelAt l object = getD (l .buffers .objects) object 0
+
+abbrev pub placeAt : Labels → ℕ → ℕ → ℕ
+placeAt l held object = userLabelAt l held * l .no + objectLabelAt l object
+
+-- 20: "any of the three places lies past its buffer's end"
+unfoldable pub pastEnd : Labels → ℕ → ℕ → Bool
+pastEnd l held object =
+    leb (length (l .buffers .users)) held
+    || (leb (length (l .buffers .objects)) object || leb (length (l .buffers .table)) (placeAt l held object))
+
+-- "It grants action a exactly when bit a there is set."
+unfoldable pub grantsByLabels : Labels → ℕ → ℕ → ℕ → Bool
+grantsByLabels l a held object = has (getD (l .buffers .table) (placeAt l held object) 0) a
+
+-- ---- the five calls
+
+-- only a request looks at the buffers
+unfoldable pub lookUp : Policy → Labels → Call → Option Entry → List Check
+lookUp p l (opens u s set) e = []
+lookUp p l (adds u s set) e = []
+lookUp p l (drops u s set) e = []
+lookUp p l (closes u s) e = []
+lookUp p l (requests s a n) e = check 20 (pastEnd l (heldIn e) (objectSet p n)) ∷ []
+
+unfoldable pub boardReply : Policy → Labels → Call → Option Entry → Reply
+boardReply p l (opens u s set) e = done
+boardReply p l (adds u s set) e = done
+boardReply p l (drops u s set) e = done
+boardReply p l (closes u s) e = done
+boardReply p l (requests s a n) e = decided (grantsByLabels l a (heldIn e) (objectSet p n))
+
+-- 11, then the machine's refusals, then 20
+unfoldable pub boardChecks : PolicyValue → Labels → Call → Board → List Check
+boardChecks v l c b =
+    check 11 (not (fits v b))
+    ∷ checks (policyOf v) c (entryAt b (sessionOf c))
+    ++ lookUp (policyOf v) l c (entryAt b (sessionOf c))
+
+-- a request leaves the board as it is; of the others only the session's entry changes, and of a refused call nothing does
+unfoldable pub boardAfter : Call → Board → Board
+boardAfter (opens u s set) b = store b s (entryAfter (opens u s set) (entryAt b s))
+boardAfter (adds u s set) b = store b s (entryAfter (adds u s set) (entryAt b s))
+boardAfter (drops u s set) b = store b s (entryAfter (drops u s set) (entryAt b s))
+boardAfter (closes u s) b = store b s (entryAfter (closes u s) (entryAt b s))
+boardAfter (requests s a n) b = b
+
+unfoldable pub boardStep : PolicyValue → Labels → Call → Board → Out Board
+boardStep v l c b =
+    given (lowest (boardChecks v l c b))
+    (record { reply = boardReply (policyOf v) l c (entryAt b (sessionOf c)); state = boardAfter c b })
+    (λ n. record { reply = refused n; state = b })

@@ -1,0 +1,143 @@
+-- The worked examples of document 01 ("One text through the lister", "Edges", "Plausible and false") as one table: what the definitions
+-- say, beside what the document says, both as text.
+use Prim.Native.Nat.{ℕ}
+use Prim.Native.String.{String}
+use mathlib.Core.Bool.{Bool}
+use mathlib.Core.List.{List, [], _∷_, _++_, map}
+use lib.Dec.{eqb}
+use lib.ListN.{length}
+use Rattle.basis.specs.Bytes.{byte, bytes}
+use Rattle.basis.specs.Lists.{all, same}
+use Rattle.text.specs.Number.{decimal}
+use Rattle.text.specs.Parts.{join, comma}
+use Rattle.policy.specs.Policy.{Policy}
+use Rattle.policy.specs.Read.{Outcome, Accepted, Refused, readText}
+use Rattle.policy.specs.Text.{textOf}
+use Rattle.policy.specs.Value.{valueOf}
+use Rattle.policy.specs.Answers.{Reply, done, granted, denied, refused}
+use Rattle.tuples.specs.Tuples.{tuples, decideByTuples}
+use Rattle.labels.specs.Compile.{NU, NO, userResult, objectResult, tableResult}
+use Rattle.board.specs.Machine.{Call, opens, adds, drops, requests, run, machine, policyIn}
+use Rattle.board.specs.Board.{Labels, boardStep, fresh}
+
+-- ---- what the definitions say, as text
+
+abbrev pub numbers : List ℕ → List ℕ
+numbers ns = join comma (map decimal ns)
+
+abbrev pub outcome : Outcome → List ℕ
+outcome (Accepted p) = bytes "accepted"
+outcome (Refused n l) = bytes "refused," ++ numbers (n ∷ l ∷ [])
+
+abbrev pub reply : Reply → List ℕ
+reply done = bytes "done"
+reply granted = bytes "granted"
+reply denied = bytes "denied"
+reply (refused n) = bytes "refused," ++ decimal n
+
+abbrev pub replies : List Reply → List ℕ
+replies rs = join (byte " ") (map reply rs)
+
+-- the plain machine's answers, and those of a board under the compiled labels
+abbrev pub byMachine : String → List Call → List ℕ
+byMachine text calls = replies (machine (bytes text) calls .replies)
+
+unfoldable pub compiledLabels : Policy → Labels
+compiledLabels p =
+    record {
+      buffers = record { users = userResult p; objects = objectResult p; table = tableResult p };
+      nu = NU p;
+      no = NO p;
+    }
+
+abbrev pub policyIs : String → Policy
+policyIs text = policyIn (readText (bytes text))
+
+abbrev pub onBoard : String → List Call → List ℕ
+onBoard text calls =
+    let p = policyIs text in
+    replies (run (boardStep (valueOf p) (compiledLabels p)) calls fresh .replies)
+
+-- ---- the table
+
+pub record Example : Type 0 where
+  pub found : List ℕ
+  pub expected : List ℕ
+
+abbrev pub example : List ℕ → String → Example
+example found expected = record { found = found; expected = bytes expected }
+
+abbrev pub reading : String → String → Example
+reading text expected = example (outcome (readText (bytes text))) expected
+
+-- "With this text"
+abbrev pub sample : String
+sample = "policy,1\nuattr,2\noattr,1\nusen,1,0\nuser,0,2\nobject,0,1\nrule,0,u0,o0,a\nrule,3,u1,n\nend\n"
+
+abbrev pub withoutRules : String
+withoutRules = "policy,1\nuattr,2\noattr,1\nusen,1,0\nuser,0,2\nobject,0,1\nend\n"
+
+-- starred: labels, table and tuples of the sample text, and of one with no rule lines
+abbrev pub compiledExamples : List Example
+compiledExamples =
+    let p = policyIs sample in
+    let q = policyIs withoutRules in
+    example (numbers (userResult p)) "0,1,2,2"
+    ∷ example (numbers (objectResult p)) "0,1"
+    ∷ example (numbers (tableResult p)) "8,8,8,9,0,1"
+    ∷ example (numbers (NU p ∷ NO p ∷ [])) "3,2"
+    ∷ example (numbers (tuples p 0)) "3,5,7"
+    ∷ example (numbers (tuples p 3)) "0,1,2,3"
+    ∷ example (numbers (NU q ∷ NO q ∷ [])) "1,1"
+    ∷ example (numbers (tableResult q)) "0"
+    ∷ []
+
+-- starred: "user 0 may open a session with set 1 (junior) and with 3; set 4 gets 19; in such a session a drop of 4 gets 19; in it a request
+-- for action 1 on object 0 is denied; for action 8 gets 12", once by the machine and once on the board
+abbrev pub day : List Call
+day = opens 0 0 1 ∷ opens 0 1 3 ∷ opens 0 2 4 ∷ drops 0 0 4 ∷ requests 0 1 0 ∷ requests 0 8 0 ∷ []
+
+abbrev pub sessionExamples : List Example
+sessionExamples =
+    example (byMachine sample day) "done done refused,19 refused,19 denied refused,12"
+    ∷ example (onBoard sample day) "done done refused,19 refused,19 denied refused,12"
+    ∷ []
+
+-- starred: "widths 3 and 4 read, 4 and 4 get 6"; then the other edges
+abbrev pub edgeExamples : List Example
+edgeExamples =
+    reading "policy,1\nuattr,3\nuattr,4\noattr,1\nend\n" "accepted"
+    ∷ reading "policy,1\nuattr,4\nuattr,4\noattr,1\nend\n" "refused,6,2"
+    ∷ reading "policy,1\nuattr,1\noattr,1\nuser,31,1\nend\n" "accepted"
+    ∷ reading "policy,1\nuattr,1\noattr,1\nuser,32,1\nend\n" "refused,6,3"
+    ∷ reading "policy,1\nuattr,1\noattr,1\nrule,0,t,t,a,t,a,t,a,t,a,t,a,t,a,t,a,t,a,t,a,t,a,t,a,t,a,t,a,t,a,t,a,n\nend\n" "accepted"
+    ∷ reading "policy,1\nuattr,1\noattr,1\nrule,0,t,t,a,t,a,t,a,t,a,t,a,t,a,t,a,t,a,t,a,t,a,t,a,t,a,t,a,t,a,t,a,n,n\nend\n" "refused,4,3"
+    ∷ reading "" "refused,10,0"
+    ∷ reading "policy,1\nuattr,1\noattr,1\nend\nend\n" "refused,3,4"
+    ∷ reading "policy,1\nuattr,1\noattr,1\nusen,0,0\nend\n" "refused,6,3"
+    ∷ reading "policy,1\nuattr,01\noattr,1\nend\n" "refused,5,1"
+    ∷ example (textOf (policyIs sample)) sample
+    ∷ []
+
+-- two object values, 1 senior to 0, and an object set that no object has
+abbrev pub seniorObjects : String
+seniorObjects = "policy,1\nuattr,1\noattr,2\nosen,1,0\nuser,0,1\nobject,0,0\nrule,0,o0\nrule,1,o1,u0,a\nend\n"
+
+-- "Plausible and false": the subset test, one direction of seniority for both sides, a drop that shrinks what may be added again, and
+-- telling apart by registered objects only
+abbrev pub falseExamples : List Example
+falseExamples =
+    let p = policyIs sample in
+    let q = policyIs seniorObjects in
+    example (reply (decideByTuples (valueOf p) 3 0 (tuples p 3) 4)) "denied"
+    ∷ example (numbers (tuples q 0)) "1,3,5,7"
+    ∷ example (numbers (tuples q 1)) "5,6,7"
+    ∷ example (byMachine sample (opens 0 0 3 ∷ drops 0 0 3 ∷ adds 0 0 3 ∷ [])) "done done done"
+    ∷ example (numbers (NU q ∷ NO q ∷ [])) "2,3"
+    ∷ []
+
+abbrev pub table : List Example
+table = compiledExamples ++ (sessionExamples ++ (edgeExamples ++ falseExamples))
+
+abbrev pub holds : Example → Bool
+holds e = same eqb (e .found) (e .expected)

@@ -1,0 +1,104 @@
+-- Compiling: "three byte buffers: 2^U user labels, 2^O object labels, and a table of NU × NO bytes".
+use Prim.Native.Nat.{ℕ, _+_, _*_, _/_, _%_}
+use mathlib.Core.Bool.{Bool, not, _||_}
+use mathlib.Core.List.{List, [], _∷_}
+use lib.Dec.{ltb}
+use lib.ListN.{length, getD}
+use Rattle.basis.specs.Choice.{given, Result, gives, refuses, Check, check, lowest, unlessRefused}
+use Rattle.basis.specs.Lists.{over}
+use Rattle.basis.specs.Numbers.{upTo}
+use Rattle.sets.specs.Set.{has, setOf}
+use Rattle.policy.specs.Limits.{actions}
+use Rattle.policy.specs.Policy.{Policy, sets}
+use Rattle.policy.specs.Value.{policyOf}
+use Rattle.policy.specs.Valid.{valid}
+use Rattle.policy.specs.Answers.{numberOf}
+use Rattle.policy.specs.declared.value.PolicyValue.{PolicyValue}
+use Rattle.formula.specs.Truth.{grants}
+use Rattle.labels.specs.Labels.{label, labelCount, leader}
+use Rattle.labels.specs.Labelling.{usersAlike, objectsAlike, Labelling}
+use Rattle.labels.specs.declared.Counts.{Counts}
+use Rattle.labels.specs.declared.Compiled.{Compiled}
+use Rattle.labels.specs.declared.Compiled.the-variants.{Stored, Refused}
+
+-- the sets of a policy's sides that no formula parts
+unfoldable pub likeUsers : Policy → ℕ → ℕ → Bool
+likeUsers p = usersAlike (grants p) (actions (p .form)) (sets (p .object))
+
+unfoldable pub likeObjects : Policy → ℕ → ℕ → Bool
+likeObjects p = objectsAlike (grants p) (actions (p .form)) (sets (p .user))
+
+-- the labels of a user set and of an object set
+abbrev pub userLabel : Policy → ℕ → ℕ
+userLabel p = label (likeUsers p)
+
+abbrev pub objectLabel : Policy → ℕ → ℕ
+objectLabel p = label (likeObjects p)
+
+-- "NU and NO are the numbers of labels used."
+unfoldable pub NU : Policy → ℕ
+NU p = labelCount (likeUsers p) (sets (p .user))
+
+unfoldable pub NO : Policy → ℕ
+NO p = labelCount (likeObjects p) (sets (p .object))
+
+-- the entry of two labels: "bit a (2^a) set exactly when action a is granted", at the lowest set of each label
+unfoldable pub entry : Policy → ℕ → ℕ → ℕ
+entry p ul ol =
+    setOf
+    (λ a. grants p a (leader (likeUsers p) (sets (p .user)) ul) (leader (likeObjects p) (sets (p .object)) ol))
+    (actions (p .form))
+
+-- the three results; "byte at ul × NO + ol"
+unfoldable pub userResult : Policy → List ℕ
+userResult p = upTo (userLabel p) (sets (p .user))
+
+unfoldable pub objectResult : Policy → List ℕ
+objectResult p = upTo (objectLabel p) (sets (p .object))
+
+unfoldable pub tableResult : Policy → List ℕ
+tableResult p = upTo (λ i. entry p (i / NO p) (i % NO p)) (NU p * NO p)
+
+-- "The compiled labelling is these labels with this table, read by its bits."
+unfoldable pub compiled : Policy → Labelling
+compiled p =
+    record {
+      user = λ u. getD (userResult p) u 0;
+      object = λ o. getD (objectResult p) o 0;
+      table = λ ul ol a. has (getD (tableResult p) (ul * NO p + ol) 0) a;
+    }
+
+-- the three lent buffers
+pub record Buffers : Type 0 where
+  pub users : List ℕ
+  pub objects : List ℕ
+  pub table : List ℕ
+
+-- 20: some buffer is shorter than its result
+abbrev pub tooShort : Policy → Buffers → Bool
+tooShort p b =
+    ltb (length (b .users)) (length (userResult p))
+    || (ltb (length (b .objects)) (length (objectResult p)) || ltb (length (b .table)) (length (tableResult p)))
+
+-- "It returns NU and NO (refusals 11, 20)."
+abbrev pub compileChecks : PolicyValue → Buffers → List Check
+compileChecks v b = check 11 (not (valid v)) ∷ check 20 (tooShort (policyOf v) b) ∷ []
+
+-- what the code's answer stands for
+abbrev pub stored : Compiled → Result Counts
+stored (Stored c) = gives c
+stored (Refused r) = refuses (numberOf r)
+
+unfoldable pub compile : PolicyValue → Buffers → Result Counts
+compile v b = unlessRefused (compileChecks v b) (record { users = NU (policyOf v); objects = NO (policyOf v) })
+
+-- the buffers afterwards: "what lies past a result in a longer buffer stays", and a refusal changes nothing
+unfoldable pub compileBuffers : PolicyValue → Buffers → Buffers
+compileBuffers v b =
+    given (lowest (compileChecks v b))
+    (record {
+      users = over (userResult (policyOf v)) (b .users);
+      objects = over (objectResult (policyOf v)) (b .objects);
+      table = over (tableResult (policyOf v)) (b .table);
+    })
+    (λ n. b)

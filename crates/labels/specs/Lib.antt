@@ -1,0 +1,4 @@
+pub mod Labels
+pub mod Labelling
+pub mod Compile
+pub mod Apart

@@ -1,0 +1,190 @@
+-- A line against the lines before it: refusals 6 to 9, and what the line adds.
+use Prim.Native.Nat.{ℕ, zero, suc, _+_, _-_}
+use mathlib.Core.Bool.{Bool, true, false, cond, _&&_, _||_}
+use mathlib.Core.List.{List, [], _∷_, _++_}
+use mathlib.Core.Option.{Option, none, some}
+use lib.Dec.{eqb, leb, ltb}
+use lib.ListN.{length}
+use Rattle.basis.specs.Choice.{given}
+use Rattle.basis.specs.Lists.{all, last}
+use Rattle.seniority.specs.Seniority.{direct}
+use Rattle.seniority.specs.declared.Direct.{Direct}
+use Rattle.text.specs.declared.kind.Kind.{Kind}
+use Rattle.text.specs.declared.kind.Kind.the-variants.{Policy as PolicyKind, Uattr, Oattr, Usen, Osen, User, Object, Rule as RuleKind, End}
+use Rattle.words.specs.declared.Word.{Word}
+use Rattle.words.specs.declared.Word.the-variants.{True, False, Holds, Compares, Not, And, Or}
+use Rattle.words.specs.declared.Holding.the-variants.{User as UserValue, Object as ObjectValue}
+use Rattle.words.specs.declared.Comparison.the-variants.{Dominates, Equals}
+use Rattle.policy.specs.Limits.{isForm, values, actions, userNumbers, objectNumbers}
+use Rattle.policy.specs.Policy.{Side, Rule, Policy, total, sets, width, attributeOf}
+use Rattle.policy.specs.Line.{Line}
+use Rattle.policy.specs.declared.value.Entry.{Entry}
+
+-- ---- 6: "A number, value, attribute or width is outside its range, or a usen or osen pair breaks its own condition."
+
+-- "Each W is 1 to 7; U, the sum of the W, is 1 to 7, and the line that passes 7 is at fault"
+unfoldable pub widthFits : ℕ → Side → ℕ → Bool
+widthFits most s w = leb 1 w && (leb w most && leb (total s + w) most)
+
+-- "user value V is directly senior to J; same attribute, V above J"
+unfoldable pub pairFits : Side → ℕ → ℕ → Bool
+pairFits s v j = ltb v (total s) && (ltb j (total s) && (eqb (attributeOf (s .widths) v) (attributeOf (s .widths) j) && ltb j v))
+
+-- "user N, 0 to 31, is assigned set S; S is below 2^U"
+unfoldable pub entryFits : ℕ → Side → ℕ → ℕ → Bool
+entryFits most s n set = ltb n most && ltb set (sets s)
+
+-- both attributes are there
+abbrev pub bothThere : Policy → ℕ → ℕ → Bool
+bothThere p i j = ltb i (length (p .user .widths)) && ltb j (length (p .object .widths))
+
+-- a word names a value, or attributes, that are there
+abbrev pub wordFits : Policy → Word → Bool
+wordFits p True = true
+wordFits p False = true
+wordFits p (Holds (UserValue v)) = ltb v (total (p .user))
+wordFits p (Holds (ObjectValue v)) = ltb v (total (p .object))
+wordFits p (Compares (Dominates i j)) = bothThere p i j
+wordFits p (Compares (Equals i j)) = bothThere p i j
+wordFits p Not = true
+wordFits p And = true
+wordFits p Or = true
+
+unfoldable pub inRange : Kind → Policy → ℕ → ℕ → List Word → Bool
+inRange PolicyKind p form m ws = isForm form
+inRange Uattr p w m ws = widthFits (values (p .form)) (p .user) w
+inRange Oattr p w m ws = widthFits (values (p .form)) (p .object) w
+inRange Usen p v j ws = pairFits (p .user) v j
+inRange Osen p v j ws = pairFits (p .object) v j
+inRange User p n s ws = entryFits userNumbers (p .user) n s
+inRange Object p n s ws = entryFits objectNumbers (p .object) n s
+inRange RuleKind p a m ws = ltb a (actions (p .form)) && all (wordFits p) ws
+inRange End p n m ws = true
+
+-- ---- 7: "The line does not rise above the last of its kind."
+
+-- "the pairs rise strictly (V first, then J)"
+abbrev pub pairAbove : ℕ → ℕ → Direct → Bool
+pairAbove v j l = ltb (l .senior) v || (eqb (l .senior) v && ltb (l .junior) j)
+
+unfoldable pub pairRises : Side → ℕ → ℕ → Bool
+pairRises s v j = given (last (s .lines)) true (pairAbove v j)
+
+-- "within user, object and rule the first number does"
+unfoldable pub entryRises : List Entry → ℕ → Bool
+entryRises es n = given (last es) true (λ e. ltb (e .number) n)
+
+unfoldable pub ruleRises : List Rule → ℕ → Bool
+ruleRises rs a = given (last rs) true (λ r. ltb (r .action) a)
+
+unfoldable pub rises : Kind → Policy → ℕ → ℕ → Bool
+rises PolicyKind p n m = true
+rises Uattr p n m = true
+rises Oattr p n m = true
+rises Usen p v j = pairRises (p .user) v j
+rises Osen p v j = pairRises (p .object) v j
+rises User p n m = entryRises (p .users) n
+rises Object p n m = entryRises (p .objects) n
+rises RuleKind p a m = ruleRises (p .rules) a
+rises End p n m = true
+
+-- ---- 8: "A comparison names attributes of unequal width."
+
+abbrev pub equalWidth : Policy → ℕ → ℕ → Bool
+equalWidth p i j = eqb (width (p .user) i) (width (p .object) j)
+
+abbrev pub widthsEqual : Policy → Word → Bool
+widthsEqual p True = true
+widthsEqual p False = true
+widthsEqual p (Holds h) = true
+widthsEqual p (Compares (Dominates i j)) = equalWidth p i j
+widthsEqual p (Compares (Equals i j)) = equalWidth p i j
+widthsEqual p Not = true
+widthsEqual p And = true
+widthsEqual p Or = true
+
+-- ---- 9: "A word finds too few truth values, or not exactly one remains."
+
+-- how many truth values a word takes off the stack; each word puts one on it
+abbrev pub takes : Word → ℕ
+takes True = 0
+takes False = 0
+takes (Holds h) = 0
+takes (Compares c) = 0
+takes Not = 1
+takes And = 2
+takes Or = 2
+
+-- with d truth values on the stack, each word finds enough and one remains at the end
+unfoldable pub balanced : ℕ → List Word → Bool
+balanced d [] = eqb d 1
+balanced d (w ∷ ws) = leb (takes w) d && balanced (d - takes w + 1) ws
+
+-- only a rule's words can break 9
+unfoldable pub balances : Kind → List Word → Bool
+balances PolicyKind ws = true
+balances Uattr ws = true
+balances Oattr ws = true
+balances Usen ws = true
+balances Osen ws = true
+balances User ws = true
+balances Object ws = true
+balances RuleKind ws = balanced 0 ws
+balances End ws = true
+
+-- ---- what an accepted line adds
+
+abbrev pub withWidth : ℕ → Side → Side
+withWidth w s = record { widths = s .widths ++ (w ∷ []); lines = s .lines }
+
+abbrev pub withLine : ℕ → ℕ → Side → Side
+withLine v j s = record { widths = s .widths; lines = s .lines ++ (direct v j ∷ []) }
+
+abbrev pub withEntry : ℕ → ℕ → List Entry → List Entry
+withEntry n s es = es ++ (record { number = n; set = s } ∷ [])
+
+abbrev pub withUser : Side → Policy → Policy
+withUser s p = record { form = p .form; user = s; object = p .object; users = p .users; objects = p .objects; rules = p .rules }
+
+abbrev pub withObject : Side → Policy → Policy
+withObject s p = record { form = p .form; user = p .user; object = s; users = p .users; objects = p .objects; rules = p .rules }
+
+abbrev pub withUsers : List Entry → Policy → Policy
+withUsers es p = record { form = p .form; user = p .user; object = p .object; users = es; objects = p .objects; rules = p .rules }
+
+abbrev pub withObjects : List Entry → Policy → Policy
+withObjects es p = record { form = p .form; user = p .user; object = p .object; users = p .users; objects = es; rules = p .rules }
+
+abbrev pub withRules : List Rule → Policy → Policy
+withRules rs p = record { form = p .form; user = p .user; object = p .object; users = p .users; objects = p .objects; rules = rs }
+
+abbrev pub withForm : ℕ → Policy → Policy
+withForm n p = record { form = n; user = p .user; object = p .object; users = p .users; objects = p .objects; rules = p .rules }
+
+unfoldable pub extended : Kind → ℕ → ℕ → List Word → Policy → Policy
+extended PolicyKind n m ws p = withForm n p
+extended Uattr w m ws p = withUser (withWidth w (p .user)) p
+extended Oattr w m ws p = withObject (withWidth w (p .object)) p
+extended Usen v j ws p = withUser (withLine v j (p .user)) p
+extended Osen v j ws p = withObject (withLine v j (p .object)) p
+extended User n s ws p = withUsers (withEntry n s (p .users)) p
+extended Object n s ws p = withObjects (withEntry n s (p .objects)) p
+extended RuleKind a m ws p = withRules (p .rules ++ (record { action = a; words = ws } ∷ [])) p
+extended End n m ws p = p
+
+-- ---- of a whole line
+
+abbrev pub lineInRange : Policy → Line → Bool
+lineInRange p l = inRange (l .kind) p (l .first) (l .second) (l .words)
+
+abbrev pub lineRises : Policy → Line → Bool
+lineRises p l = rises (l .kind) p (l .first) (l .second)
+
+abbrev pub lineWidthsEqual : Policy → Line → Bool
+lineWidthsEqual p l = all (widthsEqual p) (l .words)
+
+abbrev pub lineBalances : Line → Bool
+lineBalances l = balances (l .kind) (l .words)
+
+abbrev pub withLineOf : Line → Policy → Policy
+withLineOf l p = extended (l .kind) (l .first) (l .second) (l .words) p

@@ -1,0 +1,10 @@
+pub mod Limits
+pub mod Policy
+pub mod Line
+pub mod Checks
+pub mod Read
+pub mod Text
+pub mod Value
+pub mod Valid
+pub mod Write
+pub mod Answers

@@ -1,0 +1,98 @@
+-- The policy value: a policy's lists in arrays, each with its count and blank behind it.
+use Prim.Native.Nat.{ℕ}
+use mathlib.Core.List.{List, [], map}
+use lib.ListN.{length, take}
+use Rattle.basis.specs.Lists.{padded}
+use Rattle.seniority.specs.Seniority.{direct}
+use Rattle.seniority.specs.declared.Direct.{Direct}
+use Rattle.words.specs.declared.Word.{Word}
+use Rattle.words.specs.declared.Word.the-variants.{True}
+use Rattle.policy.specs.Policy.{Side, Rule, Policy}
+use Rattle.policy.specs.declared.value.Entry.{Entry}
+use Rattle.policy.specs.declared.value.Slot.{Slot}
+use Rattle.policy.specs.declared.value.SideValue.{SideValue}
+use Rattle.policy.specs.declared.value.Register.{Register}
+use Rattle.policy.specs.declared.value.RuleValue.{RuleValue}
+use Rattle.policy.specs.declared.value.Rules.{Rules}
+use Rattle.policy.specs.declared.value.PolicyValue.{PolicyValue}
+
+-- the places of each array
+abbrev pub widthPlaces : ℕ
+widthPlaces = 7
+
+abbrev pub linePlaces : ℕ
+linePlaces = 21
+
+abbrev pub entryPlaces : ℕ
+entryPlaces = 64
+
+abbrev pub wordPlaces : ℕ
+wordPlaces = 32
+
+abbrev pub rulePlaces : ℕ
+rulePlaces = 8
+
+abbrev pub slot : Word → Slot
+slot w = record { word = w }
+
+abbrev pub noEntry : Entry
+noEntry = record { number = 0; set = 0 }
+
+-- ---- from a policy to its value
+
+unfoldable pub sideValue : Side → SideValue
+sideValue s =
+    record {
+      attributes = length (s .widths);
+      widths = padded widthPlaces 0 (s .widths);
+      lines = length (s .lines);
+      seniority = padded linePlaces (direct 0 0) (s .lines);
+    }
+
+unfoldable pub register : List Entry → Register
+register es = record { count = length es; entries = padded entryPlaces noEntry es }
+
+unfoldable pub noRule : RuleValue
+noRule = record { action = 0; count = 0; words = padded wordPlaces (slot True) [] }
+
+unfoldable pub ruleValue : Rule → RuleValue
+ruleValue r = record { action = r .action; count = length (r .words); words = padded wordPlaces (slot True) (map slot (r .words)) }
+
+unfoldable pub rulesValue : List Rule → Rules
+rulesValue rs = record { count = length rs; entries = padded rulePlaces noRule (map ruleValue rs) }
+
+unfoldable pub valueOf : Policy → PolicyValue
+valueOf p =
+    record {
+      form = p .form;
+      user = sideValue (p .user);
+      object = sideValue (p .object);
+      users = register (p .users);
+      objects = register (p .objects);
+      rules = rulesValue (p .rules);
+    }
+
+-- ---- and back: the places before each count
+
+unfoldable pub sideOf : SideValue → Side
+sideOf s = record { widths = take (s .attributes) (s .widths); lines = take (s .lines) (s .seniority) }
+
+unfoldable pub entriesOf : Register → List Entry
+entriesOf r = take (r .count) (r .entries)
+
+unfoldable pub ruleOf : RuleValue → Rule
+ruleOf r = record { action = r .action; words = map (λ (x : Slot). x .word) (take (r .count) (r .words)) }
+
+unfoldable pub rulesOf : Rules → List Rule
+rulesOf r = map ruleOf (take (r .count) (r .entries))
+
+unfoldable pub policyOf : PolicyValue → Policy
+policyOf v =
+    record {
+      form = v .form;
+      user = sideOf (v .user);
+      object = sideOf (v .object);
+      users = entriesOf (v .users);
+      objects = entriesOf (v .objects);
+      rules = rulesOf (v .rules);
+    }

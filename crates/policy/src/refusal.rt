@@ -1,0 +1,23 @@
+// The refusals of document 01, in the order of their numbers.
+pub enum Refusal {
+    TextTooLong,
+    LineFeedMissing,
+    KindNotAllowed,
+    WrongFieldCount,
+    MalformedField,
+    OutOfRange,
+    NotRising,
+    UnequalWidths,
+    UnbalancedFormula,
+    EndMissing,
+    InvalidState,
+    UnknownAction,
+    UnknownSession,
+    UnregisteredUser,
+    UnregisteredObject,
+    SessionOpen,
+    SessionNotOpen,
+    SessionOfAnother,
+    SetOutOfReach,
+    BufferTooShort,
+}

@@ -1,0 +1,61 @@
+// The policy value: what the text says, line by line and in text order; every place past a count is blank.
+use seniority::Direct;
+use words::Word;
+
+// One side, users or objects: the widths of its attributes and its direct seniorities.
+pub struct SideValue {
+    pub attributes: usize,
+    pub widths: [u32; 7],
+    pub lines: usize,
+    pub seniority: [Direct; 21],
+}
+
+// A registered user or object: its number and its set.
+pub struct Entry {
+    pub number: u32,
+    pub set: u32,
+}
+
+// The registered users, or objects. There are at most 32 users.
+pub struct Register {
+    pub count: usize,
+    pub entries: [Entry; 64],
+}
+
+// A word in a struct of its own: an array of enums cannot be a field.
+pub struct Slot {
+    pub word: Word,
+}
+
+// A rule: its action and the words of its formula.
+pub struct RuleValue {
+    pub action: u32,
+    pub count: usize,
+    pub words: [Slot; 32],
+}
+
+pub struct Rules {
+    pub count: usize,
+    pub entries: [RuleValue; 8],
+}
+
+pub struct PolicyValue {
+    pub form: u32,
+    pub user: SideValue,
+    pub object: SideValue,
+    pub users: Register,
+    pub objects: Register,
+    pub rules: Rules,
+}
+
+// What reading a text finds: the refusal and its line, or that the text is accepted.
+pub enum Verdict {
+    Accepted,
+    Refused(crate::refusal::Refusal, usize),
+}
+
+// The answer of reading: beside a refusal stands the blank value, which check 11 refuses.
+pub struct Reading {
+    pub verdict: Verdict,
+    pub policy: PolicyValue,
+}
