@@ -9,10 +9,11 @@ use native.Mathlib.Decide.{decLt}
 use native.Mathlib.Numerals.{add-one}
 use lib.Dec.{eqb}
 use lib.ListN.{getD, length, take, drop}
+use lib.Seq.{length-take-le, drop-cons, getD-take}
 use borrow.Author.Tests.{eqb-true, eq-eqb}
 use Rattle.basis.specs.Lists.{any}
-use Rattle.basis.proofs.Bools.{and-left, and-right, and-both, or-cases, or-left, or-right, both-ways, never}
-use Rattle.basis.proofs.Lists.{any-at, any-of}
+use Rattle.basis.proofs.Bools.{and-left, and-right, and-both, or-cases, or-left, or-right, both-ways, never, fails}
+use Rattle.basis.proofs.Lists.{any-at, any-of, getD-in}
 use Rattle.sets.specs.Set.{has, union}
 use Rattle.sets.proofs.Laws.{has-union, has-one, has-none, has-setOf, has-setOf-none, same-set}
 use Rattle.seniority.specs.declared.Direct.{Direct}
@@ -30,6 +31,11 @@ pub ordered-line : (n : ℕ) (ls : List Direct) → Ordered n ls → (l : Direct
 ordered-line n [] o l m = absurd (List·Memᴰ·not-nil m)
 ordered-line n (p ∷ ls) o l (List·Memᴰ·head e) = rw e (o .0, o .1)
 ordered-line n (p ∷ ls) o l (List·Memᴰ·tail m) = ordered-line n ls (o .3) l m
+
+-- lines over m values are lines over more
+pub ordered-more : (m n : ℕ) → m ≤ n → (ls : List Direct) → Ordered m ls → Ordered n ls
+ordered-more m n h [] o = o
+ordered-more m n h (l ∷ ls) o = (o .0, omega (arith, o .1), o .2, ordered-more m n h ls (o .3))
 
 -- ---- the test is the chains
 
@@ -212,3 +218,90 @@ module _ (n : ℕ) where
       (λ u. let g = added s (p .junior) (p .senior) (rw (u .0) at (t .1)) in
       ⊎-elim (λ q. inl (rw q g)) (λ c. inr (p .senior, g, c)) (u .1))
       (split n p ls o (t .2)))
+
+-- ---- the tests of the definitions
+
+-- s holds v or some w with Q w, where a test decides Q and each such w stands at one end of some line
+module _ (ls : List Direct) (end : Direct → ℕ) (q : ℕ → Bool) (Q : ℕ → Type 0) (test : (w : ℕ) → (q w ≡ true) ↔ Q w)
+    (line : (w : ℕ) → Q w → (l : Direct) × List·Memᴰ l ls × (end l ≡ w)) where
+  held-iff : (s v : ℕ)
+      → ((has s v || any (λ l. has s (end l) && q (end l)) ls) ≡ true) ↔ ((has s v ≡ true) ⊎ ((w : ℕ) × (has s w ≡ true) × Q w))
+  held-iff s v = (
+    (λ e. ⊎-elim inl
+        (λ h. let t = any-at (λ l. has s (end l) && q (end l)) ls h in let w : ℕ = end (t .0) in
+        inr (w, and-left (has s w) (q w) (t .2), test w .0 (and-right (has s w) (q w) (t .2))))
+        (or-cases (has s v) _ e)),
+    ⊎-elim (or-left (has s v) _)
+        (λ t. let l = line (t .0) (t .2) in
+        or-right (has s v) _ (any-of _ ls (l .0) (l .1) (rw (l .2) (and-both (has s (t .0)) (q (t .0)) (t .1) (test (t .0) .1 (t .2)))))),
+  )
+
+module _ (n : ℕ) (ls : List Direct) (o : Ordered n ls) where
+  pub heldOrSenior-iff : (s v : ℕ) → (heldOrSenior ls s v ≡ true) ↔ Above ls s v
+  unfolding heldOrSenior
+  heldOrSenior-iff s v =
+      held-iff ls (λ l. l .senior) (λ w. senior ls w v) (λ w. Senior ls w v) (λ w. senior-iff ls (ordered-falls n ls o) w v)
+      (λ w t. let m = first-line t in (direct w (m .0), m .1, refl)) s v
+
+  pub heldOrJunior-iff : (s v : ℕ) → (heldOrJunior ls s v ≡ true) ↔ Below ls s v
+  unfolding heldOrJunior
+  heldOrJunior-iff s v =
+      held-iff ls (λ l. l .junior) (senior ls v) (Senior ls v) (senior-iff ls (ordered-falls n ls o) v)
+      (λ w t. let m = last-line t in (direct (m .0) w, m .1, refl)) s v
+
+  pub has-lowered : (s v : ℕ) → has (lowered ls s) v ≡ heldOrSenior ls s v
+  has-lowered s v =
+      both-ways (has (lowered ls s) v) (heldOrSenior ls s v)
+      (λ h. heldOrSenior-iff s v .1 (lowered-only ls s v h))
+      (λ h. lowered-all n ls o s v (heldOrSenior-iff s v .0 h))
+
+  pub has-raised : (s v : ℕ) → has (raised ls s) v ≡ heldOrJunior ls s v
+  has-raised s v =
+      both-ways (has (raised ls s) v) (heldOrJunior ls s v)
+      (λ h. heldOrJunior-iff s v .1 (raised-only ls s v h))
+      (λ h. raised-all n ls o s v (heldOrJunior-iff s v .0 h))
+
+  -- ---- a user's reach
+
+  module _ (s : ℕ) (h : s < 2 ^ n) where
+    pub heldOrSenior-none : (v : ℕ) → n ≤ v → heldOrSenior ls s v ≡ false
+    heldOrSenior-none v l =
+        fails (heldOrSenior ls s v)
+        (λ e. ⊎-elim (λ p. never (has s v) p (has-none n s v h l)) (λ t. let b = senior-bounds n ls o (t .2) in omega arith) (heldOrSenior-iff s v .0 e))
+
+    pub has-reach : (v : ℕ) → has (reach ls n s) v ≡ heldOrSenior ls s v
+    unfolding reach
+    has-reach v = elim (decLt v n) [
+      | yes l ↦ has-setOf (heldOrSenior ls s) n v l
+      | no l ↦ has-setOf-none (heldOrSenior ls s) n v (omega arith) ∙ sym (heldOrSenior-none v (omega arith))
+    ]
+
+    pub reach-is : (r : ℕ) → ((v : ℕ) → has r v ≡ heldOrSenior ls s v) → r ≡ reach ls n s
+    reach-is r e = same-set r (reach ls n s) (λ v. e v ∙ sym (has-reach v))
+
+-- ---- one line of an array further
+
+module _ (lines : List Direct) (n : ℕ) (fits : n ≤ length lines) where
+  -- the lines of the first n from line i on
+  lines-from : (i : ℕ) → i < n → drop i (take n lines) ≡ getD lines i (direct 0 0) ∷ drop (suc i) (take n lines)
+  lines-from i h =
+      let k : i < length (take n lines) = rw (length-take-le n lines fits) h in
+      drop-cons (take n lines) i (direct 0 0) k ∙ rw (getD-take n lines i (direct 0 0) h)
+
+  pub line-bounds : (b : ℕ) → Ordered b (take n lines) → (i : ℕ) → i < n
+      → (getD lines i (direct 0 0) .junior < getD lines i (direct 0 0) .senior) × (getD lines i (direct 0 0) .senior < b)
+  line-bounds b o i h =
+      let k : i < length (take n lines) = rw (length-take-le n lines fits) h in
+      rw (getD-take n lines i (direct 0 0) h)
+      at (ordered-line b (take n lines) o (getD (take n lines) i (direct 0 0)) (getD-in (take n lines) i (direct 0 0) k))
+
+  pub lower-line : (s r i : ℕ) → 0 < i → i ≤ n → r ≡ lowered (drop i (take n lines)) s
+      → extended r (getD lines (i - 1) (direct 0 0) .senior) (getD lines (i - 1) (direct 0 0) .junior) ≡ lowered (drop (i - 1) (take n lines)) s
+  unfolding lowered
+  lower-line s r zero p h e = absurd (omega arith)
+  lower-line s r (suc i) p h e = let q : suc i - 1 ≡ i = omega arith in rw (q, lines-from i h, e)
+
+  pub raise-line : (t r i : ℕ) → i < n → raised (drop i (take n lines)) r ≡ t
+      → raised (drop (i + 1) (take n lines)) (extended r (getD lines i (direct 0 0) .junior) (getD lines i (direct 0 0) .senior)) ≡ t
+  unfolding raised
+  raise-line t r i h e = rw (add-one i) (rw (lines-from i h) at e)

@@ -2,13 +2,13 @@
 use mathlib.Core.Path.{_≡_, refl, sym, ap, ap₂, _∙_}
 use mathlib.Core.Bool.{Bool, true, false, not, cond, _&&_, _||_, and-true, and-false, or-false}
 use mathlib.Core.Logic.{_↔_}
-use Prim.Native.Nat.{ℕ, zero, suc, _+_, _*_, _-_, _/_, _%_, _^_, _<_, _≤_, zero-le}
+use Prim.Native.Nat.{ℕ, zero, suc, _+_, _*_, _/_, _%_, _^_, _<_, _≤_, zero-le}
 use native.Mathlib.Nat.{mod-lt, mod-eq-of-lt, div-eq-of-lt, lt-of-lt-of-le, div-add-mod', div-one, pow-suc, mul-mod-left, mul-div-cancel, one-mul}
 use native.Mathlib.Numerals.{one-add, add-one}
 use native.Mathlib.Decide.{ℕ-discrete, decLt}
 use native.Mathlib.Omega.{arith}
 use lib.Arith.{lt-one}
-use lib.Bits.{bitOr, bitAnd, bitXor, or-shr, or-mod, and-shr, and-mod, xor-shr, xor-mod, or-shifted-r, or-zero-r, and-le-l, and-mask}
+use lib.Bits.{bitOr, bitAnd, bitXor, or-shr, or-mod, and-shr, and-mod, xor-shr, xor-mod, or-shifted-r, or-zero-r, and-mask}
 use lib.Dec.{eqb, ltb, lit<, eqb·suc-zero, eqb·zero-suc, eqb·suc-suc}
 use lib.Pow.{pow-mono, pow-pos, shr-shr, shr-lt}
 use borrow.Author.Tests.{eqb-true, eq-eqb, ne-eqb, lt-ltb, le-ltb}
@@ -81,9 +81,9 @@ has-one (suc n) (suc v) =
 
 digit-eq : (x y : ℕ) → x < 2 → y < 2 → eqb x 1 ≡ eqb y 1 → x ≡ y
 digit-eq zero zero h k e = refl
-digit-eq zero (suc zero) h k e = let z : _≡_ {A = ℕ} 0 1 = cc in z
+digit-eq zero (suc zero) h k e = cc
 digit-eq zero (suc (suc y)) h k e = omega arith
-digit-eq (suc zero) zero h k e = let z : _≡_ {A = ℕ} 1 0 = cc in z
+digit-eq (suc zero) zero h k e = cc
 digit-eq (suc zero) (suc zero) h k e = refl
 digit-eq (suc zero) (suc (suc y)) h k e = omega arith
 digit-eq (suc (suc x)) y h k e = omega arith

@@ -1,47 +1,58 @@
+-- `seniority::with_seniors` meets its contract: what the lines from i on make of r is what all of them make of s.
+use mathlib.Core.Path.{_≡_, refl}
+use Prim.Native.Nat.{_≤_, _-_}
+use native.Mathlib.Omega.{arith}
+use lib.ListN.{length, take, drop, drop-of-length-le}
+use lib.Seq.{length-take-le}
 use borrow.Author.Needs.{needs}
+use Rattle.basis.proofs.Lists.{long}
+use Rattle.seniority.specs.Seniority.{wordBits}
+use Rattle.seniority.proofs.Laws.{raised, has-raised, line-bounds, raise-line}
 use Rattle.seniority.proofs.with_seniors.Statement.{statement}
 use Rattle.seniority.proofs.with_seniors.Tie as tie
-use Rattle.seniority.proofs.with_seniors.Reads as reads
-use Rattle.seniority.proofs.with_seniors.Lts as lts
-use Rattle.seniority.proofs.extend.Reads as extend-reads
 
 abbrev Inv-loop : tie.InvT-loop
-Inv-loop n s lines r₀ i₀ r i = ?
+Inv-loop n s lines r₀ i₀ r i = (i ≤ n) × (n ≤ length lines) × (raised (drop i (take n lines)) r ≡ raised (take n lines) s)
 
 abbrev μ-loop : tie.MeasureT-loop
-μ-loop n s lines r₀ i₀ r i = ?
+μ-loop n s lines r₀ i₀ r i = n - i
 
--- src/lib.rt:44:5
 loop-holds : tie.Need-loop-holds Inv-loop μ-loop
-loop-holds c = search needs
+loop-holds c = let l : length (c .args .t1) ≡ 21 = search (needs, long) in (omega arith, omega arith, refl)
 
--- src/lib.rt:45:17
 mul-l : tie.Need-mul-l Inv-loop μ-loop
 mul-l c = search needs
 
--- src/lib.rt:45:17
 array-copy-out-l : tie.Need-array-copy-out-l Inv-loop μ-loop
 array-copy-out-l c = search needs
 
--- src/lib.rt:46:9
 extend-requires : tie.Need-extend-requires Inv-loop μ-loop
-extend-requires c κs = search needs
+extend-requires c κs =
+    let a = c .before .before .before .args in let l = c .before .before .loop in
+    let b = line-bounds (a .t1) (a .n) (l .inv .1) wordBits (c .before .before .before .pre .1) (l .i) (c .before .loop-test .taken) in
+    omega arith
 
--- src/lib.rt:47:9
 add-i : tie.Need-add-i Inv-loop μ-loop
 add-i c = search needs
 
--- src/lib.rt:44:5
 loop-less : tie.Need-loop-less Inv-loop μ-loop
 loop-less c = search needs
 
--- src/lib.rt:44:5
 loop-again : tie.Need-loop-again Inv-loop μ-loop
-loop-again c = search needs
+loop-again c =
+    let a = c .before .before .before .before .args in let l = c .before .before .before .loop in (
+      omega arith,
+      l .inv .1,
+      rw (c .extend .ensures) (raise-line (a .t1) (a .n) (l .inv .1) (raised (take (a .n) (a .t1)) (a .s)) (l .r) (l .i) (omega arith) (l .inv .2)),
+    )
 
--- src/lib.rt:38:1
 returns : tie.Need-returns Inv-loop μ-loop
-returns c = search needs
+unfolding raised
+returns c v =
+    let a = c .before .before .args in let l = c .before .loop in
+    let k : length (take (a .n) (a .t1)) ≤ l .i = omega (arith, length-take-le (a .n) (a .t1) (l .inv .1)) in
+    let e : l .r ≡ raised (take (a .n) (a .t1)) (a .s) = rw (drop-of-length-le (take (a .n) (a .t1)) k) at (l .inv .2) in
+    rw e (has-raised wordBits (take (a .n) (a .t1)) (c .before .before .pre .1) (a .s) v)
 
 pub with-seniors-spec : {M : Type 1} → statement M
 with-seniors-spec =
