@@ -1,6 +1,6 @@
 -- Seniority. "Senior means a chain of one or more direct lines; junior is the converse."
 use Prim.Native.Nat.{ℕ, zero, suc, _^_, _≤_, _<_}
-use mathlib.Core.Bool.{Bool, true, false, cond, _&&_, _||_}
+use mathlib.Core.Bool.{Bool, false, cond, _&&_, _||_}
 use mathlib.Core.List.{List, [], _∷_, List·Memᴰ}
 use lib.Dec.{eqb}
 use Rattle.basis.specs.Lists.{any}
