@@ -1,50 +1,66 @@
+-- `text::kind::equal` meets its contract: the lists are the same where what is left of them from i is.
+use Prim.Native.Nat.{ℕ, _+_, _-_, _≤_, _<_}
+use mathlib.Core.Path.{_≡_, refl, sym, _∙_}
+use mathlib.Core.Bool.{Bool, true, false}
+use mathlib.Core.List.{List}
+use native.Mathlib.Omega.{arith}
 use borrow.Author.Needs.{needs}
+use borrow.Author.Tests.{eq-eqb, ne-eqb}
+use lib.Dec.{eqb}
+use lib.ListN.{length, getD, drop, drop-of-length-le}
+use Rattle.basis.specs.Lists.{same}
+use Rattle.basis.proofs.Same.{same-length, same-next}
 use Rattle.text.proofs.kind.equal.Statement.{statement}
 use Rattle.text.proofs.kind.equal.Tie as tie
 use Rattle.text.proofs.kind.equal.Reads as reads
 use Rattle.text.proofs.kind.equal.Lts as lts
 
 abbrev Inv-loop : tie.InvT-loop
-Inv-loop a b i₀ i = ?
+Inv-loop a b i₀ i = (i ≤ length a) × (length a ≡ length b) × (same eqb a b ≡ same eqb (drop i a) (drop i b))
 
 abbrev μ-loop : tie.MeasureT-loop
-μ-loop a b i₀ i = ?
+μ-loop a b i₀ i = length a - i
 
--- src/kind.rt:29:9
+-- the answer from i on, which is r: one byte that is the same, one that is not, and the end
+module _ (a b : List ℕ) (i : ℕ) (r : Bool) (l : length a ≡ length b) (is : r ≡ same eqb (drop i a) (drop i b)) where
+  like : i < length a → getD a i 0 ≡ getD b i 0 → r ≡ same eqb (drop (i + 1) a) (drop (i + 1) b)
+  like h e = is ∙ rw (same-next eqb 0 a b i h (omega arith), eq-eqb (getD a i 0) (getD b i 0) e)
+
+  unlike : i < length a → (getD a i 0 ≡ getD b i 0 → ⊥) → false ≡ r
+  unlike h e = sym (is ∙ rw (same-next eqb 0 a b i h (omega arith), ne-eqb (getD a i 0) (getD b i 0) e))
+
+  over : length a ≤ i → true ≡ r
+  unfolding same
+  over h =
+      let g : length b ≤ i = omega arith in
+      sym (is ∙ rw (drop-of-length-le a h, drop-of-length-le b g))
+
 returns : tie.Need-returns Inv-loop μ-loop
-returns c = search needs
+returns c = search (same-length, sym)
 
--- src/kind.rt:32:5
 loop-holds : tie.Need-loop-holds Inv-loop μ-loop
-loop-holds c = search needs
+loop-holds c = (search needs, search needs, refl)
 
--- src/kind.rt:33:12
 shared-slice-read-if2 : tie.Need-shared-slice-read-if2 Inv-loop μ-loop
 shared-slice-read-if2 c = search needs
 
--- src/kind.rt:33:20
 shared-slice-read-if2-2 : tie.Need-shared-slice-read-if2-2 Inv-loop μ-loop
 shared-slice-read-if2-2 c = search needs
 
--- src/kind.rt:34:13
 returns-2 : tie.Need-returns-2 Inv-loop μ-loop
-returns-2 c = search needs
+returns-2 c = search unlike
 
--- src/kind.rt:36:9
 add-i : tie.Need-add-i Inv-loop μ-loop
 add-i c = search needs
 
--- src/kind.rt:32:5
 loop-less : tie.Need-loop-less Inv-loop μ-loop
 loop-less c = search needs
 
--- src/kind.rt:32:5
 loop-again : tie.Need-loop-again Inv-loop μ-loop
-loop-again c = search needs
+loop-again c = (omega arith, search needs, search like)
 
--- src/kind.rt:25:1
 returns-3 : tie.Need-returns-3 Inv-loop μ-loop
-returns-3 c = search needs
+returns-3 c = search over
 
 pub equal-spec : {M : Type 1} → statement M
 equal-spec =
