@@ -1,7 +1,7 @@
 -- `same` compares two lists place by place; it and `agree` pass only for equal things.
 use Prim.Native.Nat.{ℕ, suc, _+_, _<_}
 use mathlib.Core.Path.{_≡_, refl, ap}
-use mathlib.Core.Bool.{Bool, true, false, _&&_, true≢false, false≢true}
+use mathlib.Core.Bool.{Bool, true, false, _&&_, and-false, false≢true}
 use mathlib.Core.List.{List, [], _∷_}
 use native.Mathlib.Numerals.{add-one}
 use lib.ListN.{length, getD, drop}
@@ -15,10 +15,6 @@ agree-eq true true e = refl
 agree-eq true false e = absurd (false≢true e)
 agree-eq false true e = absurd (false≢true e)
 agree-eq false false e = refl
-
-and-false : (b : Bool) → (b && false) ≡ false
-and-false true = refl
-and-false false = refl
 
 module _ {A : Type 0} (e : A → A → Bool) where
   pub same-length : (a b : List A) → (length a ≡ length b → ⊥) → same e a b ≡ false
