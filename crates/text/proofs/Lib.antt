@@ -1,2 +1,3 @@
 pub mod Naming
+pub mod RoundTrip
 pub mod Split
