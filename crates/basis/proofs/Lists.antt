@@ -1,0 +1,31 @@
+-- `all` and `any` pass exactly where their test does at each element, or at some: by induction on the list.
+use mathlib.Core.Path.{_≡_, refl}
+use mathlib.Core.Bool.{Bool, true, false≢true}
+use mathlib.Core.Logic.{⊎-elim}
+use mathlib.Core.List.{List, [], _∷_, List·Memᴰ, List·Memᴰ·head, List·Memᴰ·tail, List·Memᴰ·not-nil}
+use Rattle.basis.specs.Lists.{all, any}
+use Rattle.basis.proofs.Bools.{and-left, and-right, and-both, or-cases, or-left, or-right}
+
+module _ {A : Type 0} (f : A → Bool) where
+  pub all-at : (xs : List A) → all f xs ≡ true → (x : A) → List·Memᴰ x xs → f x ≡ true
+  unfolding all
+  all-at [] e x m = absurd (List·Memᴰ·not-nil m)
+  all-at (y ∷ xs) e x (List·Memᴰ·head p) = rw p (and-left (f y) (all f xs) e)
+  all-at (y ∷ xs) e x (List·Memᴰ·tail m) = all-at xs (and-right (f y) (all f xs) e) x m
+
+  pub all-of : (xs : List A) → ((x : A) → List·Memᴰ x xs → f x ≡ true) → all f xs ≡ true
+  unfolding all
+  all-of [] h = refl
+  all-of (x ∷ xs) h = and-both (f x) (all f xs) (h x (List·Memᴰ·head refl)) (all-of xs (λ y m. h y (List·Memᴰ·tail m)))
+
+  pub any-at : (xs : List A) → any f xs ≡ true → (x : A) × List·Memᴰ x xs × (f x ≡ true)
+  unfolding any
+  any-at [] e = absurd (false≢true e)
+  any-at (x ∷ xs) e =
+      ⊎-elim (λ p. (x, List·Memᴰ·head refl, p)) (λ p. let t = any-at xs p in (t .0, List·Memᴰ·tail (t .1), t .2)) (or-cases (f x) (any f xs) e)
+
+  pub any-of : (xs : List A) (x : A) → List·Memᴰ x xs → f x ≡ true → any f xs ≡ true
+  unfolding any
+  any-of [] x m e = absurd (List·Memᴰ·not-nil m)
+  any-of (y ∷ xs) x (List·Memᴰ·head p) e = or-left (f y) (any f xs) (rw p at e)
+  any-of (y ∷ xs) x (List·Memᴰ·tail m) e = or-right (f y) (any f xs) (any-of xs x m e)
