@@ -6,6 +6,7 @@ use Prim.Native.Nat.{ℕ, _<_}
 use lib.Dec.{eqb, lit<}
 use lib.ListN.{getD}
 use Rattle.basis.specs.Lists.{same}
+use Rattle.basis.proofs.Table.{everyEntry, at}
 use Rattle.text.specs.Kind.{wordOf, kinds, namedIn, placeOf}
 use Rattle.text.specs.declared.kind.Kind.{Kind}
 use Rattle.text.specs.declared.kind.Kind.the-variants.{Policy, Uattr, Oattr, Usen, Osen, User, Object, Rule, End}
@@ -52,3 +53,7 @@ kind-at User = refl
 kind-at Object = refl
 kind-at Rule = refl
 kind-at End = refl
+
+-- a test of kinds that passes at each of the nine
+pub each-kind : (f : Kind → Bool) → everyEntry (λ _ k. f k) 0 kinds ≡ true → (k : Kind) → f k ≡ true
+each-kind f e k = rw (kind-at k) at (at (λ _ j. f j) End kinds e (placeOf k) (place-lt k))

@@ -1,21 +1,31 @@
 -- A number, fields, lines and a kind word are read back from what they are written as, and are written as what they were read from.
 use Prim.Native.Nat.{ℕ, zero, suc, _+_, _*_, _-_, _/_, _%_, _^_, _≤_, _<_}
-use mathlib.Core.Path.{_≡_, refl, sym, ap, _∙_}
-use mathlib.Core.Bool.{Bool, true, false, not, _&&_, _||_, or-true}
+use mathlib.Core.Path.{_≡_, refl, ap, _∙_, subst}
+use mathlib.Core.Bool.{Bool, true, false, cond, not, _&&_, _||_, or-true, false≢true}
 use mathlib.Core.Logic.{_⊎_, inl, inr, ⊎-elim}
-use mathlib.Core.List.{List, [], _∷_, _++_, append-nil}
+use mathlib.Core.List.{List, [], _∷_, _++_, map, append-nil}
 use native.Mathlib.Nat.{pow-suc, pow-le-pow-right, zero-lt-suc}
 use native.Mathlib.Decide.{decLt}
 use native.Mathlib.Omega.{arith}
-use borrow.Author.Tests.{lt-ltb, le-ltb, le-leb, ne-eqb, leb-true, eqb-true, eqb-false, not-true}
+use borrow.Author.Tests.{lt-ltb, le-ltb, le-leb, eq-eqb, ne-eqb, leb-true, eqb-true, eqb-false, not-true}
 use lib.Dec.{leb, eqb, lit<}
 use lib.ListN.{length, getD}
 use Rattle.basis.specs.Bytes.{byte}
-use Rattle.basis.specs.Lists.{all}
-use Rattle.basis.proofs.Bools.{and-left, and-right, or-cases}
+use Rattle.basis.specs.Lists.{all, same}
+use Rattle.basis.proofs.Bools.{and-left, and-right, or-cases, never}
+use Rattle.basis.proofs.Lists.{all-at, all-of}
+use Rattle.basis.proofs.Same.{same-eq}
 use Rattle.text.specs.Number.{mostDigits, isDigit, digitOf, valueFrom, valueOf, isNumber, numeral, digitsBefore, decimal}
+use Rattle.text.specs.Parts.{lineFeed, comma, onto, split, join, Line, linesOf, lines, textOf}
+use Rattle.text.specs.Kind.{wordOf, kinds, namedIn, named}
 use Rattle.text.specs.declared.number.Numeral.{Numeral}
 use Rattle.text.specs.declared.number.Numeral.the-variants.{Value, Malformed}
+use Rattle.text.specs.declared.kind.Kind.{Kind}
+use Rattle.text.specs.declared.kind.Kind.the-variants.{Policy, Uattr, Oattr, Usen, Osen, User, Object, Rule, End}
+use Rattle.text.specs.declared.kind.Named.{Named}
+use Rattle.text.specs.declared.kind.Named.the-variants.{Is, Unknown}
+use Rattle.text.proofs.Split.{split-pos}
+use Rattle.text.proofs.Naming.{each-kind}
 
 -- ---- numbers
 
@@ -203,3 +213,141 @@ value-small f e =
     let l : 0 + length f ≤ mostDigits = omega (arith, n .most) in
     let p : 10 ^ (0 + length f) ≤ 10 ^ mostDigits = pow-le-pow-right (zero-lt-suc 9) l in
     omega (arith, value-lt 0 0 f (n .digits) (lit< tt))
+
+said : (b : Bool) (v n : ℕ) → cond b (Value v) Malformed ≡ Value n → (b ≡ true) × (v ≡ n)
+said true v n e = (refl, cc)
+said false v n e = let z : _≡_ {A = ℕ} 0 1 = cc in absurd (omega arith)
+
+pub numeral-value : (f : List ℕ) (n : ℕ) → numeral f ≡ Value n → (isNumber f ≡ true) × (valueOf f ≡ n)
+unfolding numeral
+numeral-value f n e = said (isNumber f) (valueOf f) n e
+
+-- ---- parts
+
+-- a byte does not stand in a list
+abbrev pub lacks : ℕ → List ℕ → Bool
+lacks b xs = all (λ x. not (eqb x b)) xs
+
+not-here : (x b : ℕ) (xs : List ℕ) → lacks b (x ∷ xs) ≡ true → eqb x b ≡ false
+unfolding all
+not-here x b xs h = not-true (eqb x b) (and-left (not (eqb x b)) (lacks b xs) h)
+
+not-after : (x b : ℕ) (xs : List ℕ) → lacks b (x ∷ xs) ≡ true → lacks b xs ≡ true
+unfolding all
+not-after x b xs h = and-right (not (eqb x b)) (lacks b xs) h
+
+-- digits hold no byte that is no digit
+digit-not : (b x : ℕ) → isDigit b ≡ false → isDigit x ≡ true → not (eqb x b) ≡ true
+digit-not b x n e = rw (ne-eqb x b (λ q. never (isDigit b) (rw q at e) n))
+
+pub digits-lack : (b : ℕ) (xs : List ℕ) → isDigit b ≡ false → all isDigit xs ≡ true → lacks b xs ≡ true
+digits-lack b xs n e = all-of (λ x. not (eqb x b)) xs (λ x m. digit-not b x n (all-at isDigit xs e x m))
+
+pub decimal-lacks-comma : (n : ℕ) → lacks comma (decimal n) ≡ true
+decimal-lacks-comma n = digits-lack comma (decimal n) refl (decimal-digits n)
+
+pub decimal-lacks-feed : (n : ℕ) → lacks lineFeed (decimal n) ≡ true
+decimal-lacks-feed n = digits-lack lineFeed (decimal n) refl (decimal-digits n)
+
+-- a part that holds no separator, with one after it, and alone
+pub split-part : (b : ℕ) (p r : List ℕ) → lacks b p ≡ true → split b (p ++ b ∷ r) ≡ p ∷ split b r
+unfolding split
+split-part b [] r h = rw (eq-eqb b b refl)
+split-part b (x ∷ p) r h = rw (not-here x b p h, split-part b p r (not-after x b p h))
+
+pub split-free : (b : ℕ) (p : List ℕ) → lacks b p ≡ true → split b p ≡ p ∷ []
+unfolding split
+split-free b [] h = refl
+split-free b (x ∷ p) h = rw (not-here x b p h, split-free b p (not-after x b p h))
+
+-- parting undoes joining
+pub split-join : (b : ℕ) (ps : List (List ℕ)) → 0 < length ps → all (lacks b) ps ≡ true → split b (join b ps) ≡ ps
+unfolding join all
+split-join b [] l h = absurd (omega arith)
+split-join b (p ∷ []) l h = split-free b p (and-left (lacks b p) true h)
+split-join b (p ∷ q ∷ ps) l h =
+    rw (split-part b p (join b (q ∷ ps)) (and-left (lacks b p) (all (lacks b) (q ∷ ps)) h), split-join b (q ∷ ps) (omega arith) (and-right (lacks b p) (all (lacks b) (q ∷ ps)) h))
+
+-- joining undoes parting
+join-onto : (t : Bool) (b x : ℕ) (ps : List (List ℕ)) → eqb x b ≡ t → 0 < length ps → join b (onto t x ps) ≡ x ∷ join b ps
+unfolding join
+join-onto t b x [] e h = absurd (omega arith)
+join-onto true b x (p ∷ ps) e h = rw (eqb-true x b e)
+join-onto false b x (p ∷ []) e h = refl
+join-onto false b x (p ∷ q ∷ ps) e h = refl
+
+pub join-split : (b : ℕ) (t : List ℕ) → join b (split b t) ≡ t
+unfolding join split
+join-split b [] = refl
+join-split b (x ∷ t) = join-onto (eqb x b) b x (split b t) refl (split-pos b t) ∙ rw (join-split b t)
+
+-- ---- lines
+
+abbrev pub endedLine : List ℕ → Line
+endedLine l = record { bytes = l; ended = true }
+
+lines-cons : (p : List ℕ) (ps : List (List ℕ)) → 0 < length ps → linesOf (p ∷ ps) ≡ endedLine p ∷ linesOf ps
+unfolding linesOf
+lines-cons p [] h = absurd (omega arith)
+lines-cons [] (q ∷ ps) h = refl
+lines-cons (x ∷ p) (q ∷ ps) h = refl
+
+-- one line more
+pub lines-next : (l t : List ℕ) → lacks lineFeed l ≡ true → lines (l ++ lineFeed ∷ t) ≡ endedLine l ∷ lines t
+lines-next l t h = rw (split-part lineFeed l t h) (lines-cons l (split lineFeed t) (split-pos lineFeed t))
+
+pub lines-text : (ls : List (List ℕ)) → all (lacks lineFeed) ls ≡ true → lines (textOf ls) ≡ map endedLine ls
+unfolding textOf all split linesOf
+lines-text [] h = refl
+lines-text (l ∷ ls) h =
+    lines-next l (textOf ls) (and-left (lacks lineFeed l) (all (lacks lineFeed) ls) h)
+    ∙ rw (lines-text ls (and-right (lacks lineFeed l) (all (lacks lineFeed) ls) h))
+
+text-join : (ps : List (List ℕ)) → 0 < length ps → all (λ l. l .ended) (linesOf ps) ≡ true → textOf (map (λ l. l .bytes) (linesOf ps)) ≡ join lineFeed ps
+unfolding textOf join all linesOf
+text-join [] l h = absurd (omega arith)
+text-join ([] ∷ []) l h = refl
+text-join ((x ∷ p) ∷ []) l h = absurd (false≢true h)
+text-join (p ∷ q ∷ ps) l h = rw (text-join (q ∷ ps) (omega arith) h)
+
+-- a text of ended lines is its lines, each ended
+pub text-lines : (t : List ℕ) → all (λ l. l .ended) (lines t) ≡ true → textOf (map (λ l. l .bytes) (lines t)) ≡ t
+text-lines t h = text-join (split lineFeed t) (split-pos lineFeed t) h ∙ join-split lineFeed t
+
+-- ---- kind words
+
+pub named-word : (k : Kind) → named (wordOf k) ≡ Is k
+unfolding namedIn same
+named-word Policy = refl
+named-word Uattr = refl
+named-word Oattr = refl
+named-word Usen = refl
+named-word Osen = refl
+named-word User = refl
+named-word Object = refl
+named-word Rule = refl
+named-word End = refl
+
+is-first : (b : Bool) (j k : Kind) (x : Named) → cond b (Is j) x ≡ Is k → ((b ≡ true) × (j ≡ k)) ⊎ (x ≡ Is k)
+is-first true j k x e = inl (refl, cc)
+is-first false j k x e = inr e
+
+word-in : (f : List ℕ) (ks : List Kind) (k : Kind) → namedIn ks f ≡ Is k → same eqb f (wordOf k) ≡ true
+unfolding namedIn
+word-in f [] k e = let z : _≡_ {A = ℕ} 0 1 = cc in absurd (omega arith)
+word-in f (j ∷ ks) k e =
+    ⊎-elim (λ p. subst (λ (i : Kind). same eqb f (wordOf i) ≡ true) (p .1) (p .0)) (λ q. word-in f ks k q) (is-first (same eqb f (wordOf j)) j k (namedIn ks f) e)
+
+pub word-named : (f : List ℕ) (k : Kind) → named f ≡ Is k → f ≡ wordOf k
+word-named f k e = same-eq eqb eqb-true f (wordOf k) (word-in f kinds k e)
+
+pub word-lacks-comma : (k : Kind) → lacks comma (wordOf k) ≡ true
+unfolding all
+word-lacks-comma k = each-kind (λ j. lacks comma (wordOf j)) refl k
+
+pub word-lacks-feed : (k : Kind) → lacks lineFeed (wordOf k) ≡ true
+unfolding all
+word-lacks-feed k = each-kind (λ j. lacks lineFeed (wordOf j)) refl k
+
+pub word-short : (k : Kind) → length (wordOf k) ≤ 6
+word-short k = leb-true (length (wordOf k)) 6 (each-kind (λ j. leb (length (wordOf j)) 6) refl k)
