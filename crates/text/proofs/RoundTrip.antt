@@ -18,12 +18,11 @@ use Rattle.basis.proofs.Same.{same-eq}
 use Rattle.text.specs.Number.{mostDigits, isDigit, digitOf, valueFrom, valueOf, isNumber, numeral, digitsBefore, decimal}
 use Rattle.text.specs.Parts.{lineFeed, comma, onto, split, join, Line, linesOf, lines, textOf}
 use Rattle.text.specs.Kind.{wordOf, kinds, namedIn, named}
-use Rattle.text.specs.declared.number.Numeral.{Numeral}
 use Rattle.text.specs.declared.number.Numeral.the-variants.{Value, Malformed}
 use Rattle.text.specs.declared.kind.Kind.{Kind}
 use Rattle.text.specs.declared.kind.Kind.the-variants.{Policy, Uattr, Oattr, Usen, Osen, User, Object, Rule, End}
 use Rattle.text.specs.declared.kind.Named.{Named}
-use Rattle.text.specs.declared.kind.Named.the-variants.{Is, Unknown}
+use Rattle.text.specs.declared.kind.Named.the-variants.{Is}
 use Rattle.text.proofs.Split.{split-pos}
 use Rattle.text.proofs.Naming.{each-kind}
 
@@ -37,7 +36,8 @@ more-digits : (k n : ℕ) (ds : List ℕ) → 10 ≤ n → digitsBefore (suc k) 
 unfolding digitsBefore
 more-digits k n ds h = rw (le-ltb n 10 h)
 
-digit-is : (d : ℕ) → d < 10 → isDigit (byte "0" + d) ≡ true
+-- a digit's byte
+pub digit-is : (d : ℕ) → d < 10 → isDigit (byte "0" + d) ≡ true
 digit-is d h = rw (le-leb (byte "0") (byte "0" + d) (omega arith), le-leb (byte "0" + d) (byte "9") (omega arith))
 
 value-digit : (v d : ℕ) (ds : List ℕ) → valueFrom v ((byte "0" + d) ∷ ds) ≡ valueFrom (v * 10 + d) ds
@@ -127,7 +127,7 @@ numeral-decimal n h = rw (decimal-number n h, decimal-value n h)
 
 -- what a number field says is below 10 ^ 5, and the number's digits are the field
 
-digit-bounds : (d : ℕ) → isDigit d ≡ true → (byte "0" ≤ d) × (d ≤ byte "9")
+pub digit-bounds : (d : ℕ) → isDigit d ≡ true → (byte "0" ≤ d) × (d ≤ byte "9")
 digit-bounds d e =
     let l = leb (byte "0") d in
     let h = leb d (byte "9") in
@@ -236,18 +236,18 @@ not-after : (x b : ℕ) (xs : List ℕ) → lacks b (x ∷ xs) ≡ true → lack
 unfolding all
 not-after x b xs h = and-right (not (eqb x b)) (lacks b xs) h
 
--- digits hold no byte that is no digit
-digit-not : (b x : ℕ) → isDigit b ≡ false → isDigit x ≡ true → not (eqb x b) ≡ true
-digit-not b x n e = rw (ne-eqb x b (λ q. never (isDigit b) (rw q at e) n))
+-- a list whose bytes all pass a test holds no byte that fails it
+other : (f : ℕ → Bool) (b x : ℕ) → f b ≡ false → f x ≡ true → not (eqb x b) ≡ true
+other f b x n e = rw (ne-eqb x b (λ q. never (f b) (rw q at e) n))
 
-pub digits-lack : (b : ℕ) (xs : List ℕ) → isDigit b ≡ false → all isDigit xs ≡ true → lacks b xs ≡ true
-digits-lack b xs n e = all-of (λ x. not (eqb x b)) xs (λ x m. digit-not b x n (all-at isDigit xs e x m))
+pub lacks-failing : (f : ℕ → Bool) (b : ℕ) (xs : List ℕ) → f b ≡ false → all f xs ≡ true → lacks b xs ≡ true
+lacks-failing f b xs n e = all-of (λ x. not (eqb x b)) xs (λ x m. other f b x n (all-at f xs e x m))
 
 pub decimal-lacks-comma : (n : ℕ) → lacks comma (decimal n) ≡ true
-decimal-lacks-comma n = digits-lack comma (decimal n) refl (decimal-digits n)
+decimal-lacks-comma n = lacks-failing isDigit comma (decimal n) refl (decimal-digits n)
 
 pub decimal-lacks-feed : (n : ℕ) → lacks lineFeed (decimal n) ≡ true
-decimal-lacks-feed n = digits-lack lineFeed (decimal n) refl (decimal-digits n)
+decimal-lacks-feed n = lacks-failing isDigit lineFeed (decimal n) refl (decimal-digits n)
 
 -- a part that holds no separator, with one after it, and alone
 pub split-part : (b : ℕ) (p r : List ℕ) → lacks b p ≡ true → split b (p ++ b ∷ r) ≡ p ∷ split b r

@@ -12,8 +12,6 @@ use Rattle.basis.specs.Lists.{same}
 use Rattle.basis.proofs.Same.{same-length, same-next}
 use Rattle.text.proofs.kind.equal.Statement.{statement}
 use Rattle.text.proofs.kind.equal.Tie as tie
-use Rattle.text.proofs.kind.equal.Reads as reads
-use Rattle.text.proofs.kind.equal.Lts as lts
 
 abbrev Inv-loop : tie.InvT-loop
 Inv-loop a b i₀ i = (i ≤ length a) × (length a ≡ length b) × (same eqb a b ≡ same eqb (drop i a) (drop i b))

@@ -13,13 +13,9 @@ use Rattle.basis.proofs.Bools.{and-left, and-right}
 use Rattle.basis.proofs.Same.{agree-eq}
 use Rattle.basis.proofs.Table.{everyEntry, at}
 use Rattle.text.specs.Kind.{placeOf, follows}
-use Rattle.text.specs.declared.kind.Kind.{Kind}
 use Rattle.text.proofs.Naming.{place-lt, kindAt, kind-at}
 use Rattle.text.proofs.kind.may_follow.Statement.{statement}
 use Rattle.text.proofs.kind.may_follow.Tie as tie
-use Rattle.text.proofs.kind.may_follow.Reads as reads
-use Rattle.text.proofs.kind.may_follow.Lts as lts
-use Rattle.text.proofs.kind.place.Reads as place-reads
 
 table : List (List Bool)
 table =

@@ -1,5 +1,5 @@
 -- `text::number::digits` meets its contract: what the digits from i on say after v is what all say after 0.
-use Prim.Native.Nat.{ℕ, suc, _+_, _*_, _-_, _^_, _≤_, _<_}
+use Prim.Native.Nat.{ℕ, _+_, _*_, _-_, _^_, _≤_, _<_}
 use mathlib.Core.Path.{_≡_, refl, sym, _∙_}
 use mathlib.Core.Bool.{cond}
 use mathlib.Core.List.{List}
@@ -17,8 +17,6 @@ use Rattle.text.specs.declared.number.Numeral.{Numeral}
 use Rattle.text.specs.declared.number.Numeral.the-variants.{Value, Malformed}
 use Rattle.text.proofs.number.digits.Statement.{statement}
 use Rattle.text.proofs.number.digits.Tie as tie
-use Rattle.text.proofs.number.digits.Reads as reads
-use Rattle.text.proofs.number.digits.Lts as lts
 
 -- what digits say after v
 abbrev saidAfter : ℕ → List ℕ → Numeral

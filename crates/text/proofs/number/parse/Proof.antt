@@ -1,12 +1,11 @@
 -- `text::number::parse` meets its contract: each test that the code makes settles one of `isNumber`.
 use Prim.Native.Nat.{ℕ, _≤_, _<_}
-use mathlib.Core.Path.{_≡_, refl, sym, _∙_}
-use mathlib.Core.Bool.{Bool, cond, not, _||_, and-true, and-false}
+use mathlib.Core.Path.{_≡_, _∙_}
+use mathlib.Core.Bool.{cond, and-true, and-false}
 use mathlib.Core.List.{List}
 use native.Mathlib.Omega.{arith}
 use borrow.Author.Needs.{needs}
 use borrow.Author.Tests.{le-leb, lt-leb, eq-eqb, ne-eqb}
-use lib.Dec.{eqb}
 use lib.ListN.{length, getD}
 use Rattle.basis.specs.Bytes.{byte}
 use Rattle.basis.specs.Lists.{all}
@@ -15,9 +14,6 @@ use Rattle.text.specs.declared.number.Numeral.{Numeral}
 use Rattle.text.specs.declared.number.Numeral.the-variants.{Value, Malformed}
 use Rattle.text.proofs.number.parse.Statement.{statement}
 use Rattle.text.proofs.number.parse.Tie as tie
-use Rattle.text.proofs.number.parse.Reads as reads
-use Rattle.text.proofs.number.parse.Lts as lts
-use Rattle.text.proofs.number.digits.Reads as digits-reads
 
 module _ (f : List ℕ) where
   none : length f ≡ 0 → Malformed ≡ numeral f

@@ -1,11 +1,10 @@
 -- `text::parts::field` meets its contract: field k of the line is field k - j of what starts at i.
 use Prim.Native.Nat.{ℕ, suc, _+_, _-_, _≤_, _<_}
-use mathlib.Core.Path.{_≡_, refl, sym, _∙_}
+use mathlib.Core.Path.{_≡_, sym, _∙_}
 use mathlib.Core.List.{List, []}
 use native.Mathlib.Nat.{sub-zero}
 use native.Mathlib.Omega.{arith}
 use borrow.Author.Needs.{needs}
-use denote.Ref.{now}
 use lib.ListN.{length, getD, take, drop}
 use Rattle.text.specs.Parts.{fields, comma, Found}
 use Rattle.text.proofs.Split.{part-next, part-last, part-first}
