@@ -1,6 +1,6 @@
 -- "The first field is one of nine words", and which kind may follow which.
 use Prim.Native.Nat.{ℕ}
-use mathlib.Core.Bool.{Bool, true, false, cond, _||_}
+use mathlib.Core.Bool.{Bool, false, cond, _||_}
 use mathlib.Core.List.{List, [], _∷_}
 use lib.Dec.{eqb, leb}
 use Rattle.basis.specs.Bytes.{bytes}

@@ -49,6 +49,11 @@ linesOf (p ∷ q ∷ ps) = record { bytes = p; ended = true } ∷ linesOf (q ∷
 abbrev pub lines : List ℕ → List Line
 lines t = linesOf (split lineFeed t)
 
+-- lines as a text, each ended by a line feed
+unfoldable pub textOf : List (List ℕ) → List ℕ
+textOf [] = []
+textOf (l ∷ ls) = l ++ lineFeed ∷ textOf ls
+
 -- ---- positions, inside two functions
 
 -- one more, or 0 where the separator is met

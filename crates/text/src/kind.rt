@@ -1,8 +1,9 @@
 // The nine words that a line may start with, and which kind may follow which.
 ghost use mathlib.Core.Path.{_≡_};
 ghost use lib.Dec.{eqb};
+ghost use lib.ListN.{drop};
 ghost use Rattle.basis.specs.Lists.{same};
-ghost use Rattle.text.specs.Kind.{named, placeOf, follows};
+ghost use Rattle.text.specs.Kind.{kinds, namedIn, named, placeOf, follows};
 
 pub enum Kind {
     Policy,
@@ -38,6 +39,25 @@ fn equal(a: &[u8], b: &[u8]) -> bool
     true
 }
 
+// The kind that a first field names, where it is none of the first five.
+fn parse_later(f: &[u8]) -> Named
+    ensures { λ r. ⌜ r ≡ namedIn (drop 5 kinds) (now (f .entry)) ⌝ }
+{
+    if equal(f, b"user") {
+        return Named::Is(Kind::User);
+    }
+    if equal(f, b"object") {
+        return Named::Is(Kind::Object);
+    }
+    if equal(f, b"rule") {
+        return Named::Is(Kind::Rule);
+    }
+    if equal(f, b"end") {
+        return Named::Is(Kind::End);
+    }
+    Named::Unknown
+}
+
 // The kind that a first field names.
 pub fn parse(f: &[u8]) -> Named
     ensures { λ r. ⌜ r ≡ named (now (f .entry)) ⌝ }
@@ -57,19 +77,7 @@ pub fn parse(f: &[u8]) -> Named
     if equal(f, b"osen") {
         return Named::Is(Kind::Osen);
     }
-    if equal(f, b"user") {
-        return Named::Is(Kind::User);
-    }
-    if equal(f, b"object") {
-        return Named::Is(Kind::Object);
-    }
-    if equal(f, b"rule") {
-        return Named::Is(Kind::Rule);
-    }
-    if equal(f, b"end") {
-        return Named::Is(Kind::End);
-    }
-    Named::Unknown
+    parse_later(f)
 }
 
 // A kind's place in the list of nine.

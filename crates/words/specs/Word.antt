@@ -5,9 +5,7 @@ use mathlib.Core.List.{List, [], _∷_}
 use lib.Dec.{eqb}
 use Rattle.basis.specs.Bytes.{byte}
 use Rattle.text.specs.Number.{isDigit, digitOf}
-use Rattle.words.specs.declared.Holding.{Holding}
 use Rattle.words.specs.declared.Holding.the-variants.{User, Object}
-use Rattle.words.specs.declared.Comparison.{Comparison}
 use Rattle.words.specs.declared.Comparison.the-variants.{Dominates, Equals}
 use Rattle.words.specs.declared.Word.{Word}
 use Rattle.words.specs.declared.Word.the-variants.{True, False, Holds, Compares, Not, And, Or}
@@ -15,7 +13,7 @@ use Rattle.words.specs.declared.Parsed.{Parsed}
 use Rattle.words.specs.declared.Parsed.the-variants.{Is, Malformed}
 
 -- `t` `f` `n` `a` `r`
-abbrev pub letter : ℕ → Parsed
+unfoldable pub letter : ℕ → Parsed
 letter c =
     cond (eqb c (byte "t")) (Is True)
     (cond (eqb c (byte "f")) (Is False)
@@ -24,7 +22,7 @@ letter c =
     (cond (eqb c (byte "r")) (Is Or) Malformed))))
 
 -- `uV` `oV`
-abbrev pub holding : ℕ → ℕ → Parsed
+unfoldable pub holding : ℕ → ℕ → Parsed
 holding c v =
     cond (isDigit v)
     (cond (eqb c (byte "u")) (Is (Holds (User (digitOf v))))
@@ -32,7 +30,7 @@ holding c v =
     Malformed
 
 -- `dIJ` `qIJ`
-abbrev pub comparison : ℕ → ℕ → ℕ → Parsed
+unfoldable pub comparison : ℕ → ℕ → ℕ → Parsed
 comparison c i j =
     cond (isDigit i && isDigit j)
     (cond (eqb c (byte "d")) (Is (Compares (Dominates (digitOf i) (digitOf j))))
@@ -40,7 +38,7 @@ comparison c i j =
     Malformed
 
 -- the word that a field is
-abbrev pub parsed : List ℕ → Parsed
+unfoldable pub parsed : List ℕ → Parsed
 parsed [] = Malformed
 parsed (c ∷ []) = letter c
 parsed (c ∷ v ∷ []) = holding c v
@@ -58,7 +56,7 @@ wordIn (Is w) = w
 wordIn Malformed = True
 
 -- a word as it is written
-abbrev pub written : Word → List ℕ
+unfoldable pub written : Word → List ℕ
 written True = byte "t" ∷ []
 written False = byte "f" ∷ []
 written (Holds (User v)) = byte "u" ∷ (byte "0" + v) ∷ []

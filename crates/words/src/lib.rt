@@ -29,7 +29,7 @@ pub enum Parsed {
     Malformed,
 }
 
-fn letter(c: u8) -> Parsed
+fn parse_letter(c: u8) -> Parsed
     ensures { λ r. ⌜ r ≡ word.letter c ⌝ }
 {
     if c == b't' {
@@ -50,7 +50,7 @@ fn letter(c: u8) -> Parsed
     Parsed::Malformed
 }
 
-fn holding(c: u8, v: u8) -> Parsed
+fn parse_holding(c: u8, v: u8) -> Parsed
     ensures { λ r. ⌜ r ≡ word.holding c v ⌝ }
 {
     if v < b'0' {
@@ -68,7 +68,7 @@ fn holding(c: u8, v: u8) -> Parsed
     Parsed::Malformed
 }
 
-fn comparison(c: u8, i: u8, j: u8) -> Parsed
+fn parse_comparison(c: u8, i: u8, j: u8) -> Parsed
     ensures { λ r. ⌜ r ≡ word.comparison c i j ⌝ }
 {
     if i < b'0' {
@@ -97,13 +97,13 @@ pub fn parse(f: &[u8]) -> Parsed
     ensures { λ r. ⌜ r ≡ word.parsed (now (f .entry)) ⌝ }
 {
     if f.len() == 1 {
-        return letter(f[0]);
+        return parse_letter(f[0]);
     }
     if f.len() == 2 {
-        return holding(f[0], f[1]);
+        return parse_holding(f[0], f[1]);
     }
     if f.len() == 3 {
-        return comparison(f[0], f[1], f[2]);
+        return parse_comparison(f[0], f[1], f[2]);
     }
     Parsed::Malformed
 }

@@ -1,0 +1,3 @@
+pub mod Naming
+pub mod RoundTrip
+pub mod Split
