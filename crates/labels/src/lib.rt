@@ -3,6 +3,7 @@ use policy::refusal::Refusal;
 
 // The label of a user set, and that of an object set: two sorts, so that neither stands where the other is due.
 pub struct UserLabel(pub u8);
+
 pub struct ObjectLabel(pub u8);
 
 // How many labels are used on each side: NU and NO.

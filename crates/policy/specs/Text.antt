@@ -3,7 +3,7 @@ use Prim.Native.Nat.{ℕ}
 use mathlib.Core.List.{List, [], _∷_, _++_, map}
 use Rattle.seniority.specs.declared.Direct.{Direct}
 use Rattle.text.specs.Number.{decimal}
-use Rattle.text.specs.Parts.{join, comma, lineFeed}
+use Rattle.text.specs.Parts.{join, comma, textOf as linesText}
 use Rattle.text.specs.Kind.{wordOf}
 use Rattle.text.specs.declared.kind.Kind.{Kind}
 use Rattle.text.specs.declared.kind.Kind.the-variants.{Policy as PolicyKind, Uattr, Oattr, Usen, Osen, User, Object, Rule as RuleKind, End}
@@ -49,11 +49,6 @@ laterFields End l = []
 unfoldable pub lineText : Line → List ℕ
 lineText l = join comma (wordOf (l .kind) ∷ laterFields (l .kind) l)
 
--- lines one after the other, each with its line feed
-unfoldable pub linesText : List Line → List ℕ
-linesText [] = []
-linesText (l ∷ ls) = lineText l ++ lineFeed ∷ linesText ls
-
 -- the text of a policy
 unfoldable pub textOf : Policy → List ℕ
-textOf p = linesText (linesOf p)
+textOf p = linesText (map lineText (linesOf p))

@@ -56,11 +56,11 @@ unfolding digitsBefore all
 few zero n ds = record { most = omega arith; digits = λ h. h }
 few (suc k) n ds =
     elim (decLt n 10) [
-      yes l ↦ rw (last-digit k n ds l) (record { most = omega arith; digits = λ h. rw (digit-is n l, h) })
-    | no l ↦
-      let m : n % 10 < 10 = omega arith in
-      let s = few k (n / 10) ((byte "0" + n % 10) ∷ ds) in
-      rw (more-digits k n ds (omega (arith, l))) (record { most = omega (arith, s .most); digits = λ h. s .digits (rw (digit-is (n % 10) m, h)) })
+      | yes l ↦ rw (last-digit k n ds l) (record { most = omega arith; digits = λ h. rw (digit-is n l, h) })
+      | no l ↦
+          let m : n % 10 < 10 = omega arith in
+          let s = few k (n / 10) ((byte "0" + n % 10) ∷ ds) in
+          rw (more-digits k n ds (omega (arith, l))) (record { most = omega (arith, s .most); digits = λ h. s .digits (rw (digit-is (n % 10) m, h)) })
     ]
 
 pub decimal-short : (n : ℕ) → length (decimal n) ≤ mostDigits
@@ -89,18 +89,18 @@ whole zero n ds h =
     rw (last-digit 0 n ds l) (one-digit n ds l)
 whole (suc k) n ds h =
     elim (decLt n 10) [
-      yes l ↦ rw (last-digit (suc k) n ds l) (one-digit n ds l)
-    | no l ↦
-      let q : n / 10 < 10 ^ suc k = omega (arith, pow-suc 10 (suc k)) in
-      let e : n / 10 * 10 + n % 10 ≡ n = omega arith in
-      let s = whole k (n / 10) ((byte "0" + n % 10) ∷ ds) q in
-      rw (more-digits (suc k) n ds (omega (arith, l)))
-      (record {
-        value = s .value ∙ value-digit (n / 10) (n % 10) ds ∙ rw e;
-        some = omega (arith, s .some);
-        lead = λ p z. s .lead (omega (arith, l)) z;
-        alone = λ p. absurd (omega (arith, p, l));
-      })
+      | yes l ↦ rw (last-digit (suc k) n ds l) (one-digit n ds l)
+      | no l ↦
+          let q : n / 10 < 10 ^ suc k = omega (arith, pow-suc 10 (suc k)) in
+          let e : n / 10 * 10 + n % 10 ≡ n = omega arith in
+          let s = whole k (n / 10) ((byte "0" + n % 10) ∷ ds) q in
+          rw (more-digits (suc k) n ds (omega (arith, l)))
+          (record {
+            value = s .value ∙ value-digit (n / 10) (n % 10) ds ∙ rw e;
+            some = omega (arith, s .some);
+            lead = λ p z. s .lead (omega (arith, l)) z;
+            alone = λ p. absurd (omega (arith, p, l));
+          })
     ]
 
 whole-decimal : (n : ℕ) → n < 10 ^ mostDigits → Whole n [] (decimal n)

@@ -97,6 +97,6 @@ part-last s i b r f h = split-one b (drop i s) (rw length-drop (omega (arith, f 
 pub part-first : (s : List ℕ) (i b r : ℕ) → Found s i b r → take (r - i) (drop i s) ≡ getD (split b (drop i s)) 0 []
 part-first s i b r f =
     elim (decLt r (length s)) [
-      yes h ↦ rw (part-next s i b r f h)
-    | no h ↦ rw (part-last s i b r f (omega (arith, h, f .high))) (take-all (r - i) (drop i s) (rw length-drop (omega (arith, h))))
+      | yes h ↦ rw (part-next s i b r f h)
+      | no h ↦ rw (part-last s i b r f (omega (arith, h, f .high))) (take-all (r - i) (drop i s) (rw length-drop (omega (arith, h))))
     ]

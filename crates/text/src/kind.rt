@@ -107,7 +107,17 @@ const FOLLOWS: [[bool; 9]; 9] = [
     [false, false, false, false, false, true, true, true, true],
     [false, false, false, false, false, false, true, true, true],
     [false, false, false, false, false, false, false, true, true],
-    [false, false, false, false, false, false, false, false, false],
+    [
+        false,
+        false,
+        false,
+        false,
+        false,
+        false,
+        false,
+        false,
+        false,
+    ],
 ];
 
 // Whether a line of kind k may follow one of kind j.

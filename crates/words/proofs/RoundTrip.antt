@@ -116,6 +116,7 @@ holding-from c v w e =
   where
     f : List ℕ
     f = c ∷ v ∷ []
+
     n : ℕ
     n = digitOf v
 
@@ -131,8 +132,10 @@ comparison-from c i j w e =
   where
     f : List ℕ
     f = c ∷ i ∷ j ∷ []
+
     m : ℕ
     m = digitOf i
+
     n : ℕ
     n = digitOf j
 
