@@ -29,6 +29,11 @@ or-right false b q = q
 pub never : (a : Bool) → a ≡ true → a ≡ false → ⊥
 never a p q = true≢false (sym p ∙ q)
 
+-- a test that cannot pass fails
+pub fails : (a : Bool) → (a ≡ true → ⊥) → a ≡ false
+fails true h = absurd (h refl)
+fails false h = refl
+
 -- two tests are equal where each passes if the other does
 pub both-ways : (a b : Bool) → (a ≡ true → b ≡ true) → (b ≡ true → a ≡ true) → a ≡ b
 both-ways true b f g = sym (f refl)

@@ -1,8 +1,11 @@
--- `all` and `any` pass exactly where their test does at each element, or at some: by induction on the list.
-use mathlib.Core.Path.{_≡_, refl}
+-- Laws of lists, by induction: `all` and `any` pass exactly where their test does at each element, or at some; what stands at a place is an element.
+use mathlib.Core.Path.{_≡_, refl, sym, _∙_}
 use mathlib.Core.Bool.{Bool, true, false≢true}
 use mathlib.Core.Logic.{⊎-elim}
-use mathlib.Core.List.{List, [], _∷_, List·Memᴰ, List·Memᴰ·head, List·Memᴰ·tail, List·Memᴰ·not-nil}
+use mathlib.Core.List.{List, [], _∷_, map, List·Memᴰ, List·Memᴰ·head, List·Memᴰ·tail, List·Memᴰ·not-nil}
+use Prim.Native.Nat.{ℕ, zero, suc, _<_}
+use native.Mathlib.Nat.{le-of-suc-le-suc, not-suc-le-zero}
+use lib.ListN.{length, getD, length-map}
 use Rattle.basis.specs.Lists.{all, any}
 use Rattle.basis.proofs.Bools.{and-left, and-right, and-both, or-cases, or-left, or-right}
 
@@ -29,3 +32,13 @@ module _ {A : Type 0} (f : A → Bool) where
   any-of [] x m e = absurd (List·Memᴰ·not-nil m)
   any-of (y ∷ xs) x (List·Memᴰ·head p) e = or-left (f y) (any f xs) (rw p at e)
   any-of (y ∷ xs) x (List·Memᴰ·tail m) e = or-right (f y) (any f xs) (any-of xs x m e)
+
+-- what stands at a place of a list is one of its elements
+pub getD-in : {A : Type 0} (xs : List A) (k : ℕ) (d : A) → k < length xs → List·Memᴰ (getD xs k d) xs
+getD-in [] k d h = absurd (not-suc-le-zero h)
+getD-in (x ∷ xs) zero d h = List·Memᴰ·head refl
+getD-in (x ∷ xs) (suc k) d h = List·Memᴰ·tail (getD-in xs k d (le-of-suc-le-suc h))
+
+-- the length of an array of structs, from what the check knows of it: `search (needs, long)`
+pub long : {A B : Type 0} (f : A → B) (xs : List A) (n : ℕ) → length (map f xs) ≡ n → length xs ≡ n
+long f xs n e = sym (length-map xs f) ∙ e
