@@ -1,0 +1,3 @@
+pub mod Labels
+pub mod Labelling
+pub mod Compile
