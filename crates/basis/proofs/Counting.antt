@@ -3,7 +3,7 @@ use Prim.Native.Nat.{ℕ, zero, suc, _+_, _≤_, _<_, zero-le}
 use mathlib.Core.Path.{_≡_, refl, sym, ap, _∙_}
 use mathlib.Core.Bool.{Bool, true, false, cond, true≢false}
 use mathlib.Core.Logic.{_↔_, ⊎-elim}
-use mathlib.Core.List.{List, [], _∷_, _++_, List·Memᴰ, List·Memᴰ·head, List·Memᴰ·not-nil, List·Memᴰ·append-cases, List·Memᴰ·eq-of-singleton}
+use mathlib.Core.List.{List, [], _∷_, _++_, List·Memᴰ, List·Memᴰ·head, List·Memᴰ·not-nil, List·Memᴰ·append-cases, List·Memᴰ·eq-of-singleton, Memᴰ·append-left, Memᴰ·append-right}
 use native.Mathlib.Nat.{le-refl, le-of-suc-le-suc, not-suc-le-zero, eq-or-lt-of-le}
 use native.Mathlib.Decide.{le-ind}
 use native.Mathlib.Omega.{arith}
@@ -98,6 +98,57 @@ pub nth : (f : ℕ → Bool) (n i : ℕ) → i < count f n → Nth f n i
 unfolding count
 nth f zero i h = absurd (not-suc-le-zero h)
 nth f (suc n) i h = nth-at f n i (nth f n i) (f n) refl h
+
+-- ---- select
+
+select-at : (f : ℕ → Bool) (n x : ℕ) (b : Bool) → f n ≡ b → List·Memᴰ x (cond b (n ∷ []) []) → (x < suc n) × (f x ≡ true)
+select-at f n x true e m = let q = List·Memᴰ·eq-of-singleton m in (omega arith, rw q e)
+select-at f n x false e m = absurd (List·Memᴰ·not-nil m)
+
+-- the numbers below n at which the test passes, and no others
+pub select-iff : (f : ℕ → Bool) (n x : ℕ) → List·Memᴰ x (select f n) ↔ ((x < n) × (f x ≡ true))
+unfolding select
+select-iff f zero x = ((λ m. absurd (List·Memᴰ·not-nil m)), (λ h. absurd (not-suc-le-zero (h .0))))
+select-iff f (suc n) x = (
+  (λ m. ⊎-elim (λ l. let h = select-iff f n x .0 l in (omega (arith, h .0), h .1)) (λ l. select-at f n x (f n) refl l) (List·Memᴰ·append-cases (select f n) m)),
+  (λ h.
+  ⊎-elim
+  (λ q. let e : f n ≡ true = sym (ap f q) ∙ h .1 in Memᴰ·append-right (select f n) (rw e (List·Memᴰ·head q)))
+  (λ l. Memᴰ·append-left _ (select-iff f n x .1 (l, h .1)))
+  (eq-or-lt-of-le (le-of-suc-le-suc (h .0)))),
+)
+
+length-select-at : (b : Bool) (n c : ℕ) → c + length (cond b (n ∷ []) []) ≡ cond b (suc c) c
+length-select-at true n c = omega arith
+length-select-at false n c = omega arith
+
+pub length-select : (f : ℕ → Bool) (n : ℕ) → length (select f n) ≡ count f n
+unfolding select count
+length-select f zero = refl
+length-select f (suc n) =
+    length-append (select f n) _ ∙ ap (λ (c : ℕ). c + length (cond (f n) (n ∷ []) [])) (length-select f n) ∙ length-select-at (f n) n (count f n)
+
+-- a number that is selected stands at its rank
+pub getD-select : (f : ℕ → Bool) (n x d : ℕ) → x < n → f x ≡ true → getD (select f n) (count f x) d ≡ x
+unfolding select
+getD-select f zero x d h e = absurd (not-suc-le-zero h)
+getD-select f (suc n) x d h e =
+    ⊎-elim
+    (λ q. let e′ : f n ≡ true = sym (ap f q) ∙ e in rw (q, e′) (getD-at (select f n) n [] d (count f n) (length-select f n)))
+    (λ l. let s : count f x < length (select f n) = rw (length-select f n) (count-strict f x n e l) in
+    List·getD-append (select f n) _ d (count f x) s ∙ getD-select f n x d l e)
+    (eq-or-lt-of-le (le-of-suc-le-suc h))
+
+-- so they rise strictly
+pub select-rises : (f : ℕ → Bool) (n d i j : ℕ) → i < j → j < length (select f n) → getD (select f n) i d < getD (select f n) j d
+select-rises f n d i j h l =
+    let b : j < count f n = rw (length-select f n) at l in
+    let x = nth f n i (omega arith) in
+    let y = nth f n j b in
+    let p : getD (select f n) i d ≡ x .at = rw (x .rank) at (getD-select f n (x .at) d (x .below) (x .passes)) in
+    let q : getD (select f n) j d ≡ y .at = rw (y .rank) at (getD-select f n (y .at) d (y .below) (y .passes)) in
+    let s : ¬ (y .at ≤ x .at) = λ z. let t = count-mono f (y .at) (x .at) z in omega (arith, x .rank, y .rank) in
+    omega arith
 
 -- ---- upTo
 
