@@ -1,20 +1,19 @@
 -- Laws of the compiled labelling of any policy: what stands in the three results, that it grants alike, and that no labelling that does
 -- so uses fewer labels.
-use Prim.Native.Nat.{ℕ, _+_, _*_, _/_, _%_, _^_, _≤_, _<_}
-use mathlib.Core.Path.{_≡_, refl, sym, ap, ap₂, _∙_}
-use mathlib.Core.Bool.{Bool, true}
+use Prim.Native.Nat.{ℕ, _+_, _*_, _/_, _%_, _≤_, _<_}
+use mathlib.Core.Path.{_≡_, ap₂, _∙_}
+use mathlib.Core.Bool.{true}
 use mathlib.Core.Logic.{_↔_}
-use native.Mathlib.Omega.{arith}
 use lib.Arith.{digits-lt, digits-div, digits-mod}
 use lib.ListN.{length, getD}
 use lib.Pow.{pow-pos}
 use Rattle.basis.proofs.Counting.{length-upTo, getD-upTo}
 use Rattle.sets.specs.Set.{has}
-use Rattle.sets.proofs.Laws.{has-setOf, setOf-lt}
+use Rattle.sets.proofs.Laws.{has-setOf}
 use Rattle.policy.specs.Limits.{actions}
 use Rattle.policy.specs.Policy.{Policy, total, sets}
 use Rattle.formula.specs.Truth.{grants}
-use Rattle.labels.specs.Labels.{label, labelCount, leader, different}
+use Rattle.labels.specs.Labels.{label, leader}
 use Rattle.labels.specs.Labelling.{Labelling, userLabels, objectLabels, GrantsAlike}
 use Rattle.labels.specs.Compile.{likeUsers, likeObjects, userLabel, objectLabel, NU, NO, entry, userResult, objectResult, tableResult, compiled}
 use Rattle.labels.proofs.Labels.{Equivalence, labelCount-le, labelCount-positive, label-below, label-different, leader-like, leader-is, different-same}

@@ -1,8 +1,8 @@
 -- Laws of labels over any test `like` that is an equivalence on the sets below m. A set leads where no lower set is like it, and the label
 -- of a set is how many sets lead below the lowest of its like; so the laws come from those of `first` and `count`.
-use Prim.Native.Nat.{ℕ, zero, suc, _≤_, _<_}
+use Prim.Native.Nat.{ℕ, _≤_, _<_}
 use mathlib.Core.Path.{_≡_, refl, sym, ap, _∙_}
-use mathlib.Core.Bool.{Bool, true, false}
+use mathlib.Core.Bool.{Bool, true}
 use mathlib.Core.Logic.{_↔_, ⊎-elim}
 use native.Mathlib.Nat.{eq-or-lt-of-le}
 use native.Mathlib.Omega.{arith}
@@ -40,7 +40,7 @@ module _ (like : ℕ → ℕ → Bool) where
   labelCount-le m = count-le (leads like) m
 
   pub labelCount-positive : (m : ℕ) → 0 < m → 0 < labelCount like m
-  unfolding labelCount count lowestLike first
+  unfolding labelCount lowestLike first
   labelCount-positive m h = count-strict (leads like) 0 m (is-leads 0 refl) h
 
   labelCount-mono : (a b : ℕ) → a ≤ b → labelCount like a ≤ labelCount like b
