@@ -112,10 +112,10 @@ select-iff f zero x = ((λ m. absurd (List·Memᴰ·not-nil m)), (λ h. absurd (
 select-iff f (suc n) x = (
   (λ m. ⊎-elim (λ l. let h = select-iff f n x .0 l in (omega (arith, h .0), h .1)) (λ l. select-at f n x (f n) refl l) (List·Memᴰ·append-cases (select f n) m)),
   (λ h.
-  ⊎-elim
-  (λ q. let e : f n ≡ true = sym (ap f q) ∙ h .1 in Memᴰ·append-right (select f n) (rw e (List·Memᴰ·head q)))
-  (λ l. Memᴰ·append-left _ (select-iff f n x .1 (l, h .1)))
-  (eq-or-lt-of-le (le-of-suc-le-suc (h .0)))),
+      ⊎-elim
+      (λ q. let e : f n ≡ true = sym (ap f q) ∙ h .1 in Memᴰ·append-right (select f n) (rw e (List·Memᴰ·head q)))
+      (λ l. Memᴰ·append-left _ (select-iff f n x .1 (l, h .1)))
+      (eq-or-lt-of-le (le-of-suc-le-suc (h .0)))),
 )
 
 length-select-at : (b : Bool) (n c : ℕ) → c + length (cond b (n ∷ []) []) ≡ cond b (suc c) c

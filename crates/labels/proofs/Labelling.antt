@@ -46,7 +46,7 @@ module _ (g : ℕ → ℕ → ℕ → Bool) (k n : ℕ) where
         reflexive = λ u hu. usersAlike-iff u u .1 (λ a o ha ho. refl);
         symmetric = λ u v hu hv e. usersAlike-iff v u .1 (λ a o ha ho. sym (usersAlike-iff u v .0 e a o ha ho));
         transitive = λ u v w hu hv hw e f.
-        usersAlike-iff u w .1 (λ a o ha ho. usersAlike-iff u v .0 e a o ha ho ∙ usersAlike-iff v w .0 f a o ha ho);
+            usersAlike-iff u w .1 (λ a o ha ho. usersAlike-iff u v .0 e a o ha ho ∙ usersAlike-iff v w .0 f a o ha ho);
       }
 
   -- "Two user sets have the same label exactly when no action and no object set tells them apart."

@@ -40,7 +40,7 @@ module _ (like : ℕ → ℕ → Bool) where
   labelCount-le m = count-le (leads like) m
 
   pub labelCount-positive : (m : ℕ) → 0 < m → 0 < labelCount like m
-  unfolding labelCount lowestLike first
+  unfolding labelCount count lowestLike first
   labelCount-positive m h = count-strict (leads like) 0 m (is-leads 0 refl) h
 
   labelCount-mono : (a b : ℕ) → a ≤ b → labelCount like a ≤ labelCount like b
@@ -121,10 +121,10 @@ module _ {like : ℕ → ℕ → Bool} {m : ℕ} (E : Equivalence like m) where
   unfolding label
   label-iff u v hu hv = (
     (λ q.
-    let a = leads-apart (lowestLike like u) (lowestLike like v) (lowest-leads u hu) q in
-    let b = leads-apart (lowestLike like v) (lowestLike like u) (lowest-leads v hv) (sym q) in
-    let s : lowestLike like u ≡ lowestLike like v = omega arith in
-    E .transitive u _ v hu (lowest-below u hu) hv (E .symmetric _ u (lowest-below u hu) hu (lowest-like u hu)) (rw s (lowest-like v hv))),
+        let a = leads-apart (lowestLike like u) (lowestLike like v) (lowest-leads u hu) q in
+        let b = leads-apart (lowestLike like v) (lowestLike like u) (lowest-leads v hv) (sym q) in
+        let s : lowestLike like u ≡ lowestLike like v = omega arith in
+        E .transitive u _ v hu (lowest-below u hu) hv (E .symmetric _ u (lowest-below u hu) hu (lowest-like u hu)) (rw s (lowest-like v hv))),
     (λ q. ap (labelCount like) (lowest-same u v hu hv q)),
   )
 
@@ -160,7 +160,7 @@ module _ {like : ℕ → ℕ → Bool} {m : ℕ} (E : Equivalence like m) where
       (record {
         within = omega arith;
         before = λ v l. ne-eqb (label like v) (label like u) (λ q.
-        never (like v u) (label-iff v u (omega arith) h .0 q) (lowest-least like u .before v l));
+            never (like v u) (label-iff v u (omega arith) h .0 q) (lowest-least like u .before v l));
         hit = λ l. eq-eqb (label like (lowestLike like u)) (label like u) (label-iff _ u b h .1 (lowest-like u h));
       })
 
