@@ -1,1 +1,4 @@
 pub mod Sound
+pub mod Rising
+pub mod Parts
+pub mod Bounds
