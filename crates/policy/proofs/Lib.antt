@@ -6,3 +6,4 @@ pub mod Order
 pub mod Passed
 pub mod Growth
 pub mod Reading
+pub mod Values
