@@ -7,3 +7,4 @@ pub mod Passed
 pub mod Growth
 pub mod Reading
 pub mod Values
+pub mod Same
