@@ -8,3 +8,4 @@ pub mod Growth
 pub mod Reading
 pub mod Values
 pub mod Same
+pub mod Fields
