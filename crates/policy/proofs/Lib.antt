@@ -9,3 +9,4 @@ pub mod Reading
 pub mod Values
 pub mod Same
 pub mod Fields
+pub mod Accepted

@@ -87,13 +87,13 @@ cut-extended Object n m ws p = refl
 cut-extended RuleKind n m ws p = refl
 cut-extended End n m ws p = refl
 
-module _ (k : Kind) (n m : ℕ) (ws : List Word) (s : State) (r : Reading s) (a : allowed (s .before) k ≡ true) where
+module _ (k : Kind) (s : State) (r : Reading s) (a : allowed (s .before) k ≡ true) where
   -- no line of a kind after this one was read
   pub none-later : cut (suc (placeOf k)) (s .policy) ≡ s .policy
   none-later = cut-more (reached (s .before)) (suc (placeOf k)) (s .policy) (omega (arith, allowed-order (s .before) k a .high)) (r .later)
 
-  pub reading-more : Fits k (s .policy) n m ws → Reading (record { before = some k; policy = extended k n m ws (s .policy) })
-  reading-more f =
+  pub reading-more : (n m : ℕ) (ws : List Word) → Fits k (s .policy) n m ws → Reading (record { before = some k; policy = extended k n m ws (s .policy) })
+  reading-more n m ws f =
       record {
         lists = lists-sound (extended k n m ws (s .policy))
             (subst (λ (q : Policy). Parts q → Fits k q n m ws → Parts (extended k n m ws q)) none-later (parts-more k n m ws (s .policy)) (parts (s .policy) (r .lists)) f);
@@ -104,7 +104,7 @@ module _ (k : Kind) (n m : ℕ) (ws : List Word) (s : State) (r : Reading s) (a 
 -- ---- the lines of a text
 
 -- a line of a known kind has that kind and no more words than a rule may have
-line-kind : (k : Kind) (fs : List (List ℕ)) → lineOf k fs .kind ≡ k
+pub line-kind : (k : Kind) (fs : List (List ℕ)) → lineOf k fs .kind ≡ k
 unfolding lineOf
 line-kind PolicyKind fs = refl
 line-kind Uattr fs = refl
@@ -143,7 +143,7 @@ unfolding after
 reading-kind s e k fs r c =
     let l = lineOf k fs in
     subst (λ (j : Kind). Reading (record { before = some k; policy = extended j (l .first) (l .second) (l .words) (s .policy) })) (sym (line-kind k fs))
-    (reading-more k (l .first) (l .second) (l .words) s r (c .order) (line-fits s e k fs c))
+    (reading-more k s r (c .order) (l .first) (l .second) (l .words) (line-fits s e k fs c))
 
 pub reading-next : (s : State) (l : TextLine) → Reading s → lineRefusal s l ≡ none → Reading (lineAfter s l)
 reading-next s l r e =
