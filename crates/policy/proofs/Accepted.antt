@@ -32,77 +32,42 @@ use Rattle.policy.proofs.Sound.{sound}
 use Rattle.policy.proofs.Order.{reached, May, allowed-order, cut}
 use Rattle.policy.proofs.Passed.{Passed, Taken, taken}
 use Rattle.policy.proofs.Reading.{Reading, reading-start, reading-next, reading-sound, line-kind, none-later}
+use Rattle.policy.proofs.Groups.{flat-more, groups, openLines, linesFrom, lines-open}
 use Rattle.policy.proofs.Fields.{fieldsOf, later-fields}
-
--- ---- lists of lists
-
-abbrev flat : List (List Line) → List Line
-flat [] = []
-flat (g ∷ gs) = g ++ flat gs
-
-flat-append : (a b : List (List Line)) → flat (a ++ b) ≡ flat a ++ flat b
-flat-append [] b = refl
-flat-append (g ∷ a) b = rw (flat-append a b, append-assoc)
-
--- one element more, with nothing behind it
-flat-end : (a : List (List Line)) (g : List Line) (b : List (List Line)) → flat b ≡ [] → flat (a ++ g ∷ b) ≡ flat a ++ g
-flat-end a g b e = flat-append a (g ∷ b) ∙ rw (e, append-nil)
-
-flat-more : {A : Type 0} (f : A → Line) (xs : List A) (x : A) (a b : List (List Line)) → flat b ≡ []
-    → flat (a ++ map f (xs ++ (x ∷ [])) ∷ b) ≡ flat (a ++ map f xs ∷ b) ++ (f x ∷ [])
-flat-more f xs x a b e =
-    rw (flat-end a (map f (xs ++ (x ∷ []))) b e, flat-end a (map f xs) b e, map-append f xs (x ∷ []), append-assoc)
 
 -- ---- the lines so far
 
--- the lines of each kind but the end line
-groups : Policy → List (List Line)
-groups p =
-    (plain PolicyKind (p .form) 0 ∷ [])
-    ∷ widthLines Uattr (p .user)
-    ∷ widthLines Oattr (p .object)
-    ∷ pairLines Usen (p .user)
-    ∷ pairLines Osen (p .object)
-    ∷ entryLines User (p .users)
-    ∷ entryLines Object (p .objects)
-    ∷ ruleLines (p .rules)
-    ∷ []
-
-lines-groups : (p : Policy) → linesOf p ≡ flat (groups p) ++ (plain End 0 0 ∷ [])
-unfolding linesOf groups
-lines-groups p = flat-append (groups p) ((plain End 0 0 ∷ []) ∷ [])
-
 soFar : Option Kind → Policy → List Line
 soFar none p = []
-soFar (some k) p = flat (groups p) ++ cond (isKind End k) (plain End 0 0 ∷ []) []
+soFar (some k) p = openLines p ++ cond (isKind End k) (linesFrom End p) []
 
-so-far-open : (b : Option Kind) (p : Policy) → 1 ≤ reached b → reached b ≤ 8 → soFar b p ≡ flat (groups p)
+so-far-open : (b : Option Kind) (p : Policy) → 1 ≤ reached b → reached b ≤ 8 → soFar b p ≡ openLines p
 unfolding soFar
 so-far-open none p h g = absurd (omega arith)
 so-far-open (some k) p h g = rw (ne-eqb 8 (placeOf k) (λ e. omega (arith, e)), append-nil)
 
 so-far-all : (k : Kind) (p : Policy) → isKind End k ≡ true → soFar (some k) p ≡ linesOf p
 unfolding soFar
-so-far-all k p h = rw h (sym (lines-groups p))
+so-far-all k p h = rw h (sym (lines-open p))
 
 -- one line more, of a kind of which no later one was read before
-groups-more : (k : Kind) (fs : List (List ℕ)) (p : Policy) → 1 ≤ placeOf k → placeOf k ≤ 7 → let q = cut (suc (placeOf k)) p in
-    flat (groups (withLineOf (lineOf k fs) q)) ≡ flat (groups q) ++ (lineOf k fs ∷ [])
-unfolding groups lineOf extended cut
-groups-more PolicyKind fs p h g = absurd (omega arith)
-groups-more Uattr fs p h g = flat-more (λ w. plain Uattr w 0) (p .user .widths) (lineOf Uattr fs .first) (take 1 (groups p)) (drop 2 (groups (cut 2 p))) refl
-groups-more Oattr fs p h g = flat-more (λ w. plain Oattr w 0) (p .object .widths) (lineOf Oattr fs .first) (take 2 (groups p)) (drop 3 (groups (cut 3 p))) refl
-groups-more Usen fs p h g =
-    flat-more (λ (l : Direct). plain Usen (l .senior) (l .junior)) (p .user .lines) (direct (lineOf Usen fs .first) (lineOf Usen fs .second)) (take 3 (groups p)) (drop 4 (groups (cut 4 p))) refl
-groups-more Osen fs p h g =
-    flat-more (λ (l : Direct). plain Osen (l .senior) (l .junior)) (p .object .lines) (direct (lineOf Osen fs .first) (lineOf Osen fs .second)) (take 4 (groups p)) (drop 5 (groups (cut 5 p))) refl
-groups-more User fs p h g =
-    flat-more (λ (e : Entry). plain User (e .number) (e .set)) (p .users) (record { number = lineOf User fs .first; set = lineOf User fs .second }) (take 5 (groups p)) (drop 6 (groups (cut 6 p))) refl
-groups-more Object fs p h g =
-    flat-more (λ (e : Entry). plain Object (e .number) (e .set)) (p .objects) (record { number = lineOf Object fs .first; set = lineOf Object fs .second }) (take 6 (groups p)) (drop 7 (groups (cut 7 p))) refl
-groups-more RuleKind fs p h g =
+open-more : (k : Kind) (fs : List (List ℕ)) (p : Policy) → 1 ≤ placeOf k → placeOf k ≤ 7 → let q = cut (suc (placeOf k)) p in
+    openLines (withLineOf (lineOf k fs) q) ≡ openLines q ++ (lineOf k fs ∷ [])
+unfolding openLines groups lineOf extended cut
+open-more PolicyKind fs p h g = absurd (omega arith)
+open-more Uattr fs p h g = flat-more (λ w. plain Uattr w 0) (p .user .widths) (lineOf Uattr fs .first) (take 1 (groups p)) (drop 2 (take 8 (groups (cut 2 p)))) refl
+open-more Oattr fs p h g = flat-more (λ w. plain Oattr w 0) (p .object .widths) (lineOf Oattr fs .first) (take 2 (groups p)) (drop 3 (take 8 (groups (cut 3 p)))) refl
+open-more Usen fs p h g =
+    flat-more (λ (l : Direct). plain Usen (l .senior) (l .junior)) (p .user .lines) (direct (lineOf Usen fs .first) (lineOf Usen fs .second)) (take 3 (groups p)) (drop 4 (take 8 (groups (cut 4 p)))) refl
+open-more Osen fs p h g =
+    flat-more (λ (l : Direct). plain Osen (l .senior) (l .junior)) (p .object .lines) (direct (lineOf Osen fs .first) (lineOf Osen fs .second)) (take 4 (groups p)) (drop 5 (take 8 (groups (cut 5 p)))) refl
+open-more User fs p h g =
+    flat-more (λ (e : Entry). plain User (e .number) (e .set)) (p .users) (record { number = lineOf User fs .first; set = lineOf User fs .second }) (take 5 (groups p)) (drop 6 (take 8 (groups (cut 6 p)))) refl
+open-more Object fs p h g =
+    flat-more (λ (e : Entry). plain Object (e .number) (e .set)) (p .objects) (record { number = lineOf Object fs .first; set = lineOf Object fs .second }) (take 6 (groups p)) (drop 7 (take 8 (groups (cut 7 p)))) refl
+open-more RuleKind fs p h g =
     flat-more (λ (r : Rule). ruleLine (r .action) (r .words)) (p .rules) (record { action = lineOf RuleKind fs .first; words = lineOf RuleKind fs .words }) (take 7 (groups p)) [] refl
-groups-more End fs p h g = absurd (omega arith)
+open-more End fs p h g = absurd (omega arith)
 
 module _ (fs : List (List ℕ)) (b : Option Kind) (p : Policy) where
   mid-more : (k : Kind) → 1 ≤ placeOf k → placeOf k ≤ 7 → cut (suc (placeOf k)) p ≡ p → allowed b k ≡ true
@@ -110,11 +75,11 @@ module _ (fs : List (List ℕ)) (b : Option Kind) (p : Policy) where
   mid-more k h g e a =
       let m = allowed-order b k a in
       so-far-open (some k) (withLineOf (lineOf k fs) p) (omega arith) (omega arith)
-      ∙ subst (λ (q : Policy). flat (groups (withLineOf (lineOf k fs) q)) ≡ flat (groups q) ++ (lineOf k fs ∷ [])) e (groups-more k fs p h g)
+      ∙ subst (λ (q : Policy). openLines (withLineOf (lineOf k fs) q) ≡ openLines q ++ (lineOf k fs ∷ [])) e (open-more k fs p h g)
       ∙ ap (λ (ls : List Line). ls ++ (lineOf k fs ∷ [])) (sym (so-far-open b p (omega (arith, m .low)) (omega (arith, m .high))))
 
   end-more : cut 9 p ≡ p → allowed b End ≡ true → soFar (some End) (withLineOf (lineOf End fs) p) ≡ soFar b p ++ (lineOf End fs ∷ [])
-  unfolding soFar lineOf extended
+  unfolding soFar linesFrom groups lineOf extended
   end-more e a =
       let m = allowed-order b End a in
       ap (λ (ls : List Line). ls ++ (plain End 0 0 ∷ [])) (sym (so-far-open b p (omega (arith, m .low)) (omega (arith, m .high))))
@@ -124,15 +89,15 @@ unfolding soFar
 nothing-read none p e = refl
 nothing-read (some k) p e = absurd (omega arith)
 
-first-groups : (fs : List (List ℕ)) (p : Policy) → cut 1 p ≡ p → flat (groups (withLineOf (lineOf PolicyKind fs) p)) ≡ lineOf PolicyKind fs ∷ []
-unfolding groups lineOf extended cut
-first-groups fs p e = subst (λ (q : Policy). flat (groups (withLineOf (lineOf PolicyKind fs) q)) ≡ lineOf PolicyKind fs ∷ []) e refl
+first-open : (fs : List (List ℕ)) (p : Policy) → cut 1 p ≡ p → openLines (withLineOf (lineOf PolicyKind fs) p) ≡ lineOf PolicyKind fs ∷ []
+unfolding openLines groups lineOf extended cut
+first-open fs p e = subst (λ (q : Policy). openLines (withLineOf (lineOf PolicyKind fs) q) ≡ lineOf PolicyKind fs ∷ []) e refl
 
 first-more : (fs : List (List ℕ)) (b : Option Kind) (p : Policy) → cut 1 p ≡ p → allowed b PolicyKind ≡ true
     → soFar (some PolicyKind) (withLineOf (lineOf PolicyKind fs) p) ≡ soFar b p ++ (lineOf PolicyKind fs ∷ [])
 first-more fs b p e a =
     so-far-open (some PolicyKind) (withLineOf (lineOf PolicyKind fs) p) (omega arith) (omega arith)
-    ∙ first-groups fs p e ∙ rw (nothing-read b p (allowed-order b PolicyKind a .first refl))
+    ∙ first-open fs p e ∙ rw (nothing-read b p (allowed-order b PolicyKind a .first refl))
 
 so-far-more : (k : Kind) (fs : List (List ℕ)) (b : Option Kind) (p : Policy) → cut (suc (placeOf k)) p ≡ p → allowed b k ≡ true
     → soFar (some k) (withLineOf (lineOf k fs) p) ≡ soFar b p ++ (lineOf k fs ∷ [])

@@ -48,11 +48,11 @@ unfolding widthFits
 width-fits most s w e = width-test most (total s) w e
 
 module _ (most : ℕ) where
-  width-head : (n w : ℕ) (ws : List ℕ) → widthsSound most n (w ∷ ws) ≡ true → Width most n w
+  pub width-head : (n w : ℕ) (ws : List ℕ) → widthsSound most n (w ∷ ws) ≡ true → Width most n w
   unfolding widthsSound
   width-head n w ws e = width-test most n w (and-left _ _ e)
 
-  width-tail : (n w : ℕ) (ws : List ℕ) → widthsSound most n (w ∷ ws) ≡ true → widthsSound most (n + w) ws ≡ true
+  pub width-tail : (n w : ℕ) (ws : List ℕ) → widthsSound most n (w ∷ ws) ≡ true → widthsSound most (n + w) ws ≡ true
   unfolding widthsSound
   width-tail n w ws e = and-right (leb 1 w && (leb w most && leb (n + w) most)) _ e
 
@@ -187,7 +187,7 @@ module _ (most : ℕ) (s : Side) (h : SideParts most s) where
 -- ---- users and objects
 
 module _ (most : ℕ) (s : Side) where
-  entry-fits : (e : Entry) → numberFits most s e ≡ true → (e .number < most) × (e .set < sets s)
+  pub entry-fits : (e : Entry) → numberFits most s e ≡ true → (e .number < most) × (e .set < sets s)
   unfolding entryFits
   entry-fits e h = (ltb-true (e .number) most (and-left _ _ h), ltb-true (e .set) (sets s) (and-right (ltb (e .number) most) _ h))
 

@@ -49,7 +49,7 @@ more-entries most s es n x h f a = rising-more (numberFits most s) numberAbove e
 -- ---- rules: a word's tests look at the sides alone
 
 module _ (p : Policy) (rs : List Rule) where
-  fits-same : (w : Word) → wordFits p w ≡ wordFits (withRules rs p) w
+  pub fits-same : (w : Word) → wordFits p w ≡ wordFits (withRules rs p) w
   fits-same True = refl
   fits-same False = refl
   fits-same (Holds (UserValue v)) = refl
@@ -60,7 +60,7 @@ module _ (p : Policy) (rs : List Rule) where
   fits-same And = refl
   fits-same Or = refl
 
-  equal-same : (w : Word) → widthsEqual p w ≡ widthsEqual (withRules rs p) w
+  pub equal-same : (w : Word) → widthsEqual p w ≡ widthsEqual (withRules rs p) w
   equal-same True = refl
   equal-same False = refl
   equal-same (Holds h) = refl

@@ -9,4 +9,8 @@ pub mod Reading
 pub mod Values
 pub mod Same
 pub mod Fields
+pub mod Groups
 pub mod Accepted
+pub mod ReadBack
+pub mod Written
+pub mod Length
