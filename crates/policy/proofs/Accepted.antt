@@ -37,7 +37,7 @@ use Rattle.policy.proofs.Fields.{fieldsOf, later-fields}
 
 -- ---- the lines so far
 
-soFar : Option Kind → Policy → List Line
+unfoldable pub soFar : Option Kind → Policy → List Line
 soFar none p = []
 soFar (some k) p = openLines p ++ cond (isKind End k) (linesFrom End p) []
 
@@ -129,7 +129,7 @@ line-text : (k : Kind) (e : Bool) (l : List ℕ) (b : Option Kind) (p : Policy) 
 unfolding lineText
 line-text k e l b p n c = ap (join comma) (fields-line k (fields l) (split-pos comma l) n (c .count) (c .form)) ∙ join-split comma l
 
-texts : List Line → List (List ℕ)
+unfoldable pub texts : List Line → List (List ℕ)
 texts ls = map lineText ls
 
 next-texts : (s : State) (l : TextLine) → Reading s → lineRefusal s l ≡ none
@@ -148,10 +148,10 @@ next-texts s l r e =
 -- ---- the lines of the text
 
 -- lines read from a state on: with those before they are the lines of the policy, each is ended, and the policy is sound
-record Reads (s : State) (ls : List TextLine) (q : Policy) : Type 0 where
-  lines-are : texts (soFar (s .before) (s .policy)) ++ map (λ l. l .bytes) ls ≡ texts (linesOf q)
-  ended-all : all (λ l. l .ended) ls ≡ true
-  sound-is : sound q ≡ true
+pub record Reads (s : State) (ls : List TextLine) (q : Policy) : Type 0 where
+  pub lines-are : texts (soFar (s .before) (s .policy)) ++ map (λ l. l .bytes) ls ≡ texts (linesOf q)
+  pub ended-all : all (λ l. l .ended) ls ≡ true
+  pub sound-is : sound q ≡ true
 
 never : {A : Type 0} (n m : ℕ) (q : Policy) → Refused n m ≡ Accepted q → A
 never n m q e = let z : _≡_ {A = ℕ} 0 1 = cc in absurd (omega arith)
@@ -191,18 +191,10 @@ reads (l ∷ ls) n s q r e = go (lineRefusal s l) refl (reads ls (suc n) (lineAf
           sound-is = t .sound-is;
         }
 
-text-reads : (t : List ℕ) (p : Policy) → readText t ≡ Accepted p → Reads start (lines t) p
+pub text-reads : (t : List ℕ) (p : Policy) → readText t ≡ Accepted p → Reads start (lines t) p
 unfolding readText
 text-reads t p e = go (ltb textBytes (length t)) refl
   where
     go : (b : Bool) → ltb textBytes (length t) ≡ b → Reads start (lines t) p
     go true h = never 1 0 p (rw h at e)
     go false h = reads (lines t) 0 start p reading-start (rw h at e)
-
-pub read-sound : (t : List ℕ) (p : Policy) → readText t ≡ Accepted p → sound p ≡ true
-read-sound t p e = text-reads t p e .sound-is
-
--- an accepted text is written back unchanged
-pub read-text : (t : List ℕ) (p : Policy) → readText t ≡ Accepted p → textOf p ≡ t
-unfolding textOf texts soFar
-read-text t p e = let r = text-reads t p e in ap linesText (sym (r .lines-are)) ∙ text-lines t (r .ended-all)

@@ -14,3 +14,5 @@ pub mod Accepted
 pub mod ReadBack
 pub mod Written
 pub mod Length
+pub mod RoundTrip
+pub mod Valid

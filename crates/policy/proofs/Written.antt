@@ -182,7 +182,7 @@ module _ (p : Policy) (t : Parts p) where
       })
       (then (some PolicyKind) (record { low = omega arith; high = omega arith; first = λ h. omega arith }))
 
-leads-all : (p : Policy) → Whole p → Leads start (linesOf p) p
+pub leads-all : (p : Policy) → Whole p → Leads start (linesOf p) p
 leads-all p w =
     let t = parts p (w .lists) in
     rw (lines-from p)
@@ -190,26 +190,3 @@ leads-all p w =
     (uattr-lines p t (w .user)
     (oattr-lines p t (w .object)
     (usen-lines p t (osen-lines p t (user-lines p t (object-lines p t (rule-lines p t (end-line p t)))))))))
-
--- ---- the text
-
-map-map : {A B C : Type 0} (g : B → C) (f : A → B) (xs : List A) → map g (map f xs) ≡ map (λ x. g (f x)) xs
-map-map g f [] = refl
-map-map g f (x ∷ xs) = rw (map-map g f xs)
-
-each-lacks : (ls : List Line) → all (lacks lineFeed) (map lineText ls) ≡ true
-unfolding all
-each-lacks [] = refl
-each-lacks (l ∷ ls) = rw (text-lacks-feed l) (each-lacks ls)
-
-lines-textOf : (p : Policy) → lines (textOf p) ≡ map textLine (linesOf p)
-unfolding textOf
-lines-textOf p = lines-text (map lineText (linesOf p)) (each-lacks (linesOf p)) ∙ map-map endedLine lineText (linesOf p)
-
-pub text-short : (p : Policy) → sound p ≡ true → length (textOf p) ≤ textBytes
-text-short p e = parts-short p (parts p (whole p e .lists))
-
--- writing and reading back gives the same policy
-pub sound-read : (p : Policy) → sound p ≡ true → readText (textOf p) ≡ Accepted p
-unfolding readText
-sound-read p e = rw (le-ltb textBytes (length (textOf p)) (text-short p e), lines-textOf p) (leads-all p (whole p e) 0)
