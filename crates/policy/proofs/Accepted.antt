@@ -1,36 +1,34 @@
 -- An accepted text is the text of the policy that it yields, and that policy is sound: each line adds itself to the lines of the policy so far.
-use Prim.Native.Nat.{ℕ, zero, suc, _≤_}
+use Prim.Native.Nat.{ℕ, suc, _≤_}
 use mathlib.Core.Path.{_≡_, refl, sym, ap, ap₂, _∙_, subst}
-use mathlib.Core.Bool.{Bool, true, false, cond, _&&_}
-use mathlib.Core.List.{List, [], _∷_, _++_, map, append-nil, append-assoc, map-append}
+use mathlib.Core.Bool.{Bool, true, false, cond}
+use mathlib.Core.List.{List, [], _∷_, _++_, map, append-nil, map-append}
 use mathlib.Core.Option.{Option, none, some}
 use native.Mathlib.Omega.{arith}
-use lib.Dec.{eqb, ltb, lit≤}
+use lib.Dec.{ltb, lit≤}
 use lib.Seq.{append-snoc}
-use lib.ListN.{length, getD, take, drop}
+use lib.ListN.{length, take, drop}
 use borrow.Author.Tests.{eqb-true, ne-eqb}
-use Rattle.basis.specs.Choice.{given}
 use Rattle.basis.specs.Lists.{all}
-use Rattle.basis.proofs.Bools.{and-both}
 use Rattle.seniority.specs.Seniority.{direct}
 use Rattle.seniority.specs.declared.Direct.{Direct}
-use Rattle.text.specs.Parts.{Line as TextLine, comma, fields, join, split, lines, textOf as linesText}
+use Rattle.text.specs.Parts.{Line as TextLine, comma, fields, join, lines}
 use Rattle.text.specs.Kind.{placeOf, isKind, wordOf, named}
 use Rattle.text.specs.declared.kind.Kind.{Kind}
 use Rattle.text.specs.declared.kind.Kind.the-variants.{Policy as PolicyKind, Uattr, Oattr, Usen, Osen, User, Object, Rule as RuleKind, End}
 use Rattle.text.specs.declared.kind.Named.the-variants.{Is}
 use Rattle.text.proofs.Split.{split-pos}
-use Rattle.text.proofs.RoundTrip.{join-split, text-lines, word-named}
+use Rattle.text.proofs.RoundTrip.{join-split, word-named}
 use Rattle.policy.specs.Limits.{textBytes}
 use Rattle.policy.specs.Policy.{Rule, Policy}
 use Rattle.policy.specs.Line.{Line, allowed, countFits, formFits, fieldAt, plain, ruleLine, lineOf}
 use Rattle.policy.specs.Checks.{extended, withLineOf}
-use Rattle.policy.specs.Read.{Outcome, Accepted, Refused, kindOf, State, start, after, lineRefusal, lineAfter, ending, readLines, readText}
-use Rattle.policy.specs.Text.{widthLines, pairLines, entryLines, ruleLines, linesOf, laterFields, lineText, textOf}
+use Rattle.policy.specs.Read.{Accepted, Refused, kindOf, State, start, after, lineRefusal, lineAfter, ending, readLines, readText}
+use Rattle.policy.specs.Text.{linesOf, laterFields, lineText}
 use Rattle.policy.specs.declared.value.Entry.{Entry}
 use Rattle.policy.proofs.Sound.{sound}
-use Rattle.policy.proofs.Order.{reached, May, allowed-order, cut}
-use Rattle.policy.proofs.Passed.{Passed, Taken, taken}
+use Rattle.policy.proofs.Order.{reached, allowed-order, cut}
+use Rattle.policy.proofs.Passed.{Passed, taken}
 use Rattle.policy.proofs.Reading.{Reading, reading-start, reading-next, reading-sound, line-kind, none-later}
 use Rattle.policy.proofs.Groups.{flat-more, groups, openLines, linesFrom, lines-open}
 use Rattle.policy.proofs.Fields.{fieldsOf, later-fields}

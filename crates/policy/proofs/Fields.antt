@@ -1,11 +1,11 @@
 -- A line and its fields: the fields of an accepted line are those that its line is written as, and a line is read back from the fields it is written as.
-use Prim.Native.Nat.{ℕ, zero, suc, _+_, _*_, _^_, _≤_, _<_}
-use mathlib.Core.Path.{_≡_, refl, sym, ap, _∙_}
-use mathlib.Core.Bool.{Bool, true, false, not, _&&_}
+use Prim.Native.Nat.{ℕ, suc, _+_, _*_, _^_, _≤_, _<_}
+use mathlib.Core.Path.{_≡_, refl, sym, _∙_}
+use mathlib.Core.Bool.{Bool, true, false, not}
 use mathlib.Core.List.{List, [], _∷_, _++_, map}
 use native.Mathlib.Omega.{arith}
-use lib.Dec.{eqb, leb, lit≤}
-use lib.ListN.{length, getD, drop, length-append, length-map}
+use lib.Dec.{eqb, leb}
+use lib.ListN.{length, drop, length-append, length-map}
 use borrow.Author.Tests.{eqb-true, leb-true, le-leb}
 use Rattle.basis.specs.Lists.{all}
 use Rattle.basis.proofs.Bools.{and-left, and-right}

@@ -1,17 +1,15 @@
 -- A line that passes checks 6 to 9 keeps the lists sound, where no line of a later kind was read.
 use Prim.Native.Nat.{ℕ, suc, _≤_}
 use mathlib.Core.Path.{_≡_, refl, fun-ext}
-use mathlib.Core.Bool.{Bool, true, false, _&&_}
+use mathlib.Core.Bool.{true}
 use mathlib.Core.List.{List, [], _∷_, _++_}
-use mathlib.Core.Option.{Option, none, some}
-use lib.Dec.{leb, ltb}
+use mathlib.Core.Option.{none}
+use lib.Dec.{ltb}
 use lib.ListN.{length}
 use borrow.Author.Tests.{le-leb}
-use Rattle.basis.specs.Choice.{given}
-use Rattle.basis.specs.Lists.{all, last}
+use Rattle.basis.specs.Lists.{all}
 use Rattle.basis.proofs.Bools.{and-left, and-right}
 use Rattle.seniority.specs.Seniority.{direct}
-use Rattle.seniority.specs.declared.Direct.{Direct}
 use Rattle.text.specs.Kind.{placeOf}
 use Rattle.text.specs.declared.kind.Kind.{Kind}
 use Rattle.text.specs.declared.kind.Kind.the-variants.{Policy as PolicyKind, Uattr, Oattr, Usen, Osen, User, Object, Rule as RuleKind, End}
@@ -21,7 +19,7 @@ use Rattle.words.specs.declared.Holding.the-variants.{User as UserValue, Object
 use Rattle.words.specs.declared.Comparison.the-variants.{Dominates, Equals}
 use Rattle.policy.specs.Limits.{values, actions, userNumbers, objectNumbers, mostWords}
 use Rattle.policy.specs.Policy.{Side, Rule, Policy, total}
-use Rattle.policy.specs.Checks.{widthFits, pairFits, entryFits, wordFits, inRange, pairRises, entryRises, ruleRises, rises, widthsEqual, balanced, balances, withWidth, withLine, withEntry, withRules, extended}
+use Rattle.policy.specs.Checks.{widthFits, pairFits, entryFits, wordFits, inRange, pairRises, entryRises, ruleRises, rises, widthsEqual, balances, withWidth, withLine, withEntry, withRules, extended}
 use Rattle.policy.specs.declared.value.Entry.{Entry}
 use Rattle.policy.proofs.Sound.{widthsSound, ruleSound}
 use Rattle.policy.proofs.Rising.{rising, rising-more, rising-same}

@@ -1,7 +1,7 @@
 -- Reading and writing undo each other: an accepted text is written back unchanged, and a sound policy's text is read back as the policy.
 use Prim.Native.Nat.{ℕ, _≤_}
 use mathlib.Core.Path.{_≡_, refl, sym, ap, _∙_}
-use mathlib.Core.Bool.{Bool, true}
+use mathlib.Core.Bool.{true}
 use mathlib.Core.List.{List, [], _∷_, map}
 use borrow.Author.Tests.{le-ltb}
 use lib.ListN.{length}
@@ -16,7 +16,7 @@ use Rattle.policy.specs.Text.{linesOf, lineText, textOf}
 use Rattle.policy.proofs.Sound.{sound}
 use Rattle.policy.proofs.Parts.{parts, whole}
 use Rattle.policy.proofs.Fields.{text-lacks-feed}
-use Rattle.policy.proofs.Accepted.{Reads, text-reads, texts, soFar}
+use Rattle.policy.proofs.Accepted.{text-reads, texts, soFar}
 use Rattle.policy.proofs.ReadBack.{textLine}
 use Rattle.policy.proofs.Length.{parts-short}
 use Rattle.policy.proofs.Written.{leads-all}

@@ -1,7 +1,7 @@
 -- Check 11: a value is valid exactly where some text yields it, and exactly where it is the stored form of a sound policy.
 use Prim.Native.Nat.{ℕ}
 use mathlib.Core.Path.{_≡_, refl, sym, ap, _∙_}
-use mathlib.Core.Bool.{Bool, true, false, _&&_, false≢true}
+use mathlib.Core.Bool.{true, _&&_, false≢true}
 use mathlib.Core.List.{List}
 use mathlib.Core.Logic.{_↔_}
 use Rattle.basis.proofs.Bools.{and-left, and-right, and-both, both-ways}

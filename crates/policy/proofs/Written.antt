@@ -1,41 +1,38 @@
 -- A sound policy's text is read back as the policy, and fits the limit of a text.
-use Prim.Native.Nat.{ℕ, zero, suc, _+_, _*_, _≤_, _<_, _^_, min}
-use mathlib.Core.Path.{_≡_, refl, sym, ap, _∙_, subst, fun-ext}
-use mathlib.Core.Bool.{Bool, true, false, cond, _&&_, false≢true}
-use mathlib.Core.List.{List, [], _∷_, _++_, map, append-nil, append-assoc, map-append}
+use Prim.Native.Nat.{ℕ, suc, _+_, _≤_}
+use mathlib.Core.Path.{_≡_, refl, fun-ext}
+use mathlib.Core.Bool.{true, false≢true}
+use mathlib.Core.List.{List, [], _∷_, _++_, map}
 use mathlib.Core.Option.{Option, none, some}
 use native.Mathlib.Omega.{arith}
-use lib.Dec.{eqb, leb, ltb, lit≤, lit<}
+use lib.Dec.{lit≤}
 use lib.ListN.{length}
 use lib.Pow.{pow-mono}
-use borrow.Author.Tests.{lt-ltb, le-ltb, ltb-true, eqb-true}
+use borrow.Author.Tests.{lt-ltb, eqb-true}
 use Rattle.basis.specs.Choice.{given}
 use Rattle.basis.specs.Lists.{all, last, sum}
-use Rattle.basis.proofs.Bools.{and-left, and-right}
+use Rattle.basis.proofs.Bools.{and-left}
 use Rattle.seniority.specs.declared.Direct.{Direct}
-use Rattle.text.specs.Parts.{lineFeed, lines}
+use Rattle.text.specs.Parts.{lines}
 use Rattle.text.specs.Kind.{placeOf}
 use Rattle.text.specs.declared.kind.Kind.{Kind}
 use Rattle.text.specs.declared.kind.Kind.the-variants.{Policy as PolicyKind, Uattr, Oattr, Usen, Osen, User, Object, Rule as RuleKind, End}
-use Rattle.text.proofs.RoundTrip.{lacks, lines-text, endedLine}
 use Rattle.words.specs.declared.Word.{Word}
-use Rattle.policy.specs.Limits.{isForm, values, actions, userNumbers, objectNumbers, mostWords, textBytes}
-use Rattle.policy.specs.Policy.{Side, Rule, Policy, blank, total, sets}
-use Rattle.policy.specs.Line.{Line, allowed, plain, ruleLine, lineOf}
-use Rattle.policy.specs.Text.{widthLines, pairLines, entryLines, ruleLines, linesOf, lineText, textOf}
-use Rattle.policy.specs.Checks.{widthFits, pairFits, entryFits, wordFits, inRange, pairRises, entryRises, ruleRises, rises, widthsEqual, balanced, balances, extended, withUser, withObject, withUsers, withObjects, withRules, withLineOf}
-use Rattle.policy.specs.Read.{Accepted, start, ending, readLines, readText}
+use Rattle.policy.specs.Limits.{isForm, values, actions, userNumbers, objectNumbers}
+use Rattle.policy.specs.Policy.{Side, Rule, Policy, blank, total}
+use Rattle.policy.specs.Line.{Line, plain, ruleLine}
+use Rattle.policy.specs.Text.{linesOf}
+use Rattle.policy.specs.Checks.{widthFits, pairFits, inRange, pairRises, entryRises, ruleRises, rises, balanced, balances, extended, withUser, withObject, withUsers, withObjects, withRules, withLineOf}
+use Rattle.policy.specs.Read.{start, ending, readLines}
 use Rattle.policy.specs.declared.value.Entry.{Entry}
-use Rattle.policy.proofs.Sound.{widthsSound, ruleSound, sound, Within}
-use Rattle.policy.proofs.Rising.{rising}
-use Rattle.policy.proofs.Parts.{lineFits, lineAbove, numberFits, numberAbove, actionAbove, SideParts, RuleParts, rule-parts, Parts, parts, Whole, whole}
-use Rattle.policy.proofs.Bounds.{Width, width-head, width-tail, Pair, pair-fits, entry-fits, total-most, rule-digits}
+use Rattle.policy.proofs.Sound.{widthsSound, ruleSound}
+use Rattle.policy.proofs.Parts.{lineFits, lineAbove, numberFits, numberAbove, actionAbove, SideParts, rule-parts, Parts, parts, Whole}
+use Rattle.policy.proofs.Bounds.{width-head, width-tail, pair-fits, entry-fits, total-most, rule-digits}
 use Rattle.policy.proofs.Order.{reached, May, order-allowed, cut}
 use Rattle.policy.proofs.Growth.{Fits, fits-same, equal-same}
-use Rattle.policy.proofs.Fields.{OneNumber, TwoNumbers, policy-one, uattr-one, oattr-one, usen-two, osen-two, user-two, object-two, Back, Short, one-back, two-back, rule-back, end-back, text-lacks-feed}
-use Rattle.policy.proofs.Length.{parts-short}
+use Rattle.policy.proofs.Fields.{OneNumber, TwoNumbers, policy-one, uattr-one, oattr-one, usen-two, osen-two, user-two, object-two, Back, one-back, two-back, rule-back, end-back}
 use Rattle.policy.proofs.Groups.{groups, linesFrom, lines-from}
-use Rattle.policy.proofs.ReadBack.{state, textLine, Leads, Good, leads-line, kind-lines, rising-lines}
+use Rattle.policy.proofs.ReadBack.{state, Leads, Good, leads-line, kind-lines, rising-lines}
 
 module _ (p : Policy) (t : Parts p) where
   -- the lines from a kind on are read back, after the lines of the kinds before it
