@@ -1,5 +1,5 @@
 -- A sound policy's text is read back as the policy, and fits the limit of a text.
-use Prim.Native.Nat.{ℕ, suc, _+_, _≤_}
+use Prim.Native.Nat.{ℕ, suc, _≤_}
 use mathlib.Core.Path.{_≡_, refl, fun-ext}
 use mathlib.Core.Bool.{true, false≢true}
 use mathlib.Core.List.{List, [], _∷_, _++_, map}
@@ -11,6 +11,7 @@ use lib.Pow.{pow-mono}
 use borrow.Author.Tests.{lt-ltb, eqb-true}
 use Rattle.basis.specs.Choice.{given}
 use Rattle.basis.specs.Lists.{all, last, sum}
+use Rattle.basis.proofs.Snoc.{sum-snoc}
 use Rattle.basis.proofs.Bools.{and-left}
 use Rattle.seniority.specs.declared.Direct.{Direct}
 use Rattle.text.specs.Parts.{lines}
@@ -40,11 +41,6 @@ module _ (p : Policy) (t : Parts p) where
   From k = (b : Option Kind) → May (reached b) (placeOf k) → Leads (state b (cut (placeOf k) p)) (linesFrom k p) p
 
   -- ---- widths
-
-  sum-snoc : (ws : List ℕ) (w : ℕ) → sum (ws ++ (w ∷ [])) ≡ sum ws + w
-  unfolding sum
-  sum-snoc [] w = omega arith
-  sum-snoc (v ∷ ws) w = omega (arith, sum-snoc ws w)
 
   module _ (k : Kind) (o : OneNumber k) (put : List ℕ → Policy)
       (fits : (ws : List ℕ) (w : ℕ) → widthFits (values (p .form)) (record { widths = ws; lines = [] }) w ≡ true → Fits k (put ws) w 0 []) where
