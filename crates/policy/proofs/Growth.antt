@@ -4,7 +4,7 @@ use mathlib.Core.Path.{_≡_, refl, fun-ext}
 use mathlib.Core.Bool.{true}
 use mathlib.Core.List.{List, [], _∷_, _++_}
 use mathlib.Core.Option.{none}
-use lib.Dec.{ltb}
+use lib.Dec.{ltb, lit≤}
 use lib.ListN.{length}
 use borrow.Author.Tests.{le-leb}
 use Rattle.basis.specs.Lists.{all}
@@ -81,6 +81,11 @@ pub record Fits (k : Kind) (p : Policy) (n m : ℕ) (ws : List Word) : Type 0 wh
   pub equal : all (widthsEqual p) ws ≡ true
   pub balance : balances k ws ≡ true
   pub few : length ws ≤ mostWords
+
+-- a line with no words
+pub plain-fits : (k : Kind) (p : Policy) (n m : ℕ) → inRange k p n m [] ≡ true → rises k p n m ≡ true → balances k [] ≡ true → Fits k p n m []
+unfolding all
+plain-fits k p n m f a b = record { range = f; rise = a; equal = refl; balance = b; few = lit≤ tt }
 
 pub more-rules : (p : Policy) (a m : ℕ) (ws : List Word) → let r : Rule = record { action = a; words = ws } in
     rising (ruleSound p) actionAbove none (p .rules) ≡ true → Fits RuleKind p a m ws

@@ -15,6 +15,7 @@ pub mod Rising
 pub mod Room
 pub mod RoundTrip
 pub mod Same
+pub mod SoFar
 pub mod Sound
 pub mod Valid
 pub mod Values

@@ -1,4 +1,4 @@
--- A sound policy's text is read back as the policy: its lines are taken one after the other, kind by kind.
+-- Lines that are read back: one line that passes its checks, the lines of a kind, and a list that rises.
 use Prim.Native.Nat.{ℕ, suc, _≤_, min}
 use mathlib.Core.Path.{_≡_, refl, sym, _∙_}
 use mathlib.Core.Bool.{Bool, true}

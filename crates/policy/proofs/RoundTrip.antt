@@ -16,7 +16,8 @@ use Rattle.policy.specs.Text.{linesOf, lineText, textOf}
 use Rattle.policy.proofs.Sound.{sound}
 use Rattle.policy.proofs.Parts.{parts, whole}
 use Rattle.policy.proofs.LineText.{text-lacks-feed}
-use Rattle.policy.proofs.Accepted.{text-reads, texts, soFar}
+use Rattle.policy.proofs.SoFar.{soFar}
+use Rattle.policy.proofs.Accepted.{text-reads, texts}
 use Rattle.policy.proofs.ReadBack.{textLine}
 use Rattle.policy.proofs.Length.{parts-short}
 use Rattle.policy.proofs.Written.{leads-all}
