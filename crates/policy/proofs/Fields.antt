@@ -1,4 +1,4 @@
--- A line and its fields: the fields of an accepted line are those that its line is written as, and a line is read back from the fields it is written as.
+-- A line and its fields, both ways: accepted fields are those that their line is written as, and a line is read back from its own.
 use Prim.Native.Nat.{ℕ, suc, _+_, _^_, _≤_, _<_}
 use mathlib.Core.Path.{_≡_, refl, sym, _∙_}
 use mathlib.Core.Bool.{true}
@@ -185,7 +185,6 @@ words-line (w ∷ ws) h = rw (parsed-written w (and-left _ _ h), words-line ws (
 pub rule-back : (a : ℕ) (ws : List Word) → Short a → 1 ≤ length ws → length ws ≤ mostWords → all inDigits ws ≡ true → Back (ruleLine a ws)
 unfolding laterFields countFits formFits lineOf
 rule-back a ws h l g d =
-    let n : ℕ = 2 + length ws in
     let e : length (map written ws) ≡ length ws = length-map ws written in
     record {
       count = rw (e, le-leb 3 (suc (suc (length ws))) (omega arith), le-leb (suc (suc (length ws))) (2 + mostWords) (omega arith));
