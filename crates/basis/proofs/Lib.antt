@@ -3,5 +3,7 @@ pub mod Counting
 pub mod Lists
 pub mod Numbers
 pub mod Over
+pub mod Padded
 pub mod Same
+pub mod Snoc
 pub mod Table
