@@ -1,4 +1,5 @@
 pub mod Bools
+pub mod Choice
 pub mod Counting
 pub mod Lists
 pub mod Numbers
@@ -7,3 +8,4 @@ pub mod Padded
 pub mod Same
 pub mod Snoc
 pub mod Table
+pub mod Walk
