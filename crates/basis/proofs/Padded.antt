@@ -1,28 +1,81 @@
--- An array that starts with a list and is blank behind it, compared with another place by place: the list with the first places, the blank with the rest.
-use Prim.Native.Nat.{ℕ, zero, suc, _-_, _≤_}
-use mathlib.Core.Path.{_≡_, refl, sym, _∙_}
-use mathlib.Core.Bool.{Bool, true, _&&_, and-assoc}
-use mathlib.Core.List.{List, [], _∷_, _++_, map}
+-- Laws of `padded`, an array that starts with a list and is blank behind it: its length, its list again, its places, one element more, and
+-- that it is compared with another array by the list and the blank.
+use Prim.Native.Nat.{ℕ, suc, _+_, _-_, _≤_, _<_}
+use mathlib.Core.Path.{_≡_, refl, sym, ap, _∙_}
+use mathlib.Core.Bool.{Bool, _&&_, and-assoc}
+use mathlib.Core.List.{List, [], _∷_, _++_, map, append-nil, map-append}
 use native.Mathlib.Nat.{le-of-suc-le-suc, not-suc-le-zero, sub-zero, suc-sub-suc}
-use lib.ListN.{length, take, drop, replicate}
+use native.Mathlib.Omega.{arith}
+use lib.ListN.{length, getD, take, drop, set, replicate, length-append, length-replicate, length-map, getD-replicate, List·getD-append}
+use lib.Seq.{take-append-seam, drop-append-seam, append-snoc, set-append-seam, getD-append-add}
 use Rattle.basis.specs.Lists.{all, same, padded}
 
--- the images of a list compared with it
-pub same-map : {A : Type 0} (e : A → A → Bool) (f : A → A) (xs : List A) → same e (map f xs) xs ≡ all (λ x. e (f x) x) xs
-unfolding same all
-same-map e f [] = refl
-same-map e f (x ∷ xs) = rw (same-map e f xs)
+module _ {A : Type 0} (n : ℕ) (b : A) where
+  pub length-padded : (xs : List A) → length xs ≤ n → length (padded n b xs) ≡ n
+  unfolding padded
+  length-padded xs h = length-append xs (replicate (n - length xs) b) ∙ omega (arith, length-replicate (n - length xs) b)
 
+  pub take-padded : (xs : List A) → take (length xs) (padded n b xs) ≡ xs
+  unfolding padded
+  take-padded xs = take-append-seam xs (replicate (n - length xs) b)
+
+  pub drop-padded : (xs : List A) → drop (length xs) (padded n b xs) ≡ replicate (n - length xs) b
+  unfolding padded
+  drop-padded xs = drop-append-seam xs (replicate (n - length xs) b)
+
+  -- a place of the list, and one behind it
+  pub padded-at : (xs : List A) (i : ℕ) (d : A) → i < length xs → getD (padded n b xs) i d ≡ getD xs i d
+  unfolding padded
+  padded-at xs i d h = List·getD-append xs (replicate (n - length xs) b) d i h
+
+  pub padded-behind : (xs : List A) (i : ℕ) (d : A) → length xs ≤ i → i < n → getD (padded n b xs) i d ≡ b
+  unfolding padded
+  padded-behind xs i d h g =
+      let k = i - length xs in
+      let e : i ≡ length xs + k = omega arith in
+      ap (λ (j : ℕ). getD (xs ++ replicate (n - length xs) b) j d) e
+      ∙ getD-append-add xs (replicate (n - length xs) b) k d ∙ getD-replicate (n - length xs) k b d (omega arith)
+
+  -- one element more is a store at the first place behind the list
+  pub padded-more : (xs : List A) (x : A) → length xs < n → padded n b (xs ++ (x ∷ [])) ≡ set (padded n b xs) (length xs) x
+  unfolding padded
+  padded-more xs x h =
+      let m = n - suc (length xs) in
+      let e : n - length (xs ++ (x ∷ [])) ≡ m = omega (arith, length-append xs (x ∷ [])) in
+      let f : n - length xs ≡ suc m = omega arith in
+      rw (e, f, append-snoc xs x (replicate m b)) (sym (set-append-seam xs b (replicate m b) x))
+
+  -- a list as long as the array is the array
+  pub padded-full : (xs : List A) → length xs ≡ n → padded n b xs ≡ xs
+  unfolding padded
+  padded-full xs e = let f : n - length xs ≡ 0 = omega arith in rw (f, append-nil)
+
+-- the elements mapped
+pub take-padded-map : {A B : Type 0} (f : A → B) (n : ℕ) (b : B) (xs : List A) → take (length xs) (padded n b (map f xs)) ≡ map f xs
+take-padded-map f n b xs = rw (← length-map xs f) (take-padded n b (map f xs))
+
+pub padded-more-map : {A B : Type 0} (f : A → B) (n : ℕ) (b : B) (xs : List A) (x : A) → length xs < n
+    → padded n b (map f (xs ++ (x ∷ []))) ≡ set (padded n b (map f xs)) (length xs) (f x)
+padded-more-map f n b xs x h =
+    let l : length (map f xs) < n = omega (arith, length-map xs f) in
+    rw (map-append f xs (x ∷ []), padded-more n b (map f xs) (f x) l, length-map xs f)
+
+-- compared with another array: the list with the first places, the blank with the rest
 module _ {A : Type 0} (e : A → A → Bool) (blank : A) where
   same-blank : (xs : List A) → same e (replicate (length xs) blank) xs ≡ all (e blank) xs
   unfolding same all
   same-blank [] = refl
   same-blank (x ∷ xs) = rw (same-blank xs)
 
-  -- the list fits the array
   pub same-padded : (ys xs : List A) → length ys ≤ length xs
       → same e (padded (length xs) blank ys) xs ≡ (same e ys (take (length ys) xs) && all (e blank) (drop (length ys) xs))
   unfolding same padded
   same-padded [] xs h = rw sub-zero (same-blank xs)
   same-padded (y ∷ ys) [] h = absurd (not-suc-le-zero h)
   same-padded (y ∷ ys) (x ∷ xs) h = rw (suc-sub-suc, same-padded ys xs (le-of-suc-le-suc h), and-assoc)
+
+-- the images of a list compared with it
+pub same-map : {A : Type 0} (e : A → A → Bool) (f : A → A) (xs : List A) → same e (map f xs) xs ≡ all (λ x. e (f x) x) xs
+unfolding same all
+same-map e f [] = refl
+same-map e f (x ∷ xs) = rw (same-map e f xs)
