@@ -29,6 +29,7 @@ use Rattle.policy.specs.declared.value.Entry.{Entry}
 use Rattle.policy.specs.declared.value.Register.{Register}
 use Rattle.policy.specs.declared.value.RuleValue.{RuleValue}
 use Rattle.policy.specs.declared.value.Slot.{Slot}
+use Rattle.policy.proofs.Same.{exact-number, exact-line, exact-entry, exact-slot}
 use Rattle.policy.proofs.Sound.{widthsSound, linesSound, entriesSound}
 use Rattle.validity.specs.Parts.{holds, widthsValid, linesValid, registerValid}
 
@@ -48,19 +49,6 @@ module _ {A : Type 0} (e : A → A → Bool) (blank : A) (xs : List A) (n m : �
       let s : same e (padded (length xs) blank (take n xs)) xs ≡ (same e (take n xs) (take (length (take n xs)) xs) && all (e blank) (drop (length (take n xs)) xs))
             = same-padded e blank (take n xs) xs (omega arith) in
       rw (eq-eqb (length (take n xs)) n l, ← k, s, l, same-self e r (take n xs))
-
--- the tests of two elements pass for an element and itself
-eqb-self : (n : ℕ) → eqb n n ≡ true
-eqb-self n = eq-eqb n n refl
-
-line-self : (l : Direct) → sameLine l l ≡ true
-line-self l = rw (eqb-self (l .senior), eqb-self (l .junior))
-
-entry-self : (x : Entry) → sameEntry x x ≡ true
-entry-self x = rw (eqb-self (x .number), eqb-self (x .set))
-
-slot-self : (x : Slot) → sameSlot x x ≡ true
-slot-self x = same-self eqb eqb-self (written (x .word))
 
 -- ---- a blank place
 
@@ -102,13 +90,13 @@ module _ (most : ℕ) (ws : List ℕ) (n : ℕ) (k : length ws ≡ widthPlaces) 
   pub widths-stored : 1 ≤ n → n ≤ widthPlaces → {b r : Bool} → b ≡ widthsSound most 0 (take n ws) → b ≡ true → r ≡ all (eqb 0) (drop n ws) → r ≡ widthsValid most ws n
   unfolding widthsValid
   widths-stored h g q e t =
-      rw (← q, e, le-leb 1 (length (take n ws)) (omega (arith, length-take n ws)), and-true, holds-in eqb 0 ws n widthPlaces k eqb-self g) t
+      rw (← q, e, le-leb 1 (length (take n ws)) (omega (arith, length-take n ws)), and-true, holds-in eqb 0 ws n widthPlaces k (exact-number .self) g) t
 
 pub lines-stored : (ls : List Direct) (n : ℕ) → length ls ≡ linePlaces → n ≤ linePlaces → holds sameLine linePlaces (direct 0 0) ls n ≡ all (sameLine (direct 0 0)) (drop n ls)
-lines-stored ls n k h = holds-in sameLine (direct 0 0) ls n linePlaces k line-self h
+lines-stored ls n k h = holds-in sameLine (direct 0 0) ls n linePlaces k (exact-line .self) h
 
 pub entries-stored : (es : List Entry) (n : ℕ) → length es ≡ entryPlaces → n ≤ entryPlaces → holds sameEntry entryPlaces noEntry es n ≡ all (sameEntry noEntry) (drop n es)
-entries-stored es n k h = holds-in sameEntry noEntry es n entryPlaces k entry-self h
+entries-stored es n k h = holds-in sameEntry noEntry es n entryPlaces k (exact-entry .self) h
 
 pub register-is : (most : ℕ) (s : Side) (x : Register)
     → registerValid most s x ≡ (holds sameEntry entryPlaces noEntry (x .entries) (x .count) && entriesSound most s none (take (x .count) (x .entries)))
@@ -118,13 +106,13 @@ register-is most s x = refl
 module _ (x : RuleValue) (k : length (x .words) ≡ wordPlaces) where
   rule-holds : sameRule (ruleValue (ruleOf x)) x ≡ holds sameSlot wordPlaces (slot True) (x .words) (x .count)
   unfolding sameRule ruleValue ruleOf holds
-  rule-holds = rw (eqb-self (x .action), length-map, map-map, map-id)
+  rule-holds = rw (exact-number .self (x .action), length-map, map-map, map-id)
 
   pub rule-out : wordPlaces < x .count → sameRule (ruleValue (ruleOf x)) x ≡ false
   rule-out h = rule-holds ∙ holds-out sameSlot (slot True) (x .words) (x .count) wordPlaces k h
 
   pub rule-stored : x .count ≤ wordPlaces → sameRule (ruleValue (ruleOf x)) x ≡ all (sameSlot (slot True)) (drop (x .count) (x .words))
-  rule-stored h = rule-holds ∙ holds-in sameSlot (slot True) (x .words) (x .count) wordPlaces k slot-self h
+  rule-stored h = rule-holds ∙ holds-in sameSlot (slot True) (x .words) (x .count) wordPlaces k (exact-slot .self) h
 
 module _ (x : RuleValue) where
   pub blank-action : (x .action ≡ 0 → ⊥) → false ≡ sameRule noRule x

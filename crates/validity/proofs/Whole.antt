@@ -18,16 +18,18 @@ use Rattle.policy.specs.Limits.{isForm, values, actions, userNumbers, objectNum
 use Rattle.policy.specs.Policy.{Side, Policy, total}
 use Rattle.policy.specs.Checks.{wordFits, widthsEqual, balanced}
 use Rattle.policy.specs.Value.{widthPlaces, wordPlaces, rulePlaces, slot, noRule, register, sideOf, sideValue, entriesOf, ruleOf, ruleValue, rulesOf, rulesValue, policyOf, valueOf}
-use Rattle.policy.specs.Valid.{sameSlot, sameSide, sameRegister, sameRule, sameRules, sameValue}
+use Rattle.policy.specs.Valid.{sameSlot, sameSide, sameRegister, sameRule, sameRules, sameValue, valid}
 use Rattle.policy.specs.declared.value.SideValue.{SideValue}
 use Rattle.policy.specs.declared.value.RuleValue.{RuleValue}
 use Rattle.policy.specs.declared.value.Rules.{Rules}
 use Rattle.policy.specs.declared.value.PolicyValue.{PolicyValue}
+use Rattle.policy.proofs.Parts.{actionAbove, rules-rising}
+use Rattle.policy.proofs.Valid.{valid-sound}
 use Rattle.policy.proofs.Sound.{widthsSound, linesSound, sideSound, entriesSound, ruleSound, rulesSound, listsSound, sound}
 use Rattle.checks.specs.Sides.{Shaped, wordsIn}
 use Rattle.checks.specs.declared.side.Shape.{Shape}
 use Rattle.validity.specs.Parts.{holds, widthsValid, linesValid, sideValid, registerValid, ruleValid, rulesRising, rulesValid, listsValid}
-use Rattle.validity.proofs.Rising.{rules-rise, rising-all, action, actionAbove}
+use Rattle.validity.proofs.Rising.{rising-map, rising-all}
 use Rattle.validity.proofs.Widths.{sound-sum}
 
 -- ---- a side
@@ -60,7 +62,7 @@ unfolding widthsValid holds
 widths-small most ws n k e =
     let l = eqb-true (length (take n ws)) n (and-left _ _ (and-left (eqb (length (take n ws)) n && _) _ e)) in
     let s = and-right (leb 1 (length (take n ws))) _ (and-right (eqb (length (take n ws)) n && _) _ e) in
-    record { places = omega (arith, length-take n ws); small = omega (arith, sound-sum most 0 (take n ws) (omega arith) s) }
+    record { places = omega (arith, length-take n ws); small = sound-sum most (take n ws) s }
 
 pub side-small : (most : ℕ) (x : SideValue) → length (x .widths) ≡ widthPlaces → sideValid most x ≡ true → Small most (x .widths) (x .attributes)
 side-small most x k e =
@@ -100,9 +102,9 @@ module _ (p : Policy) (x : Rules) (k : length (x .entries) ≡ rulePlaces) where
 
   pub rules-in : x .count ≤ rulePlaces
       → rulesValid p x ≡ (all (sameRule noRule) (drop (x .count) (x .entries)) && rulesRising p (take (x .count) (x .entries)))
-  unfolding rulesValid rulesOf ruleValid
+  unfolding rulesValid rulesOf ruleOf ruleValid
   rules-in h =
-      rw (rules-stored h, rules-order (all (λ y. sameRule (ruleValue (ruleOf y)) y) (take (x .count) (x .entries))), rules-rise, rising-all)
+      rw (rules-stored h, rules-order (all (λ y. sameRule (ruleValue (ruleOf y)) y) (take (x .count) (x .entries))), rules-rising p none (map ruleOf (take (x .count) (x .entries))), rising-map (ruleSound p) actionAbove ruleOf none, rising-all)
 
 -- ---- the value
 
@@ -123,7 +125,7 @@ value-order true true true true true f false lo ku ko eu eo er = refl
 value-order true true true true true f true false ku ko eu eo er = simp and-false
 value-order true true true true true f true true ku ko eu eo er = refl
 
-pub value-parts : (v : PolicyValue)
+value-parts : (v : PolicyValue)
     → (sameValue (valueOf (policyOf v)) v && sound (policyOf v))
       ≡ (isForm (v .form) && (sideValid (values (v .form)) (v .user) && (sideValid (values (v .form)) (v .object) && listsValid v)))
 unfolding sameValue valueOf policyOf sound listsSound sideValid registerValid rulesValid listsValid
@@ -143,3 +145,7 @@ value-parts v =
     (entriesSound userNumbers (sideOf (v .user)) none (entriesOf (v .users)))
     (entriesSound objectNumbers (sideOf (v .object)) none (entriesOf (v .objects)))
     _)
+
+pub valid-by-parts : (v : PolicyValue)
+    → valid v ≡ (isForm (v .form) && (sideValid (values (v .form)) (v .user) && (sideValid (values (v .form)) (v .object) && listsValid v)))
+valid-by-parts v = valid-sound v ∙ value-parts v

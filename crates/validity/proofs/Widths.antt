@@ -5,24 +5,28 @@ use mathlib.Core.Bool.{Bool, true, false, _&&_}
 use mathlib.Core.List.{List, [], _∷_}
 use native.Mathlib.Nat.{add-zero}
 use native.Mathlib.Omega.{arith}
-use borrow.Author.Tests.{leb-true}
 use lib.Dec.{leb}
 use lib.ListN.{length, getD, take, drop}
 use Rattle.basis.specs.Lists.{sum}
-use Rattle.basis.proofs.Bools.{and-left, and-right}
 use Rattle.basis.proofs.Walk.{part-next, part-end}
 use Rattle.policy.specs.Policy.{Side, total}
 use Rattle.policy.specs.Checks.{widthFits}
+use Rattle.policy.proofs.Bounds.{width-fits, total-most}
+use Rattle.policy.proofs.Rising.{rising}
 use Rattle.policy.proofs.Sound.{widthsSound}
 
 pub record Summed (most : ℕ) (ws : List ℕ) (n t i : ℕ) : Type 0 where
   pub before : i ≤ n
   pub rest : widthsSound most 0 (take n ws) ≡ widthsSound most t (drop i (take n ws))
 
+-- a side with this sum
+abbrev alone : ℕ → Side
+alone t = record { widths = t ∷ []; lines = [] }
+
 -- what a width's check says of the sum before it
 fits-after : (most t w : ℕ) (b : Bool) → ((s : Side) → t ≡ total s → b ≡ widthFits most s w) → b ≡ (leb 1 w && (leb w most && leb (t + w) most))
 unfolding total sum widthFits
-fits-after most t w b f = rw (add-zero t) at (f (record { widths = t ∷ []; lines = [] }) (sym (add-zero t)))
+fits-after most t w b f = rw (add-zero t) at (f (alone t) (sym (add-zero t)))
 
 module _ {most : ℕ} {ws : List ℕ} {n : ℕ} where
   pub summed-none : Summed most ws n 0 0
@@ -46,15 +50,10 @@ module _ {most : ℕ} {ws : List ℕ} {n : ℕ} where
 
 -- a width that passes does not pass the limit
 pub sum-bound : (most t w : ℕ) (b : Bool) → ((s : Side) → t ≡ total s → b ≡ widthFits most s w) → b ≡ true → t + w ≤ most
-sum-bound most t w b f e =
-    leb-true (t + w) most (and-right (leb w most) _ (and-right (leb 1 w) _ (sym (fits-after most t w b f) ∙ e)))
+unfolding total sum
+sum-bound most t w b f e = rw (add-zero t) at (width-fits most (alone t) w (sym (f (alone t) (sym (add-zero t))) ∙ e) .fits)
 
 -- widths that pass sum to at most the limit
-pub sound-sum : (most t : ℕ) (ws : List ℕ) → t ≤ most → widthsSound most t ws ≡ true → t + sum ws ≤ most
-unfolding widthsSound sum
-sound-sum most t [] h e = omega arith
-sound-sum most t (w ∷ ws) h e =
-    let p = and-left (leb 1 w && (leb w most && leb (t + w) most)) (widthsSound most (t + w) ws) e in
-    let b : t + w ≤ most = leb-true (t + w) most (and-right (leb w most) _ (and-right (leb 1 w) _ p)) in
-    let r = sound-sum most (t + w) ws b (and-right (leb 1 w && (leb w most && leb (t + w) most)) (widthsSound most (t + w) ws) e) in
-    omega arith
+pub sound-sum : (most : ℕ) (ws : List ℕ) → widthsSound most 0 ws ≡ true → sum ws ≤ most
+unfolding total rising
+sound-sum most ws e = total-most most (record { widths = ws; lines = [] }) (record { widths = e; lines = refl })

@@ -2,11 +2,10 @@
 use Prim.Native.Nat.{ℕ}
 use mathlib.Core.Path.{_≡_}
 use mathlib.Core.Bool.{Bool, true, _&&_}
-use mathlib.Core.List.{List, [], _∷_}
-use mathlib.Core.Option.{Option, none, some}
+use mathlib.Core.List.{List}
+use mathlib.Core.Option.{none}
 use lib.Dec.{eqb, leb, ltb}
 use lib.ListN.{length, take}
-use Rattle.basis.specs.Choice.{given}
 use Rattle.basis.specs.Lists.{same, padded}
 use Rattle.seniority.specs.Seniority.{direct}
 use Rattle.seniority.specs.declared.Direct.{Direct}
@@ -19,9 +18,10 @@ use Rattle.policy.specs.declared.value.Register.{Register}
 use Rattle.policy.specs.declared.value.RuleValue.{RuleValue}
 use Rattle.policy.specs.declared.value.Rules.{Rules}
 use Rattle.policy.specs.declared.value.PolicyValue.{PolicyValue}
+use Rattle.policy.proofs.Rising.{rising}
+use Rattle.policy.proofs.Sound.{widthsSound, linesSound, sideSound, entriesSound, ruleSound, rulesSound}
 use Rattle.checks.specs.Sides.{Shaped}
 use Rattle.checks.specs.declared.side.Shape.{Shape}
-use Rattle.policy.proofs.Sound.{widthsSound, linesSound, sideSound, entriesSound, ruleSound, rulesSound}
 
 -- an array of m places holds n elements and is blank behind them
 unfoldable pub holds : {A : Type 0} → (A → A → Bool) → ℕ → A → List A → ℕ → Bool
@@ -54,13 +54,12 @@ pub record ShapedBy (n : ℕ) (u o : Shape) (p : Policy) : Type 0 where
 unfoldable pub ruleValid : Policy → RuleValue → Bool
 ruleValid p x = sameRule (ruleValue (ruleOf x)) x && ruleSound p (ruleOf x)
 
--- each element passes a test, and rises above the one before it by what is kept of that one
-unfoldable pub rising : {A K : Type 0} → (A → Bool) → (A → K) → (K → A → Bool) → Option K → List A → Bool
-rising f key above last [] = true
-rising f key above last (x ∷ xs) = f x && (given last true (λ k. above k x) && rising f key above (some (key x)) xs)
+abbrev pub actionRises : RuleValue → RuleValue → Bool
+actionRises b x = ltb (b .action) (x .action)
 
+-- rules that are valid one by one and rise
 abbrev pub rulesRising : Policy → List RuleValue → Bool
-rulesRising p xs = rising (ruleValid p) (λ (x : RuleValue). x .action) (λ a (x : RuleValue). ltb a (x .action)) none xs
+rulesRising p xs = rising (ruleValid p) actionRises none xs
 
 unfoldable pub rulesValid : Policy → Rules → Bool
 rulesValid p x = sameRules (rulesValue (rulesOf x)) x && rulesSound p none (rulesOf x)

@@ -1,9 +1,6 @@
 // Check 11 on a policy value: whether it is what reading some accepted text yields.
 ghost use mathlib.Core.Path.{_≡_};
-ghost use mathlib.Core.Bool.{_&&_};
-ghost use Rattle.policy.specs.Value.{policyOf, valueOf};
-ghost use Rattle.policy.specs.Valid.{sameValue};
-ghost use Rattle.policy.proofs.Sound.{sound};
+ghost use Rattle.policy.specs.Valid.{valid};
 ghost use Rattle.validity.specs.Parts.{SidesValid, listsValid};
 
 pub mod order;
@@ -40,7 +37,7 @@ fn lists_valid(v: PolicyValue) -> bool
 }
 
 pub fn check(v: PolicyValue) -> bool
-    ensures { λ r. ⌜ r ≡ (sameValue (valueOf (policyOf v)) v && sound (policyOf v)) ⌝ }
+    ensures { λ r. ⌜ r ≡ valid v ⌝ }
 {
     if !limits::is_form(v.form) {
         return false;

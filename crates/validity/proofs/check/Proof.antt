@@ -1,7 +1,7 @@
 -- `validity::check` meets its contract: by the form, both sides and the lists.
 use mathlib.Core.Path.{sym, _∙_}
 use borrow.Author.Tests.{not-true, not-false}
-use Rattle.validity.proofs.Whole.{value-parts}
+use Rattle.validity.proofs.Whole.{valid-by-parts}
 use borrow.Author.Needs.{needs}
 use Rattle.validity.proofs.check.Statement.{statement}
 use Rattle.validity.proofs.check.Tie as tie
@@ -12,7 +12,7 @@ is-form-requires c κs = search needs
 returns : tie.Need-returns
 returns c = 
     let f = c .before .is-form in
-    sym (value-parts (c .before .before .args .v) ∙ rw (← f .ensures, not-true (f .result) (c .if1 .taken)))
+    sym (valid-by-parts (c .before .before .args .v) ∙ rw (← f .ensures, not-true (f .result) (c .if1 .taken)))
 
 values-requires : tie.Need-values-requires
 values-requires c κs = search needs
@@ -25,7 +25,7 @@ returns-2 c =
     let f = c .before .before .before .before .before .is-form in
     let u = c .before .side-valid in
     let m = c .before .before .before .values .ensures in
-    sym (value-parts (c .before .before .before .before .before .before .args .v) ∙ rw (← f .ensures, not-false (f .result) (c .before .before .before .before .if1 .left), ← rw m at (u .ensures), not-true (u .result) (c .if2 .taken)))
+    sym (valid-by-parts (c .before .before .before .before .before .before .args .v) ∙ rw (← f .ensures, not-false (f .result) (c .before .before .before .before .if1 .left), ← rw m at (u .ensures), not-true (u .result) (c .if2 .taken)))
 
 side-valid-requires-2 : tie.Need-side-valid-requires-2
 side-valid-requires-2 c κs = search needs
@@ -36,7 +36,7 @@ returns-3 c =
     let m = c .before .before .before .before .before .before .values .ensures in
     let u = c .before .before .before .before .side-valid in
     let o = c .before .side-valid2 in
-    sym (value-parts (c .before .before .before .before .before .before .before .before .before .args .v)
+    sym (valid-by-parts (c .before .before .before .before .before .before .before .before .before .args .v)
       ∙ rw (← f .ensures, not-false (f .result) (c .before .before .before .before .before .before .before .if1 .left), ← rw m at (u .ensures), not-false (u .result) (c .before .before .before .if2 .left),
         ← rw m at (o .ensures), not-true (o .result) (c .if3 .taken)))
 
@@ -54,7 +54,7 @@ returns-4 c =
     let u = c .before .before .before .before .before .side-valid in
     let o = c .before .before .side-valid2 in
     c .lists-valid .ensures
-    ∙ sym (value-parts (c .before .before .before .before .before .before .before .before .before .before .args .v)
+    ∙ sym (valid-by-parts (c .before .before .before .before .before .before .before .before .before .before .args .v)
       ∙ rw (← f .ensures, not-false (f .result) (c .before .before .before .before .before .before .before .before .if1 .left), ← rw m at (u .ensures), not-false (u .result) (c .before .before .before .before .if2 .left),
         ← rw m at (o .ensures), not-false (o .result) (c .before .if3 .left)))
 

@@ -3,23 +3,26 @@ use Prim.Native.Nat.{_-_}
 use borrow.Author.Tests.{not-true, not-false}
 use mathlib.Core.Path.{_≡_}
 use mathlib.Core.Option.{none}
+use lib.Dec.{ltb}
 use lib.ListN.{take}
 use Rattle.policy.specs.Policy as policy
 use Rattle.policy.specs.Value.{noEntry}
+use Rattle.policy.specs.declared.value.Entry.{Entry}
 use Rattle.policy.proofs.Sound.{entriesSound}
-use Rattle.validity.proofs.Rising.{Risen, risen-none, risen-all, risen-unfit, risen-falls, risen-more, fitsIn, number, numberAbove, entries-rise}
+use Rattle.validity.proofs.Rising.{Risen, risen-none, risen-all, risen-unfit, risen-falls, risen-more}
+use Rattle.policy.proofs.Parts.{numberFits, entries-rising}
 use borrow.Author.Needs.{needs}
 use Rattle.validity.proofs.register.entries_sound.Statement.{statement}
 use Rattle.validity.proofs.register.entries_sound.Tie as tie
 
 abbrev Inv-loop : tie.InvT-loop
-Inv-loop most total n entries last₀ i₀ last i = Risen (λ s. total ≡ policy.total s) (λ s. entriesSound most s none (take n entries)) (fitsIn most) number numberAbove entries n i last
+Inv-loop most total n entries last₀ i₀ last i = Risen (λ s. total ≡ policy.total s) (λ s. entriesSound most s none (take n entries)) (numberFits most) (λ (e : Entry). e .number) (λ k (e : Entry). ltb k (e .number)) entries n i last
 
 abbrev μ-loop : tie.MeasureT-loop
 μ-loop most total n entries last₀ i₀ last i = n - i
 
 loop-holds : tie.Need-loop-holds Inv-loop μ-loop
-loop-holds c = risen-none (λ s. entries-rise _ s _)
+loop-holds c = risen-none (λ s. entries-rising _ s none _)
 
 mul-e : tie.Need-mul-e Inv-loop μ-loop
 mul-e c = search needs

@@ -2,16 +2,18 @@
 use Prim.Native.Nat.{_-_}
 use mathlib.Core.Path.{refl}
 use borrow.Author.Tests.{not-true, not-false}
+use lib.Dec.{ltb}
 use lib.ListN.{take}
+use Rattle.policy.specs.declared.value.RuleValue.{RuleValue}
 use Rattle.validity.specs.Parts.{ShapedBy, ruleValid, rulesRising}
-use Rattle.validity.proofs.Rising.{Risen, risen-none, risen-all, risen-unfit, risen-falls, risen-more, action, actionAbove}
+use Rattle.validity.proofs.Rising.{Risen, risen-none, risen-all, risen-unfit, risen-falls, risen-more}
 use Rattle.validity.proofs.Blank.{emptyRule}
 use borrow.Author.Needs.{needs}
 use Rattle.validity.proofs.rules.rules_sound.Statement.{statement}
 use Rattle.validity.proofs.rules.rules_sound.Tie as tie
 
 abbrev Inv-loop : tie.InvT-loop
-Inv-loop actions user object n rules last₀ i₀ last i = Risen (ShapedBy actions user object) (λ p. rulesRising p (take n rules)) ruleValid action actionAbove rules n i last
+Inv-loop actions user object n rules last₀ i₀ last i = Risen (ShapedBy actions user object) (λ p. rulesRising p (take n rules)) ruleValid (λ (x : RuleValue). x .action) (λ a (x : RuleValue). ltb a (x .action)) rules n i last
 
 abbrev μ-loop : tie.MeasureT-loop
 μ-loop actions user object n rules last₀ i₀ last i = n - i

@@ -6,7 +6,8 @@ use lib.ListN.{take}
 use Rattle.seniority.specs.Seniority.{direct}
 use Rattle.policy.proofs.Sound.{linesSound}
 use Rattle.checks.specs.Sides.{Shaped}
-use Rattle.validity.proofs.Rising.{Risen, risen-none, risen-all, risen-unfit, risen-falls, risen-more, lineFits, lineAbove, lines-rise}
+use Rattle.validity.proofs.Rising.{Risen, risen-none, risen-all, risen-unfit, risen-falls, risen-more}
+use Rattle.policy.proofs.Parts.{lineFits, lineAbove, lines-rising}
 use borrow.Author.Needs.{needs}
 use Rattle.validity.proofs.side.lines_sound.Statement.{statement}
 use Rattle.validity.proofs.side.lines_sound.Tie as tie
@@ -18,7 +19,7 @@ abbrev μ-loop : tie.MeasureT-loop
 μ-loop side n lines last₀ i₀ last i = n - i
 
 loop-holds : tie.Need-loop-holds Inv-loop μ-loop
-loop-holds c = risen-none (λ s. lines-rise s _)
+loop-holds c = risen-none (λ s. lines-rising s none _)
 
 mul-l : tie.Need-mul-l Inv-loop μ-loop
 mul-l c = search needs
