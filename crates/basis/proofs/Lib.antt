@@ -2,5 +2,7 @@ pub mod Bools
 pub mod Lists
 pub mod Numbers
 pub mod Same
-pub mod Stores
 pub mod Table
+pub mod Padded
+pub mod Walk
+pub mod Places

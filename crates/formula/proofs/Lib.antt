@@ -1,3 +1,4 @@
 pub mod Attributes
 pub mod Vectors
 pub mod Stack
+pub mod Rows

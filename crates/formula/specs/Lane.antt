@@ -2,7 +2,7 @@
 use Prim.Native.Nat.{ℕ, zero, suc, _+_, _^_, _≤_, _<_}
 use mathlib.Core.Path.{_≡_}
 use mathlib.Core.Bool.{Bool, true, false}
-use mathlib.Core.List.{List, [], _∷_, map}
+use mathlib.Core.List.{List, [], _∷_, map, List·Memᴰ}
 use lib.Bits.{bitOr}
 use lib.ListN.{length, getD, take, set}
 use Rattle.basis.specs.Numbers.{agree, implies}
@@ -10,7 +10,10 @@ use Rattle.sets.specs.Set.{has}
 use Rattle.seniority.specs.Seniority.{heldOrSenior, heldOrJunior}
 use Rattle.words.specs.declared.Word.{Word}
 use Rattle.policy.specs.Policy.{Side, Policy, total, start}
+use Rattle.policy.specs.Value.{wordPlaces, rulePlaces}
 use Rattle.policy.specs.declared.value.Slot.{Slot}
+use Rattle.policy.specs.declared.value.RuleValue.{RuleValue}
+use Rattle.policy.specs.declared.value.Rules.{Rules}
 use Rattle.formula.specs.declared.shape.Shape.{Shape}
 
 -- how many pairs there are
@@ -20,6 +23,10 @@ lanes = 64
 -- the most values of a side that the vectors have room for
 abbrev pub mostValues : ℕ
 mostValues = 7
+
+-- how many actions an entry has room for
+abbrev pub mostActions : ℕ
+mostActions = 8
 
 -- ---- attributes
 
@@ -73,3 +80,14 @@ passes false o u = implies o u
 unfoldable pub column : List ℕ → ℕ → ℕ → List Bool
 column stack zero k = []
 column stack (suc d) k = has (getD stack d 0) k ∷ column stack d k
+
+-- ---- rules
+
+pub record RuleFits (r : RuleValue) : Type 0 where
+  pub action : r .action < mostActions
+  pub words : r .count ≤ wordPlaces
+
+-- the rules before the count fit
+pub record RulesFit (rs : Rules) : Type 0 where
+  pub count : rs .count ≤ rulePlaces
+  pub each : (r : RuleValue) → List·Memᴰ r (take (rs .count) (rs .entries)) → RuleFits r

@@ -6,7 +6,7 @@ use native.Mathlib.Omega.{arith}
 use lib.ListN.{length, getD, take, length-set, length-take}
 use borrow.Author.Needs.{needs}
 use Rattle.basis.specs.Lists.{sum}
-use Rattle.basis.proofs.Stores.{stored-next}
+use Rattle.basis.proofs.Places.{stored-next}
 use Rattle.policy.specs.Policy.{total, start}
 use Rattle.formula.proofs.Attributes.{sum-le, width-in, width-out}
 use Rattle.formula.proofs.shape.starts.Statement.{statement}
