@@ -49,3 +49,7 @@ pub start-past : (s : Side) (xs : List ℕ) → Starts s xs → (i : ℕ) → mo
 unfolding start
 start-past s xs x i h =
     x .at mostValues (omega arith) ∙ ap sum (take-all mostValues (s .widths) (x .few) ∙ sym (take-all i (s .widths) (omega (arith, x .few))))
+
+pub values-at : (s : Side) (xs : List ℕ) → Starts s xs → getD xs mostValues 0 ≡ total s
+unfolding start total
+values-at s xs x = x .at mostValues (omega arith) ∙ ap sum (take-all mostValues (s .widths) (x .few))

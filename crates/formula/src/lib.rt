@@ -4,6 +4,7 @@ use policy::refusal::Refusal;
 pub mod shape;
 pub mod side;
 pub mod evaluate;
+pub mod rules;
 pub mod entries;
 
 // The answer to whether an action is granted.
