@@ -1,16 +1,12 @@
 -- What check 11 gives the evaluator: few values, ordered lines, and rules whose actions and words fit.
-use Prim.Native.Nat.{ℕ}
 use mathlib.Core.Path.{_≡_, subst}
 use mathlib.Core.Bool.{true}
-use mathlib.Core.List.{List}
-use lib.ListN.{length}
 use Rattle.basis.proofs.Padded.{take-padded, take-padded-map}
 use Rattle.basis.proofs.Places.{mapped-each}
-use Rattle.seniority.specs.Seniority.{direct, Ordered}
+use Rattle.seniority.specs.Seniority.{direct}
 use Rattle.seniority.proofs.Laws.{ordered-more}
-use Rattle.policy.specs.Limits.{values}
-use Rattle.policy.specs.Policy.{Side, Rule, Policy, total}
-use Rattle.policy.specs.Value.{linePlaces, rulePlaces, sideOf, sideValue, ruleValue, rulesValue, noRule, valueOf, policyOf}
+use Rattle.policy.specs.Policy.{Side, Policy, total}
+use Rattle.policy.specs.Value.{linePlaces, rulePlaces, sideValue, ruleValue, rulesValue, noRule, valueOf, policyOf}
 use Rattle.policy.specs.Valid.{valid}
 use Rattle.policy.specs.declared.value.PolicyValue.{PolicyValue}
 use Rattle.policy.proofs.Sound.{WithinSide, sound}

@@ -5,7 +5,7 @@ use native.Mathlib.Nat.{div-one}
 use lib.Dec.{eqb, lit<}
 use borrow.Author.Needs.{needs}
 use Rattle.policy.specs.Value.{sideOf, policyOf}
-use Rattle.formula.specs.Lane.{lanes, Pair}
+use Rattle.formula.specs.Lane.{Pair}
 use Rattle.formula.proofs.granted.Statement.{statement}
 use Rattle.formula.proofs.granted.Tie as tie
 
