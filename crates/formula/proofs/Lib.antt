@@ -3,3 +3,4 @@ pub mod Vectors
 pub mod Stack
 pub mod Rows
 pub mod Checked
+pub mod Answers
