@@ -1,8 +1,12 @@
 pub mod Bools
+pub mod Choice
+pub mod Counting
 pub mod Lists
 pub mod Numbers
-pub mod Same
-pub mod Table
+pub mod Over
 pub mod Padded
-pub mod Walk
 pub mod Places
+pub mod Same
+pub mod Snoc
+pub mod Table
+pub mod Walk

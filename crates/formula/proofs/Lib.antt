@@ -4,3 +4,4 @@ pub mod Stack
 pub mod Rows
 pub mod Checked
 pub mod Answers
+pub mod Examples
