@@ -60,3 +60,13 @@ fn answer(v: PolicyValue, action: u32, user: u32, object: u32) -> Decision
     }
     if granted(v, s, action, user, object) { Decision::Granted } else { Decision::Denied }
 }
+
+// Whether an action is granted to a user set on an object set, by the action's formula.
+pub fn decide(v: PolicyValue, action: u32, user: u32, object: u32) -> Decision
+    ensures { λ r. ⌜ replyOf r ≡ spec.decide v action user object ⌝ }
+{
+    if !validity::check(v) {
+        return Decision::Refused(Refusal::InvalidState);
+    }
+    answer(v, action, user, object)
+}
