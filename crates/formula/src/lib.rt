@@ -1,6 +1,6 @@
 // What formulas decide. A formula is evaluated at 64 pairs of a user set and an object set at once: bit k of a number is the truth at pair k.
-use crate::entries::ACTIONS;
 use crate::shape::Shape;
+use checks::limits;
 use policy::refusal::Refusal;
 use policy::value::PolicyValue;
 ghost use mathlib.Core.Path.{_≡_};
@@ -13,11 +13,11 @@ ghost use Rattle.formula.specs.Decide as spec;
 ghost use Rattle.formula.specs.Decide.{replyOf};
 ghost use Rattle.formula.specs.Lane.{mostValues, ShapeOf, ValueFits};
 
-pub mod shape;
-pub mod side;
+pub mod entries;
 pub mod evaluate;
 pub mod rules;
-pub mod entries;
+pub mod shape;
+pub mod side;
 
 // The answer to whether an action is granted.
 pub enum Decision {
@@ -49,7 +49,7 @@ fn answer(v: PolicyValue, action: u32, user: u32, object: u32) -> Decision
     requires { ⌜ valid v ≡ true ⌝ }
     ensures { λ r. ⌜ replyOf r ≡ spec.decide v action user object ⌝ }
 {
-    if ACTIONS as u32 <= action {
+    if limits::actions(v.form) <= action {
         return Decision::Refused(Refusal::UnknownAction);
     }
     let user_side = v.user;
@@ -58,7 +58,11 @@ fn answer(v: PolicyValue, action: u32, user: u32, object: u32) -> Decision
     if shape::lacks(s, user, object) {
         return Decision::Refused(Refusal::SetOutOfReach);
     }
-    if granted(v, s, action, user, object) { Decision::Granted } else { Decision::Denied }
+    if granted(v, s, action, user, object) {
+        Decision::Granted
+    } else {
+        Decision::Denied
+    }
 }
 
 // Whether an action is granted to a user set on an object set, by the action's formula.

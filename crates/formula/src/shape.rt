@@ -55,7 +55,11 @@ pub fn of_sides(user: SideValue, object: SideValue) -> Shape
 pub fn start(starts: [u8; VALUES + 1], i: usize) -> u8
     ensures { λ r. ⌜ ((s : Side) → Starts s starts → r ≡ startOf s i) ⌝ }
 {
-    if i < VALUES { starts[i] } else { starts[VALUES] }
+    if i < VALUES {
+        starts[i]
+    } else {
+        starts[VALUES]
+    }
 }
 
 // The width of attribute i, or 0 where there is no attribute i.

@@ -8,33 +8,35 @@ use Rattle.formula.proofs.Answers.{sets-fit, no-action, no-set, by-form
 use Rattle.formula.proofs.answer.Statement.{statement}
 use Rattle.formula.proofs.answer.Tie as tie
 
-cast-if1 : tie.Need-cast-if1
-cast-if1 c = search needs
+actions-requires : tie.Need-actions-requires
+actions-requires c κs = search needs
 
 returns : tie.Need-returns
-returns c = let a = c .before .args in no-action (a .v) (a .action) (a .user) (a .object) (c .before .pre) (c .if1 .taken)
+returns c =
+    let t = c .before .before in let a = t .args in
+    no-action (a .v) (a .action) (a .user) (a .object) (t .pre) (rw (c .before .actions .ensures) at (c .if1 .taken))
 
 of-sides-requires : tie.Need-of-sides-requires
 of-sides-requires c κs =
-    let t = c .before .before .before in let f = valid-fits (t .args .v) (t .pre) in (f .user, f .object)
+    let t = c .before .before .before .before in let f = valid-fits (t .args .v) (t .pre) in (f .user, f .object)
 
 lacks-requires : tie.Need-lacks-requires
 unfolding policyOf
 lacks-requires c κs =
-    let v = c .before .before .before .before .args .v in (policyOf v, c .of-sides .ensures (policyOf v) refl refl)
+    let v = c .before .before .before .before .before .args .v in (policyOf v, c .of-sides .ensures (policyOf v) refl refl)
 
 returns-2 : tie.Need-returns-2
 unfolding policyOf
 returns-2 c =
-    let t = c .before .before .before .before .before .before in let a = t .args in
+    let n = c .before .before .before .before .before in let t = n .before .before in let a = t .args in
     let p = policyOf (a .v) in
-    no-set (a .v) (a .action) (a .user) (a .object) (t .pre) (c .before .before .before .before .before .if1 .left)
+    no-set (a .v) (a .action) (a .user) (a .object) (t .pre) (rw (n .before .actions .ensures) at (n .if1 .left))
     (sym (c .before .lacks .ensures p (c .before .before .of-sides .ensures p refl refl)) ∙ c .if2 .taken)
 
 granted-requires : tie.Need-granted-requires
 unfolding policyOf
 granted-requires c κs =
-    let t = c .before .before .before .before .before .before in let a = t .args in
+    let t = c .before .before .before .before .before .before .before in let a = t .args in
     let p = policyOf (a .v) in
     let x = c .before .before .of-sides .ensures p refl refl in
     let f = sets-fit p (c .before .before .of-sides .result) x (a .user) (a .object) (sym (c .before .lacks .ensures p x) ∙ c .if2 .left) in
@@ -43,18 +45,18 @@ granted-requires c κs =
 returns-3 : tie.Need-returns-3
 unfolding policyOf
 returns-3 c =
-    let t = c .before .before .before .before .before .before .before .before in let a = t .args in
+    let n = c .before .before .before .before .before .before .before in let t = n .before .before in let a = t .args in
     let p = policyOf (a .v) in
-    by-formula (a .v) (a .action) (a .user) (a .object) (t .pre) (c .before .before .before .before .before .before .before .if1 .left)
+    by-formula (a .v) (a .action) (a .user) (a .object) (t .pre) (rw (n .before .actions .ensures) at (n .if1 .left))
     (sym (c .before .before .before .lacks .ensures p (c .before .before .before .before .of-sides .ensures p refl refl)) ∙ c .before .before .if2 .left)
     (c .before .granted .result) true (c .before .granted .ensures) (c .if3 .taken)
 
 returns-4 : tie.Need-returns-4
 unfolding policyOf
 returns-4 c =
-    let t = c .before .before .before .before .before .before .before .before in let a = t .args in
+    let n = c .before .before .before .before .before .before .before in let t = n .before .before in let a = t .args in
     let p = policyOf (a .v) in
-    by-formula (a .v) (a .action) (a .user) (a .object) (t .pre) (c .before .before .before .before .before .before .before .if1 .left)
+    by-formula (a .v) (a .action) (a .user) (a .object) (t .pre) (rw (n .before .actions .ensures) at (n .if1 .left))
     (sym (c .before .before .before .lacks .ensures p (c .before .before .before .before .of-sides .ensures p refl refl)) ∙ c .before .before .if2 .left)
     (c .before .granted .result) false (c .before .granted .ensures) (c .if3 .left)
 
@@ -62,7 +64,7 @@ pub answer-spec : {M : Type 1} → statement M
 answer-spec =
     tie.close
     (tie.spec
-    cast-if1
+    actions-requires
     returns
     of-sides-requires
     lacks-requires
