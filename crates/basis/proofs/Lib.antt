@@ -5,6 +5,7 @@ pub mod Lists
 pub mod Numbers
 pub mod Over
 pub mod Padded
+pub mod Places
 pub mod Same
 pub mod Snoc
 pub mod Table
