@@ -1,0 +1,84 @@
+use borrow.Author.Needs.{needs}
+use Rattle.writer.proofs.lines.put_rules.Statement.{statement}
+use Rattle.writer.proofs.lines.put_rules.Tie as tie
+use Rattle.writer.proofs.lines.put_rules.Reads as reads
+use Rattle.writer.proofs.lines.put_rules.Lts as lts
+use Rattle.writer.proofs.line.put_rule.Reads as put-rule-reads
+
+abbrev Inv-loop : tie.InvT-loop
+Inv-loop word n buf₀ rules at₀ i₀ buf at i = ?
+
+abbrev μ-loop : tie.MeasureT-loop
+μ-loop word n buf₀ rules at₀ i₀ buf at i = ?
+
+-- src/lines.rt:68:5
+loop-holds : tie.Need-loop-holds Inv-loop μ-loop
+loop-holds c = search needs
+
+-- src/lines.rt:69:20
+mul-rule : tie.Need-mul-rule Inv-loop μ-loop
+mul-rule c = search needs
+
+-- src/lines.rt:69:20
+array-copy-out-rule : tie.Need-array-copy-out-rule Inv-loop μ-loop
+array-copy-out-rule c = search needs
+
+-- src/lines.rt:71:77
+sub-put-rule : tie.Need-sub-put-rule Inv-loop μ-loop
+sub-put-rule c = search needs
+
+-- src/lines.rt:71:77
+part-put-rule-start : tie.Need-part-put-rule-start Inv-loop μ-loop
+part-put-rule-start c = search needs
+
+-- src/lines.rt:71:77
+part-put-rule-end : tie.Need-part-put-rule-end Inv-loop μ-loop
+part-put-rule-end c = search needs
+
+-- src/lines.rt:71:13
+put-rule-requires : tie.Need-put-rule-requires Inv-loop μ-loop
+put-rule-requires c κs = search needs
+
+-- src/lines.rt:72:14
+add-at : tie.Need-add-at Inv-loop μ-loop
+add-at c = search needs
+
+-- src/lines.rt:73:9
+add-i : tie.Need-add-i Inv-loop μ-loop
+add-i c = search needs
+
+-- src/lines.rt:68:5
+loop-less : tie.Need-loop-less Inv-loop μ-loop
+loop-less c = search needs
+
+-- src/lines.rt:68:5
+loop-again : tie.Need-loop-again Inv-loop μ-loop
+loop-again c = search needs
+
+-- src/lines.rt:62:1
+same-length : tie.Need-same-length Inv-loop μ-loop
+same-length c = search needs
+
+-- src/lines.rt:62:1
+returns : tie.Need-returns Inv-loop μ-loop
+returns c = search needs
+
+pub put-rules-spec : {M : Type 1} → statement M
+put-rules-spec =
+    tie.close
+    (tie.spec
+    Inv-loop
+    μ-loop
+    loop-holds
+    mul-rule
+    array-copy-out-rule
+    sub-put-rule
+    part-put-rule-start
+    part-put-rule-end
+    put-rule-requires
+    add-at
+    add-i
+    loop-less
+    loop-again
+    same-length
+    returns)
