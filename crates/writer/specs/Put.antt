@@ -71,17 +71,26 @@ ruleLine word a ws = ended ((word ++ field (decimal a)) ++ wordFields ws)
 abbrev pub widthLines : List ℕ → List ℕ → List ℕ
 widthLines word ws = each (oneLine word) ws
 
+abbrev pub pairLine : List ℕ → Direct → List ℕ
+pairLine word l = twoLine word (l .senior) (l .junior)
+
 abbrev pub pairLines : List ℕ → List Direct → List ℕ
-pairLines word ls = each (λ l. twoLine word (l .senior) (l .junior)) ls
+pairLines word ls = each (pairLine word) ls
+
+abbrev pub entryLine : List ℕ → Entry → List ℕ
+entryLine word e = twoLine word (e .number) (e .set)
 
 abbrev pub entryLines : List ℕ → List Entry → List ℕ
-entryLines word es = each (λ e. twoLine word (e .number) (e .set)) es
+entryLines word es = each (entryLine word) es
 
 abbrev pub wordsIn : RuleValue → List Slot
 wordsIn r = take (r .count) (r .words)
 
+abbrev pub ruleTextOf : List ℕ → RuleValue → List ℕ
+ruleTextOf word r = ruleLine word (r .action) (wordsIn r)
+
 abbrev pub ruleLines : List ℕ → List RuleValue → List ℕ
-ruleLines word rs = each (λ r. ruleLine word (r .action) (wordsIn r)) rs
+ruleLines word rs = each (ruleTextOf word) rs
 
 -- a rule's count is within its array, and its words can be spelt
 unfoldable pub writable : RuleValue → Bool

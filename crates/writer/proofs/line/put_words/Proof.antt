@@ -1,18 +1,14 @@
 -- `writer::line::put_words` meets its contract: after i turns the first i words are put.
-use Prim.Native.Nat.{ℕ, _≤_, _<_, _-_}
-use mathlib.Core.Path.{_≡_}
-use mathlib.Core.Bool.{true}
+use Prim.Native.Nat.{ℕ, _-_}
 use mathlib.Core.List.{List}
 use native.Mathlib.Omega.{arith}
-use lib.ListN.{length, getD, take}
-use lib.Seq.{length-take-le, getD-take}
-use Rattle.basis.proofs.Lists.{long, all-at, getD-in}
+use Rattle.basis.proofs.Lists.{long, all-taken}
 use Rattle.words.specs.Word.{written}
 use Rattle.words.proofs.RoundTrip.{inDigits}
 use Rattle.words.specs.declared.Word.the-variants.{True}
 use Rattle.policy.specs.Value.{slot}
 use Rattle.policy.specs.declared.value.Slot.{Slot}
-use Rattle.writer.specs.Put.{field, allInDigits}
+use Rattle.writer.specs.Put.{field}
 use Rattle.writer.proofs.Putting.{Run, run-start, run-end, run-next, run-put, next-start, next-rest, next-sum}
 use borrow.Author.Needs.{needs}
 use Rattle.writer.proofs.line.put_words.Statement.{statement}
@@ -29,12 +25,6 @@ Inv-loop n buf₀ words at₀ i₀ buf at i = Run fieldOf words n buf₀ i buf a
 
 abbrev μ-loop : tie.MeasureT-loop
 μ-loop n buf₀ words at₀ i₀ buf at i = n - i
-
--- a word before the count
-in-digits : (ws : List Slot) (n i : ℕ) → i < n → n ≤ length ws → allInDigits (take n ws) ≡ true → inDigits (getD ws i (slot True) .word) ≡ true
-in-digits ws n i h l a =
-    let k : i < length (take n ws) = omega (arith, length-take-le n ws l) in
-    rw (getD-take n ws i (slot True) h) at (all-at (λ s. inDigits (s .word)) (take n ws) a (getD (take n ws) i (slot True)) (getD-in (take n ws) i (slot True) k))
 
 -- src/line.rt:52:5
 loop-holds : tie.Need-loop-holds Inv-loop μ-loop
@@ -62,7 +52,7 @@ part-put-end c = search needs
 
 -- src/line.rt:55:13
 put-requires : tie.Need-put-requires Inv-loop μ-loop
-put-requires c κs = (search (in-digits, needs, long), next-rest (run-next (c .before .before .before .loop .inv) (slot True) (search needs)))
+put-requires c κs = (all-taken (λ s. inDigits (s .word)) (slot True) (c .before .before .before .before .before .args .t1) (c .before .before .before .before .before .args .n) (c .before .before .before .loop .i) (search needs) (c .before .before .before .loop .inv .places) (c .before .before .before .before .before .pre .1), next-rest (run-next (c .before .before .before .loop .inv) (slot True) (search needs)))
 
 -- src/line.rt:56:14
 add-at : tie.Need-add-at Inv-loop μ-loop

@@ -1,3 +1,18 @@
+-- `writer::lines::put_rules` meets its contract: after i turns the first i lines are put.
+use Prim.Native.Nat.{_-_, _≤_}
+use mathlib.Core.Path.{_≡_}
+use mathlib.Core.Bool.{true}
+use mathlib.Core.List.{[]}
+use native.Mathlib.Omega.{arith}
+use borrow.Author.Tests.{leb-true}
+use lib.Dec.{leb}
+use lib.ListN.{getD}
+use Rattle.basis.proofs.Bools.{and-left, and-right}
+use Rattle.basis.proofs.Lists.{long, all-taken}
+use Rattle.policy.specs.Value.{wordPlaces}
+use Rattle.policy.specs.declared.value.RuleValue.{RuleValue}
+use Rattle.writer.specs.Put.{allInDigits, wordsIn, ruleTextOf, writable}
+use Rattle.writer.proofs.Putting.{Run, run-start, run-end, run-next, run-put, next-start, next-rest, next-sum}
 use borrow.Author.Needs.{needs}
 use Rattle.writer.proofs.lines.put_rules.Statement.{statement}
 use Rattle.writer.proofs.lines.put_rules.Tie as tie
@@ -5,15 +20,29 @@ use Rattle.writer.proofs.lines.put_rules.Reads as reads
 use Rattle.writer.proofs.lines.put_rules.Lts as lts
 use Rattle.writer.proofs.line.put_rule.Reads as put-rule-reads
 
+-- past the end of the array
+abbrev noRule : RuleValue
+noRule = record { action = 0; count = 0; words = [] }
+
+-- a rule that can be written
+module _ (r : RuleValue) (h : writable r ≡ true) where
+  within : r .count ≤ wordPlaces
+  unfolding writable
+  within = leb-true (r .count) wordPlaces (and-left (leb (r .count) wordPlaces) (allInDigits (wordsIn r)) h)
+
+  spelt : allInDigits (wordsIn r) ≡ true
+  unfolding writable
+  spelt = and-right (leb (r .count) wordPlaces) (allInDigits (wordsIn r)) h
+
 abbrev Inv-loop : tie.InvT-loop
-Inv-loop word n buf₀ rules at₀ i₀ buf at i = ?
+Inv-loop word n buf₀ rules at₀ i₀ buf at i = Run (ruleTextOf word) rules n buf₀ i buf at
 
 abbrev μ-loop : tie.MeasureT-loop
-μ-loop word n buf₀ rules at₀ i₀ buf at i = ?
+μ-loop word n buf₀ rules at₀ i₀ buf at i = n - i
 
 -- src/lines.rt:68:5
 loop-holds : tie.Need-loop-holds Inv-loop μ-loop
-loop-holds c = search needs
+loop-holds c = run-start (search (needs, long)) (c .before .before .pre .2)
 
 -- src/lines.rt:69:20
 mul-rule : tie.Need-mul-rule Inv-loop μ-loop
@@ -25,11 +54,11 @@ array-copy-out-rule c = search needs
 
 -- src/lines.rt:71:77
 sub-put-rule : tie.Need-sub-put-rule Inv-loop μ-loop
-sub-put-rule c = search needs
+sub-put-rule c = next-start (run-next (c .before .before .before .loop .inv) noRule (search needs))
 
 -- src/lines.rt:71:77
 part-put-rule-start : tie.Need-part-put-rule-start Inv-loop μ-loop
-part-put-rule-start c = search needs
+part-put-rule-start c = next-start (run-next (c .before .before .before .loop .inv) noRule (search needs))
 
 -- src/lines.rt:71:77
 part-put-rule-end : tie.Need-part-put-rule-end Inv-loop μ-loop
@@ -37,11 +66,14 @@ part-put-rule-end c = search needs
 
 -- src/lines.rt:71:13
 put-rule-requires : tie.Need-put-rule-requires Inv-loop μ-loop
-put-rule-requires c κs = search needs
+put-rule-requires c κs =
+    let r = getD (c .before .before .before .before .before .before .before .args .t2) (c .before .before .before .before .loop .i) noRule in
+    let w : writable r ≡ true = all-taken writable noRule (c .before .before .before .before .before .before .before .args .t2) (c .before .before .before .before .before .before .before .args .n) (c .before .before .before .before .loop .i) (search needs) (c .before .before .before .before .loop .inv .places) (c .before .before .before .before .before .before .before .pre .1) in
+    (within r w, spelt r w, next-rest (run-next (c .before .before .before .before .loop .inv) noRule (search needs)))
 
 -- src/lines.rt:72:14
 add-at : tie.Need-add-at Inv-loop μ-loop
-add-at c = search needs
+add-at c = omega (arith, next-sum (run-next (c .before .before .before .before .before .before .before .loop .inv) noRule (search needs)) (c .before .before .put-rule .ensures))
 
 -- src/lines.rt:73:9
 add-i : tie.Need-add-i Inv-loop μ-loop
@@ -53,15 +85,15 @@ loop-less c = search needs
 
 -- src/lines.rt:68:5
 loop-again : tie.Need-loop-again Inv-loop μ-loop
-loop-again c = search needs
-
--- src/lines.rt:62:1
-same-length : tie.Need-same-length Inv-loop μ-loop
-same-length c = search needs
+loop-again c = run-put (c .before .before .before .before .before .before .before .loop .inv) noRule (search needs) (c .before .before .put-rule .ensures)
 
 -- src/lines.rt:62:1
 returns : tie.Need-returns Inv-loop μ-loop
-returns c = search needs
+returns c = run-end (c .before .loop .inv) (omega arith)
+
+-- src/lines.rt:62:1
+same-length : tie.Need-same-length Inv-loop μ-loop
+same-length c = returns c .long
 
 pub put-rules-spec : {M : Type 1} → statement M
 put-rules-spec =
