@@ -3,4 +3,5 @@ mod bytes;
 mod line;
 mod lines;
 mod number;
+mod whole;
 mod word;
