@@ -3,3 +3,5 @@ pub mod Lists
 pub mod Numbers
 pub mod Same
 pub mod Table
+pub mod Padded
+pub mod Walk

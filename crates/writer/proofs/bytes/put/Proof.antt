@@ -1,6 +1,5 @@
 -- `writer::bytes::put` meets its contract: after i turns the first i bytes are put.
 use Prim.Native.Nat.{ℕ, _+_, _-_, _≤_, _<_}
-use mathlib.Core.Path.{_≡_}
 use mathlib.Core.List.{List, [], _∷_}
 use native.Mathlib.Numerals.{add-one}
 use native.Mathlib.Omega.{arith}
@@ -12,8 +11,6 @@ use Rattle.writer.specs.Put.{Room, Put}
 use Rattle.writer.proofs.Putting.{put-none, next-byte}
 use Rattle.writer.proofs.bytes.put.Statement.{statement}
 use Rattle.writer.proofs.bytes.put.Tie as tie
-use Rattle.writer.proofs.bytes.put.Reads as reads
-use Rattle.writer.proofs.bytes.put.Lts as lts
 
 abbrev Inv-loop : tie.InvT-loop
 Inv-loop s buf₀ i₀ buf i = (i ≤ length s) × Put (take i s) buf₀ buf i
@@ -27,35 +24,27 @@ byte-next s b {m} {i} h l x =
     rw (add-one i, take-suc s i 0 h, ← add-one i)
     (next-byte (record { put = x; room = record { fits = omega (arith, l .fits, x .count, length-append (take i s) (getD s i 0 ∷ [])) } }))
 
--- src/field.rt:22:5
 loop-holds : tie.Need-loop-holds Inv-loop μ-loop
 loop-holds c = (search needs, put-none _)
 
--- src/field.rt:23:18
 shared-slice-read-buf : tie.Need-shared-slice-read-buf Inv-loop μ-loop
 shared-slice-read-buf c = search needs
 
--- src/field.rt:23:9
 slice-write-buf : tie.Need-slice-write-buf Inv-loop μ-loop
 slice-write-buf c = search needs
 
--- src/field.rt:24:9
 add-i : tie.Need-add-i Inv-loop μ-loop
 add-i c = search needs
 
--- src/field.rt:22:5
 loop-less : tie.Need-loop-less Inv-loop μ-loop
 loop-less c = search needs
 
--- src/field.rt:22:5
 loop-again : tie.Need-loop-again Inv-loop μ-loop
 loop-again c = (search needs, byte-next _ _ (search needs) (c .before .before .before .pre) (c .before .before .loop .inv .1))
 
--- src/field.rt:17:1
 same-length : tie.Need-same-length Inv-loop μ-loop
 same-length c = c .before .loop .inv .1 .long
 
--- src/field.rt:17:1
 returns : tie.Need-returns Inv-loop μ-loop
 returns c =
     let h : length (now (c .before .before .args .s)) ≤ c .before .loop .i = omega arith in

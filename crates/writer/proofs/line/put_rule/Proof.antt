@@ -4,48 +4,34 @@ use Rattle.writer.proofs.Putting.{shorter, next, next-start, next-rest,
 use borrow.Author.Needs.{needs}
 use Rattle.writer.proofs.line.put_rule.Statement.{statement}
 use Rattle.writer.proofs.line.put_rule.Tie as tie
-use Rattle.writer.proofs.line.put_rule.Reads as reads
-use Rattle.writer.proofs.line.put_rule.Lts as lts
-use Rattle.writer.proofs.line.put_first.Reads as put-first-reads
-use Rattle.writer.proofs.line.put_words.Reads as put-words-reads
 
--- src/line.rt:67:9
 put-first-requires : tie.Need-put-first-requires
 put-first-requires c κs = search (shorter, unended)
 
--- src/line.rt:68:33
 sub-put-words : tie.Need-sub-put-words
 sub-put-words c = next-start (next _ (c .before .before .put-first .ensures) (unended (c .before .before .before .before .before .before .pre .2)))
 
--- src/line.rt:68:33
 part-put-words-start : tie.Need-part-put-words-start
 part-put-words-start c = next-start (next _ (c .before .before .put-first .ensures) (unended (c .before .before .before .before .before .before .pre .2)))
 
--- src/line.rt:68:33
 part-put-words-end : tie.Need-part-put-words-end
 part-put-words-end c = search needs
 
--- src/line.rt:68:9
 put-words-requires : tie.Need-put-words-requires
 put-words-requires c κs = (c .before .before .before .before .before .before .before .pre .0, c .before .before .before .before .before .before .before .pre .1, next-rest (next _ (c .before .before .before .put-first .ensures) (unended (c .before .before .before .before .before .before .before .pre .2))))
 
--- src/line.rt:69:15
 add-end : tie.Need-add-end
 add-end c = omega (arith, next-sum (next _ (c .before .before .before .before .before .before .put-first .ensures) (unended (c .before .before .before .before .before .before .before .before .before .before .pre .2))) (c .before .before .put-words .ensures))
 
--- src/line.rt:70:5
 slice-write-buf : tie.Need-slice-write-buf
 slice-write-buf c = omega (arith, end-fits (c .before .before .before .before .before .before .before .before .before .before .pre .2) (next-put (next _ (c .before .before .before .before .before .before .put-first .ensures) (unended (c .before .before .before .before .before .before .before .before .before .before .pre .2))) (c .before .before .put-words .ensures)))
 
--- src/line.rt:71:5
 add-result : tie.Need-add-result
 add-result c = omega (arith, end-fits (c .before .before .before .before .before .before .before .before .before .before .pre .2) (next-put (next _ (c .before .before .before .before .before .before .put-first .ensures) (unended (c .before .before .before .before .before .before .before .before .before .before .pre .2))) (c .before .before .put-words .ensures)))
 
--- src/line.rt:63:1
 returns : tie.Need-returns
 returns c = end-put (c .before .before .before .before .before .before .before .before .before .before .pre .2) (next-put (next _ (c .before .before .before .before .before .before .put-first .ensures) (unended (c .before .before .before .before .before .before .before .before .before .before .pre .2))) (c .before .before .put-words .ensures))
 
--- src/line.rt:63:1
 same-length : tie.Need-same-length
 same-length c = returns c .long
 

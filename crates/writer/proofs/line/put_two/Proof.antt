@@ -4,48 +4,34 @@ use Rattle.writer.proofs.Putting.{shorter, next, next-start, next-rest,
 use borrow.Author.Needs.{needs}
 use Rattle.writer.proofs.line.put_two.Statement.{statement}
 use Rattle.writer.proofs.line.put_two.Tie as tie
-use Rattle.writer.proofs.line.put_two.Reads as reads
-use Rattle.writer.proofs.line.put_two.Lts as lts
-use Rattle.writer.proofs.line.put_first.Reads as put-first-reads
-use Rattle.writer.proofs.number.put.Reads as put-reads
 
--- src/line.rt:38:9
 put-first-requires : tie.Need-put-first-requires
 put-first-requires c κs = search (shorter, unended)
 
--- src/line.rt:39:35
 sub-put : tie.Need-sub-put
 sub-put c = next-start (next _ (c .before .before .put-first .ensures) (unended (c .before .before .before .before .before .before .pre)))
 
--- src/line.rt:39:35
 part-put-start : tie.Need-part-put-start
 part-put-start c = next-start (next _ (c .before .before .put-first .ensures) (unended (c .before .before .before .before .before .before .pre)))
 
--- src/line.rt:39:35
 part-put-end : tie.Need-part-put-end
 part-put-end c = search needs
 
--- src/line.rt:39:9
 put-requires : tie.Need-put-requires
 put-requires c κs = next-rest (next _ (c .before .before .before .put-first .ensures) (unended (c .before .before .before .before .before .before .before .pre)))
 
--- src/line.rt:40:15
 add-end : tie.Need-add-end
 add-end c = omega (arith, next-sum (next _ (c .before .before .before .before .before .before .put-first .ensures) (unended (c .before .before .before .before .before .before .before .before .before .before .pre))) (c .before .before .put .ensures))
 
--- src/line.rt:41:5
 slice-write-buf : tie.Need-slice-write-buf
 slice-write-buf c = omega (arith, end-fits (c .before .before .before .before .before .before .before .before .before .before .pre) (next-put (next _ (c .before .before .before .before .before .before .put-first .ensures) (unended (c .before .before .before .before .before .before .before .before .before .before .pre))) (c .before .before .put .ensures)))
 
--- src/line.rt:42:5
 add-result : tie.Need-add-result
 add-result c = omega (arith, end-fits (c .before .before .before .before .before .before .before .before .before .before .pre) (next-put (next _ (c .before .before .before .before .before .before .put-first .ensures) (unended (c .before .before .before .before .before .before .before .before .before .before .pre))) (c .before .before .put .ensures)))
 
--- src/line.rt:34:1
 returns : tie.Need-returns
 returns c = end-put (c .before .before .before .before .before .before .before .before .before .before .pre) (next-put (next _ (c .before .before .before .before .before .before .put-first .ensures) (unended (c .before .before .before .before .before .before .before .before .before .before .pre))) (c .before .before .put .ensures))
 
--- src/line.rt:34:1
 same-length : tie.Need-same-length
 same-length c = returns c .long
 

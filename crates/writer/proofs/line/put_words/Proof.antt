@@ -13,9 +13,6 @@ use Rattle.writer.proofs.Putting.{Run, run-start, run-end, run-next, ru
 use borrow.Author.Needs.{needs}
 use Rattle.writer.proofs.line.put_words.Statement.{statement}
 use Rattle.writer.proofs.line.put_words.Tie as tie
-use Rattle.writer.proofs.line.put_words.Reads as reads
-use Rattle.writer.proofs.line.put_words.Lts as lts
-use Rattle.writer.proofs.word.put.Reads as put-reads
 
 abbrev fieldOf : Slot → List ℕ
 fieldOf s = field (written (s .word))
@@ -26,55 +23,42 @@ Inv-loop n buf₀ words at₀ i₀ buf at i = Run fieldOf words n buf₀ i buf a
 abbrev μ-loop : tie.MeasureT-loop
 μ-loop n buf₀ words at₀ i₀ buf at i = n - i
 
--- src/line.rt:52:5
 loop-holds : tie.Need-loop-holds Inv-loop μ-loop
 loop-holds c = run-start (search (needs, long)) (c .before .pre .2)
 
--- src/line.rt:53:20
 mul-slot : tie.Need-mul-slot Inv-loop μ-loop
 mul-slot c = search needs
 
--- src/line.rt:53:20
 array-copy-out-slot : tie.Need-array-copy-out-slot Inv-loop μ-loop
 array-copy-out-slot c = search needs
 
--- src/line.rt:55:37
 sub-put : tie.Need-sub-put Inv-loop μ-loop
 sub-put c = next-start (run-next (c .before .before .loop .inv) (slot True) (search needs))
 
--- src/line.rt:55:37
 part-put-start : tie.Need-part-put-start Inv-loop μ-loop
 part-put-start c = next-start (run-next (c .before .before .loop .inv) (slot True) (search needs))
 
--- src/line.rt:55:37
 part-put-end : tie.Need-part-put-end Inv-loop μ-loop
 part-put-end c = search needs
 
--- src/line.rt:55:13
 put-requires : tie.Need-put-requires Inv-loop μ-loop
 put-requires c κs = (all-taken (λ s. inDigits (s .word)) (slot True) (c .before .before .before .before .before .args .t1) (c .before .before .before .before .before .args .n) (c .before .before .before .loop .i) (search needs) (c .before .before .before .loop .inv .places) (c .before .before .before .before .before .pre .1), next-rest (run-next (c .before .before .before .loop .inv) (slot True) (search needs)))
 
--- src/line.rt:56:14
 add-at : tie.Need-add-at Inv-loop μ-loop
 add-at c = omega (arith, next-sum (run-next (c .before .before .before .before .before .before .loop .inv) (slot True) (search needs)) (c .before .before .put .ensures))
 
--- src/line.rt:57:9
 add-i : tie.Need-add-i Inv-loop μ-loop
 add-i c = search needs
 
--- src/line.rt:52:5
 loop-less : tie.Need-loop-less Inv-loop μ-loop
 loop-less c = search needs
 
--- src/line.rt:52:5
 loop-again : tie.Need-loop-again Inv-loop μ-loop
 loop-again c = run-put (c .before .before .before .before .before .before .loop .inv) (slot True) (search needs) (c .before .before .put .ensures)
 
--- src/line.rt:46:1
 returns : tie.Need-returns Inv-loop μ-loop
 returns c = run-end (c .before .loop .inv) (omega arith)
 
--- src/line.rt:46:1
 same-length : tie.Need-same-length Inv-loop μ-loop
 same-length c = c .before .loop .inv .put .long
 

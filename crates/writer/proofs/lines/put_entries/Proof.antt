@@ -8,9 +8,6 @@ use Rattle.writer.proofs.Putting.{Run, run-start, run-end, run-next, ru
 use borrow.Author.Needs.{needs}
 use Rattle.writer.proofs.lines.put_entries.Statement.{statement}
 use Rattle.writer.proofs.lines.put_entries.Tie as tie
-use Rattle.writer.proofs.lines.put_entries.Reads as reads
-use Rattle.writer.proofs.lines.put_entries.Lts as lts
-use Rattle.writer.proofs.line.put_two.Reads as put-two-reads
 
 abbrev Inv-loop : tie.InvT-loop
 Inv-loop word n buf₀ entries at₀ i₀ buf at i = Run (entryLine word) entries n buf₀ i buf at
@@ -18,55 +15,42 @@ Inv-loop word n buf₀ entries at₀ i₀ buf at i = Run (entryLine word) entrie
 abbrev μ-loop : tie.MeasureT-loop
 μ-loop word n buf₀ entries at₀ i₀ buf at i = n - i
 
--- src/lines.rt:52:5
 loop-holds : tie.Need-loop-holds Inv-loop μ-loop
 loop-holds c = run-start (search (needs, long)) (c .before .before .pre .1)
 
--- src/lines.rt:53:21
 mul-entry : tie.Need-mul-entry Inv-loop μ-loop
 mul-entry c = search needs
 
--- src/lines.rt:53:21
 array-copy-out-entry : tie.Need-array-copy-out-entry Inv-loop μ-loop
 array-copy-out-entry c = search needs
 
--- src/lines.rt:54:69
 sub-put-two : tie.Need-sub-put-two Inv-loop μ-loop
 sub-put-two c = next-start (run-next (c .before .before .loop .inv) noEntry (search needs))
 
--- src/lines.rt:54:69
 part-put-two-start : tie.Need-part-put-two-start Inv-loop μ-loop
 part-put-two-start c = next-start (run-next (c .before .before .loop .inv) noEntry (search needs))
 
--- src/lines.rt:54:69
 part-put-two-end : tie.Need-part-put-two-end Inv-loop μ-loop
 part-put-two-end c = search needs
 
--- src/lines.rt:54:13
 put-two-requires : tie.Need-put-two-requires Inv-loop μ-loop
 put-two-requires c κs = next-rest (run-next (c .before .before .before .loop .inv) noEntry (search needs))
 
--- src/lines.rt:55:14
 add-at : tie.Need-add-at Inv-loop μ-loop
 add-at c = omega (arith, next-sum (run-next (c .before .before .before .before .before .before .loop .inv) noEntry (search needs)) (c .before .before .put-two .ensures))
 
--- src/lines.rt:56:9
 add-i : tie.Need-add-i Inv-loop μ-loop
 add-i c = search needs
 
--- src/lines.rt:52:5
 loop-less : tie.Need-loop-less Inv-loop μ-loop
 loop-less c = search needs
 
--- src/lines.rt:52:5
 loop-again : tie.Need-loop-again Inv-loop μ-loop
 loop-again c = run-put (c .before .before .before .before .before .before .loop .inv) noEntry (search needs) (c .before .before .put-two .ensures)
 
--- src/lines.rt:46:1
 returns : tie.Need-returns Inv-loop μ-loop
 returns c = run-end (c .before .loop .inv) (omega arith)
 
--- src/lines.rt:46:1
 same-length : tie.Need-same-length Inv-loop μ-loop
 same-length c = returns c .long
 

@@ -8,9 +8,6 @@ use Rattle.writer.proofs.Putting.{Run, run-start, run-end, run-next, ru
 use borrow.Author.Needs.{needs}
 use Rattle.writer.proofs.lines.put_pairs.Statement.{statement}
 use Rattle.writer.proofs.lines.put_pairs.Tie as tie
-use Rattle.writer.proofs.lines.put_pairs.Reads as reads
-use Rattle.writer.proofs.lines.put_pairs.Lts as lts
-use Rattle.writer.proofs.line.put_two.Reads as put-two-reads
 
 abbrev Inv-loop : tie.InvT-loop
 Inv-loop word n buf₀ pairs at₀ i₀ buf at i = Run (pairLine word) pairs n buf₀ i buf at
@@ -18,55 +15,42 @@ Inv-loop word n buf₀ pairs at₀ i₀ buf at i = Run (pairLine word) pairs n b
 abbrev μ-loop : tie.MeasureT-loop
 μ-loop word n buf₀ pairs at₀ i₀ buf at i = n - i
 
--- src/lines.rt:36:5
 loop-holds : tie.Need-loop-holds Inv-loop μ-loop
 loop-holds c = run-start (search (needs, long)) (c .before .before .pre .1)
 
--- src/lines.rt:37:20
 mul-pair : tie.Need-mul-pair Inv-loop μ-loop
 mul-pair c = search needs
 
--- src/lines.rt:37:20
 array-copy-out-pair : tie.Need-array-copy-out-pair Inv-loop μ-loop
 array-copy-out-pair c = search needs
 
--- src/lines.rt:38:70
 sub-put-two : tie.Need-sub-put-two Inv-loop μ-loop
 sub-put-two c = next-start (run-next (c .before .before .loop .inv) (direct 0 0) (search needs))
 
--- src/lines.rt:38:70
 part-put-two-start : tie.Need-part-put-two-start Inv-loop μ-loop
 part-put-two-start c = next-start (run-next (c .before .before .loop .inv) (direct 0 0) (search needs))
 
--- src/lines.rt:38:70
 part-put-two-end : tie.Need-part-put-two-end Inv-loop μ-loop
 part-put-two-end c = search needs
 
--- src/lines.rt:38:13
 put-two-requires : tie.Need-put-two-requires Inv-loop μ-loop
 put-two-requires c κs = next-rest (run-next (c .before .before .before .loop .inv) (direct 0 0) (search needs))
 
--- src/lines.rt:39:14
 add-at : tie.Need-add-at Inv-loop μ-loop
 add-at c = omega (arith, next-sum (run-next (c .before .before .before .before .before .before .loop .inv) (direct 0 0) (search needs)) (c .before .before .put-two .ensures))
 
--- src/lines.rt:40:9
 add-i : tie.Need-add-i Inv-loop μ-loop
 add-i c = search needs
 
--- src/lines.rt:36:5
 loop-less : tie.Need-loop-less Inv-loop μ-loop
 loop-less c = search needs
 
--- src/lines.rt:36:5
 loop-again : tie.Need-loop-again Inv-loop μ-loop
 loop-again c = run-put (c .before .before .before .before .before .before .loop .inv) (direct 0 0) (search needs) (c .before .before .put-two .ensures)
 
--- src/lines.rt:30:1
 returns : tie.Need-returns Inv-loop μ-loop
 returns c = run-end (c .before .loop .inv) (omega arith)
 
--- src/lines.rt:30:1
 same-length : tie.Need-same-length Inv-loop μ-loop
 same-length c = returns c .long
 

@@ -16,9 +16,6 @@ use Rattle.writer.proofs.Putting.{Run, run-start, run-end, run-next, ru
 use borrow.Author.Needs.{needs}
 use Rattle.writer.proofs.lines.put_rules.Statement.{statement}
 use Rattle.writer.proofs.lines.put_rules.Tie as tie
-use Rattle.writer.proofs.lines.put_rules.Reads as reads
-use Rattle.writer.proofs.lines.put_rules.Lts as lts
-use Rattle.writer.proofs.line.put_rule.Reads as put-rule-reads
 
 -- past the end of the array
 abbrev noRule : RuleValue
@@ -40,58 +37,45 @@ Inv-loop word n buf₀ rules at₀ i₀ buf at i = Run (ruleTextOf word) rules n
 abbrev μ-loop : tie.MeasureT-loop
 μ-loop word n buf₀ rules at₀ i₀ buf at i = n - i
 
--- src/lines.rt:68:5
 loop-holds : tie.Need-loop-holds Inv-loop μ-loop
 loop-holds c = run-start (search (needs, long)) (c .before .before .pre .2)
 
--- src/lines.rt:69:20
 mul-rule : tie.Need-mul-rule Inv-loop μ-loop
 mul-rule c = search needs
 
--- src/lines.rt:69:20
 array-copy-out-rule : tie.Need-array-copy-out-rule Inv-loop μ-loop
 array-copy-out-rule c = search needs
 
--- src/lines.rt:71:77
 sub-put-rule : tie.Need-sub-put-rule Inv-loop μ-loop
 sub-put-rule c = next-start (run-next (c .before .before .before .loop .inv) noRule (search needs))
 
--- src/lines.rt:71:77
 part-put-rule-start : tie.Need-part-put-rule-start Inv-loop μ-loop
 part-put-rule-start c = next-start (run-next (c .before .before .before .loop .inv) noRule (search needs))
 
--- src/lines.rt:71:77
 part-put-rule-end : tie.Need-part-put-rule-end Inv-loop μ-loop
 part-put-rule-end c = search needs
 
--- src/lines.rt:71:13
 put-rule-requires : tie.Need-put-rule-requires Inv-loop μ-loop
 put-rule-requires c κs =
     let r = getD (c .before .before .before .before .before .before .before .args .t2) (c .before .before .before .before .loop .i) noRule in
     let w : writable r ≡ true = all-taken writable noRule (c .before .before .before .before .before .before .before .args .t2) (c .before .before .before .before .before .before .before .args .n) (c .before .before .before .before .loop .i) (search needs) (c .before .before .before .before .loop .inv .places) (c .before .before .before .before .before .before .before .pre .1) in
     (within r w, spelt r w, next-rest (run-next (c .before .before .before .before .loop .inv) noRule (search needs)))
 
--- src/lines.rt:72:14
 add-at : tie.Need-add-at Inv-loop μ-loop
 add-at c = omega (arith, next-sum (run-next (c .before .before .before .before .before .before .before .loop .inv) noRule (search needs)) (c .before .before .put-rule .ensures))
 
--- src/lines.rt:73:9
 add-i : tie.Need-add-i Inv-loop μ-loop
 add-i c = search needs
 
--- src/lines.rt:68:5
 loop-less : tie.Need-loop-less Inv-loop μ-loop
 loop-less c = search needs
 
--- src/lines.rt:68:5
 loop-again : tie.Need-loop-again Inv-loop μ-loop
 loop-again c = run-put (c .before .before .before .before .before .before .before .loop .inv) noRule (search needs) (c .before .before .put-rule .ensures)
 
--- src/lines.rt:62:1
 returns : tie.Need-returns Inv-loop μ-loop
 returns c = run-end (c .before .loop .inv) (omega arith)
 
--- src/lines.rt:62:1
 same-length : tie.Need-same-length Inv-loop μ-loop
 same-length c = returns c .long
 

@@ -6,9 +6,6 @@ use Rattle.writer.proofs.Putting.{Run, run-start, run-end, run-next, ru
 use borrow.Author.Needs.{needs}
 use Rattle.writer.proofs.lines.put_widths.Statement.{statement}
 use Rattle.writer.proofs.lines.put_widths.Tie as tie
-use Rattle.writer.proofs.lines.put_widths.Reads as reads
-use Rattle.writer.proofs.lines.put_widths.Lts as lts
-use Rattle.writer.proofs.line.put_one.Reads as put-one-reads
 
 abbrev Inv-loop : tie.InvT-loop
 Inv-loop word n buf₀ widths at₀ i₀ buf at i = Run (oneLine word) widths n buf₀ i buf at
@@ -16,55 +13,42 @@ Inv-loop word n buf₀ widths at₀ i₀ buf at i = Run (oneLine word) widths n 
 abbrev μ-loop : tie.MeasureT-loop
 μ-loop word n buf₀ widths at₀ i₀ buf at i = n - i
 
--- src/lines.rt:21:5
 loop-holds : tie.Need-loop-holds Inv-loop μ-loop
 loop-holds c = run-start (search needs) (c .before .before .pre .1)
 
--- src/lines.rt:22:44
 mul-put-one : tie.Need-mul-put-one Inv-loop μ-loop
 mul-put-one c = search needs
 
--- src/lines.rt:22:44
 array-read-put-one : tie.Need-array-read-put-one Inv-loop μ-loop
 array-read-put-one c = search needs
 
--- src/lines.rt:22:55
 sub-put-one : tie.Need-sub-put-one Inv-loop μ-loop
 sub-put-one c = next-start (run-next (c .before .loop .inv) 0 (search needs))
 
--- src/lines.rt:22:55
 part-put-one-start : tie.Need-part-put-one-start Inv-loop μ-loop
 part-put-one-start c = next-start (run-next (c .before .loop .inv) 0 (search needs))
 
--- src/lines.rt:22:55
 part-put-one-end : tie.Need-part-put-one-end Inv-loop μ-loop
 part-put-one-end c = search needs
 
--- src/lines.rt:22:13
 put-one-requires : tie.Need-put-one-requires Inv-loop μ-loop
 put-one-requires c κs = next-rest (run-next (c .before .before .loop .inv) 0 (search needs))
 
--- src/lines.rt:23:14
 add-at : tie.Need-add-at Inv-loop μ-loop
 add-at c = omega (arith, next-sum (run-next (c .before .before .before .before .before .loop .inv) 0 (search needs)) (c .before .before .put-one .ensures))
 
--- src/lines.rt:24:9
 add-i : tie.Need-add-i Inv-loop μ-loop
 add-i c = search needs
 
--- src/lines.rt:21:5
 loop-less : tie.Need-loop-less Inv-loop μ-loop
 loop-less c = search needs
 
--- src/lines.rt:21:5
 loop-again : tie.Need-loop-again Inv-loop μ-loop
 loop-again c = run-put (c .before .before .before .before .before .loop .inv) 0 (search needs) (c .before .before .put-one .ensures)
 
--- src/lines.rt:15:1
 returns : tie.Need-returns Inv-loop μ-loop
 returns c = run-end (c .before .loop .inv) (omega arith)
 
--- src/lines.rt:15:1
 same-length : tie.Need-same-length Inv-loop μ-loop
 same-length c = returns c .long
 

@@ -11,11 +11,6 @@ use Rattle.writer.specs.Put.{Room, Put, field, fiveDigits}
 use borrow.Author.Needs.{needs}
 use Rattle.writer.proofs.number.put.Statement.{statement}
 use Rattle.writer.proofs.number.put.Tie as tie
-use Rattle.writer.proofs.number.put.Reads as reads
-use Rattle.writer.proofs.number.put.Lts as lts
-use Rattle.writer.proofs.bytes.put_field.Reads as put-field-reads
-use Rattle.writer.proofs.number.digit.Reads as digit-reads
-use Rattle.writer.proofs.number.unwritten.Reads as unwritten-reads
 
 -- the digits that the code works out, from the first that is written
 module _
@@ -38,51 +33,39 @@ module _
   puts : (b m : List ℕ) (q : ℕ) → Put (field (take (5 - r) (drop r (d₁ ∷ d₂ ∷ d₃ ∷ d₄ ∷ d₅ ∷ [])))) b m q → Put (field (decimal n)) b m q
   puts b m q x = rw are at x
 
--- src/number.rt:42:9
 digit-requires : tie.Need-digit-requires
 digit-requires c κs = search needs
 
--- src/number.rt:43:9
 digit-requires-2 : tie.Need-digit-requires-2
 digit-requires-2 c κs = search needs
 
--- src/number.rt:44:9
 digit-requires-3 : tie.Need-digit-requires-3
 digit-requires-3 c κs = search needs
 
--- src/number.rt:45:9
 digit-requires-4 : tie.Need-digit-requires-4
 digit-requires-4 c κs = search needs
 
--- src/number.rt:46:9
 digit-requires-5 : tie.Need-digit-requires-5
 digit-requires-5 c κs = search needs
 
--- src/number.rt:48:9
 unwritten-requires : tie.Need-unwritten-requires
 unwritten-requires c κs = search needs
 
--- src/number.rt:49:29
 sub-put-field : tie.Need-sub-put-field
 sub-put-field c = search needs
 
--- src/number.rt:49:29
 part-put-field-start : tie.Need-part-put-field-start
 part-put-field-start c = search needs
 
--- src/number.rt:49:29
 part-put-field-end : tie.Need-part-put-field-end
 part-put-field-end c = search needs
 
--- src/number.rt:49:5
 put-field-requires : tie.Need-put-field-requires
 put-field-requires c κs = search fits
 
--- src/number.rt:37:1
 same-length : tie.Need-same-length
 same-length c = search needs
 
--- src/number.rt:37:1
 returns : tie.Need-returns
 returns c = search puts
 

@@ -12,8 +12,6 @@ use Rattle.text.specs.Number.{decimal, digitsBefore}
 use Rattle.writer.specs.Put.{fiveDigits}
 use Rattle.writer.proofs.number.unwritten.Statement.{statement}
 use Rattle.writer.proofs.number.unwritten.Tie as tie
-use Rattle.writer.proofs.number.unwritten.Reads as reads
-use Rattle.writer.proofs.number.unwritten.Lts as lts
 
 module _ (n : ℕ) where
   one : n < 10 → drop 4 (fiveDigits n) ≡ decimal n
@@ -66,23 +64,18 @@ module _ (n : ℕ) where
       rw (le-ltb n 10 (omega arith), le-ltb (n / 10) 10 (omega arith), by-100, le-ltb (n / 100) 10 (omega arith), by-1000, le-ltb (n / 1000) 10 (omega arith), by-10000)
       (sym (last (n / 10000) _))
 
--- src/field.rt:53:9
 returns : tie.Need-returns
 returns c = (lit≤ tt, search one)
 
--- src/field.rt:56:9
 returns-2 : tie.Need-returns-2
 returns-2 c = (lit≤ tt, search two)
 
--- src/field.rt:59:9
 returns-3 : tie.Need-returns-3
 returns-3 c = (lit≤ tt, search three)
 
--- src/field.rt:62:9
 returns-4 : tie.Need-returns-4
 returns-4 c = (lit≤ tt, search four)
 
--- src/field.rt:49:1
 returns-5 : tie.Need-returns-5
 returns-5 c = (lit≤ tt, search five)
 

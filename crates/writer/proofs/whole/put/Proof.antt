@@ -12,12 +12,6 @@ use Rattle.writer.proofs.Texts.{valueText, text-is}
 use borrow.Author.Needs.{needs}
 use Rattle.writer.proofs.whole.put.Statement.{statement}
 use Rattle.writer.proofs.whole.put.Tie as tie
-use Rattle.writer.proofs.whole.put.Reads as reads
-use Rattle.writer.proofs.whole.put.Lts as lts
-use Rattle.writer.proofs.whole.put_registered.Reads as put-registered-reads
-use Rattle.writer.proofs.whole.put_rules.Reads as put-rules-reads
-use Rattle.writer.proofs.whole.put_seniority.Reads as put-seniority-reads
-use Rattle.writer.proofs.whole.put_widths.Reads as put-widths-reads
 
 -- the text up to the attributes, the seniorities and the registers
 abbrev widths : PolicyValue → List ℕ
@@ -56,75 +50,57 @@ module _ {v : PolicyValue} {b : List ℕ} (h : Writable v × Room (textOf (polic
     whole : Put (valueText v) b m r → Put (textOf (policyOf v)) b m r
     whole p = rw (text-is v) p
 
--- src/whole.rt:74:9
 put-widths-requires : tie.Need-put-widths-requires
 put-widths-requires c κs = (c .before .before .before .before .before .before .before .pre .0 .user, c .before .before .before .before .before .before .before .pre .0 .object, room-widths (c .before .before .before .before .before .before .before .pre))
 
--- src/whole.rt:75:43
 sub-put-seniority : tie.Need-sub-put-seniority
 sub-put-seniority c = next-start (after-widths (c .before .before .before .before .before .before .before .before .before .before .pre) (c .before .before .put-widths .ensures))
 
--- src/whole.rt:75:43
 part-put-seniority-start : tie.Need-part-put-seniority-start
 part-put-seniority-start c = next-start (after-widths (c .before .before .before .before .before .before .before .before .before .before .pre) (c .before .before .put-widths .ensures))
 
--- src/whole.rt:75:43
 part-put-seniority-end : tie.Need-part-put-seniority-end
 part-put-seniority-end c = search needs
 
--- src/whole.rt:75:15
 put-seniority-requires : tie.Need-put-seniority-requires
 put-seniority-requires c κs = (c .before .before .before .before .before .before .before .before .before .before .before .pre .0 .user, c .before .before .before .before .before .before .before .before .before .before .before .pre .0 .object, next-rest (after-widths (c .before .before .before .before .before .before .before .before .before .before .before .pre) (c .before .before .before .put-widths .ensures)))
 
--- src/whole.rt:75:10
 add-at : tie.Need-add-at
 add-at c = omega (arith, next-sum (after-widths (c .before .before .before .before .before .before .before .before .before .before .before .before .before .before .pre) (c .before .before .before .before .before .before .put-widths .ensures)) (c .before .before .put-seniority .ensures))
 
--- src/whole.rt:76:46
 sub-put-registered : tie.Need-sub-put-registered
 sub-put-registered c = next-start (after-seniority (c .before .before .before .before .before .before .before .before .before .before .before .before .before .before .pre) (next-put (after-widths (c .before .before .before .before .before .before .before .before .before .before .before .before .before .before .pre) (c .before .before .before .before .before .before .put-widths .ensures)) (c .before .before .put-seniority .ensures)))
 
--- src/whole.rt:76:46
 part-put-registered-start : tie.Need-part-put-registered-start
 part-put-registered-start c = next-start (after-seniority (c .before .before .before .before .before .before .before .before .before .before .before .before .before .before .pre) (next-put (after-widths (c .before .before .before .before .before .before .before .before .before .before .before .before .before .before .pre) (c .before .before .before .before .before .before .put-widths .ensures)) (c .before .before .put-seniority .ensures)))
 
--- src/whole.rt:76:46
 part-put-registered-end : tie.Need-part-put-registered-end
 part-put-registered-end c = search needs
 
--- src/whole.rt:76:15
 put-registered-requires : tie.Need-put-registered-requires
 put-registered-requires c κs = (c .before .before .before .before .before .before .before .before .before .before .before .before .before .before .before .pre .0 .users, c .before .before .before .before .before .before .before .before .before .before .before .before .before .before .before .pre .0 .objects, next-rest (after-seniority (c .before .before .before .before .before .before .before .before .before .before .before .before .before .before .before .pre) (next-put (after-widths (c .before .before .before .before .before .before .before .before .before .before .before .before .before .before .before .pre) (c .before .before .before .before .before .before .before .put-widths .ensures)) (c .before .before .before .put-seniority .ensures))))
 
--- src/whole.rt:76:10
 add-at-2 : tie.Need-add-at-2
 add-at-2 c = omega (arith, next-sum (after-seniority (c .before .before .before .before .before .before .before .before .before .before .before .before .before .before .before .before .before .before .pre) (next-put (after-widths (c .before .before .before .before .before .before .before .before .before .before .before .before .before .before .before .before .before .before .pre) (c .before .before .before .before .before .before .before .before .before .before .put-widths .ensures)) (c .before .before .before .before .before .before .put-seniority .ensures))) (c .before .before .put-registered .ensures))
 
--- src/whole.rt:77:32
 sub-put-rules : tie.Need-sub-put-rules
 sub-put-rules c = next-start (after-registered (c .before .before .before .before .before .before .before .before .before .before .before .before .before .before .before .before .before .before .pre) (next-put (after-seniority (c .before .before .before .before .before .before .before .before .before .before .before .before .before .before .before .before .before .before .pre) (next-put (after-widths (c .before .before .before .before .before .before .before .before .before .before .before .before .before .before .before .before .before .before .pre) (c .before .before .before .before .before .before .before .before .before .before .put-widths .ensures)) (c .before .before .before .before .before .before .put-seniority .ensures))) (c .before .before .put-registered .ensures)))
 
--- src/whole.rt:77:32
 part-put-rules-start : tie.Need-part-put-rules-start
 part-put-rules-start c = next-start (after-registered (c .before .before .before .before .before .before .before .before .before .before .before .before .before .before .before .before .before .before .pre) (next-put (after-seniority (c .before .before .before .before .before .before .before .before .before .before .before .before .before .before .before .before .before .before .pre) (next-put (after-widths (c .before .before .before .before .before .before .before .before .before .before .before .before .before .before .before .before .before .before .pre) (c .before .before .before .before .before .before .before .before .before .before .put-widths .ensures)) (c .before .before .before .before .before .before .put-seniority .ensures))) (c .before .before .put-registered .ensures)))
 
--- src/whole.rt:77:32
 part-put-rules-end : tie.Need-part-put-rules-end
 part-put-rules-end c = search needs
 
--- src/whole.rt:77:15
 put-rules-requires : tie.Need-put-rules-requires
 put-rules-requires c κs = (c .before .before .before .before .before .before .before .before .before .before .before .before .before .before .before .before .before .before .before .pre .0 .rules, next-rest (after-registered (c .before .before .before .before .before .before .before .before .before .before .before .before .before .before .before .before .before .before .before .pre) (next-put (after-seniority (c .before .before .before .before .before .before .before .before .before .before .before .before .before .before .before .before .before .before .before .pre) (next-put (after-widths (c .before .before .before .before .before .before .before .before .before .before .before .before .before .before .before .before .before .before .before .pre) (c .before .before .before .before .before .before .before .before .before .before .before .put-widths .ensures)) (c .before .before .before .before .before .before .before .put-seniority .ensures))) (c .before .before .before .put-registered .ensures))))
 
--- src/whole.rt:77:10
 add-at-3 : tie.Need-add-at-3
 add-at-3 c = omega (arith, next-sum (after-registered (c .before .before .before .before .before .before .before .before .before .before .before .before .before .before .before .before .before .before .before .before .before .before .pre) (next-put (after-seniority (c .before .before .before .before .before .before .before .before .before .before .before .before .before .before .before .before .before .before .before .before .before .before .pre) (next-put (after-widths (c .before .before .before .before .before .before .before .before .before .before .before .before .before .before .before .before .before .before .before .before .before .before .pre) (c .before .before .before .before .before .before .before .before .before .before .before .before .before .before .put-widths .ensures)) (c .before .before .before .before .before .before .before .before .before .before .put-seniority .ensures))) (c .before .before .before .before .before .before .put-registered .ensures))) (c .before .before .put-rules .ensures))
 
--- src/whole.rt:65:1
 returns : tie.Need-returns
 returns c = whole (c .before .before .before .before .before .before .before .before .before .before .before .before .before .before .before .before .before .before .before .before .before .before .pre) (next-put (after-registered (c .before .before .before .before .before .before .before .before .before .before .before .before .before .before .before .before .before .before .before .before .before .before .pre) (next-put (after-seniority (c .before .before .before .before .before .before .before .before .before .before .before .before .before .before .before .before .before .before .before .before .before .before .pre) (next-put (after-widths (c .before .before .before .before .before .before .before .before .before .before .before .before .before .before .before .before .before .before .before .before .before .before .pre) (c .before .before .before .before .before .before .before .before .before .before .before .before .before .before .put-widths .ensures)) (c .before .before .before .before .before .before .before .before .before .before .put-seniority .ensures))) (c .before .before .before .before .before .before .put-registered .ensures))) (c .before .before .put-rules .ensures))
 
--- src/whole.rt:65:1
 same-length : tie.Need-same-length
 same-length c = returns c .long
 

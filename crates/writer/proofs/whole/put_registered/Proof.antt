@@ -4,47 +4,34 @@ use Rattle.writer.proofs.Putting.{shorter, next, next-start, next-rest,
 use borrow.Author.Needs.{needs}
 use Rattle.writer.proofs.whole.put_registered.Statement.{statement}
 use Rattle.writer.proofs.whole.put_registered.Tie as tie
-use Rattle.writer.proofs.whole.put_registered.Reads as reads
-use Rattle.writer.proofs.whole.put_registered.Lts as lts
-use Rattle.writer.proofs.lines.put_entries.Reads as put-entries-reads
 
--- src/whole.rt:48:40
 slice-aggregate-put-entries : tie.Need-slice-aggregate-put-entries
 slice-aggregate-put-entries c = search needs
 
--- src/whole.rt:48:9
 put-entries-requires : tie.Need-put-entries-requires
 put-entries-requires c κs = (c .before .before .before .before .before .pre .0 .entries, shorter _ _ (c .before .before .before .before .before .pre .2))
 
--- src/whole.rt:49:39
 slice-aggregate-put-entries-2 : tie.Need-slice-aggregate-put-entries-2
 slice-aggregate-put-entries-2 c = search needs
 
--- src/whole.rt:49:81
 sub-put-entries : tie.Need-sub-put-entries
 sub-put-entries c = next-start (next _ (c .before .before .before .put-entries .ensures) (c .before .before .before .before .before .before .before .before .before .pre .2))
 
--- src/whole.rt:49:81
 part-put-entries-start : tie.Need-part-put-entries-start
 part-put-entries-start c = next-start (next _ (c .before .before .before .put-entries .ensures) (c .before .before .before .before .before .before .before .before .before .pre .2))
 
--- src/whole.rt:49:81
 part-put-entries-end : tie.Need-part-put-entries-end
 part-put-entries-end c = search needs
 
--- src/whole.rt:49:9
 put-entries-requires-2 : tie.Need-put-entries-requires-2
 put-entries-requires-2 c κs = (c .before .before .before .before .before .before .before .before .before .before .pre .1 .entries, next-rest (next _ (c .before .before .before .before .put-entries .ensures) (c .before .before .before .before .before .before .before .before .before .before .pre .2)))
 
--- src/whole.rt:50:5
 add-result : tie.Need-add-result
 add-result c = omega (arith, next-sum (next _ (c .before .before .before .before .before .before .before .put-entries .ensures) (c .before .before .before .before .before .before .before .before .before .before .before .before .before .pre .2)) (c .before .before .put-entries2 .ensures))
 
--- src/whole.rt:42:1
 returns : tie.Need-returns
 returns c = next-put (next _ (c .before .before .before .before .before .before .before .put-entries .ensures) (c .before .before .before .before .before .before .before .before .before .before .before .before .before .pre .2)) (c .before .before .put-entries2 .ensures)
 
--- src/whole.rt:42:1
 same-length : tie.Need-same-length
 same-length c = returns c .long
 

@@ -4,48 +4,34 @@ use Rattle.writer.proofs.Putting.{shorter, next, next-start, next-rest,
 use borrow.Author.Needs.{needs}
 use Rattle.writer.proofs.whole.put_rules.Statement.{statement}
 use Rattle.writer.proofs.whole.put_rules.Tie as tie
-use Rattle.writer.proofs.whole.put_rules.Reads as reads
-use Rattle.writer.proofs.whole.put_rules.Lts as lts
-use Rattle.writer.proofs.bytes.put.Reads as put-reads
-use Rattle.writer.proofs.lines.put_rules.Reads as put-rules-reads
 
--- src/whole.rt:59:38
 slice-aggregate-put-rules : tie.Need-slice-aggregate-put-rules
 slice-aggregate-put-rules c = search needs
 
--- src/whole.rt:59:9
 put-rules-requires : tie.Need-put-rules-requires
 put-rules-requires c κs = (c .before .before .before .before .pre .0 .entries, c .before .before .before .before .pre .0 .words, shorter _ _ (c .before .before .before .before .pre .1))
 
--- src/whole.rt:60:31
 slice-aggregate-put : tie.Need-slice-aggregate-put
 slice-aggregate-put c = search needs
 
--- src/whole.rt:60:41
 sub-put : tie.Need-sub-put
 sub-put c = next-start (next _ (c .before .before .before .put-rules .ensures) (c .before .before .before .before .before .before .before .before .pre .1))
 
--- src/whole.rt:60:41
 part-put-start : tie.Need-part-put-start
 part-put-start c = next-start (next _ (c .before .before .before .put-rules .ensures) (c .before .before .before .before .before .before .before .before .pre .1))
 
--- src/whole.rt:60:41
 part-put-end : tie.Need-part-put-end
 part-put-end c = search needs
 
--- src/whole.rt:60:9
 put-requires : tie.Need-put-requires
 put-requires c κs = next-rest (next _ (c .before .before .before .before .put-rules .ensures) (c .before .before .before .before .before .before .before .before .before .pre .1))
 
--- src/whole.rt:61:5
 add-result : tie.Need-add-result
 add-result c = omega (arith, next-sum (next _ (c .before .before .before .before .before .before .before .put-rules .ensures) (c .before .before .before .before .before .before .before .before .before .before .before .before .pre .1)) (c .before .before .put .ensures))
 
--- src/whole.rt:54:1
 returns : tie.Need-returns
 returns c = next-put (next _ (c .before .before .before .before .before .before .before .put-rules .ensures) (c .before .before .before .before .before .before .before .before .before .before .before .before .pre .1)) (c .before .before .put .ensures)
 
--- src/whole.rt:54:1
 same-length : tie.Need-same-length
 same-length c = returns c .long
 

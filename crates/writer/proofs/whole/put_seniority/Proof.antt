@@ -4,47 +4,34 @@ use Rattle.writer.proofs.Putting.{shorter, next, next-start, next-rest,
 use borrow.Author.Needs.{needs}
 use Rattle.writer.proofs.whole.put_seniority.Statement.{statement}
 use Rattle.writer.proofs.whole.put_seniority.Tie as tie
-use Rattle.writer.proofs.whole.put_seniority.Reads as reads
-use Rattle.writer.proofs.whole.put_seniority.Lts as lts
-use Rattle.writer.proofs.lines.put_pairs.Reads as put-pairs-reads
 
--- src/whole.rt:36:38
 slice-aggregate-put-pairs : tie.Need-slice-aggregate-put-pairs
 slice-aggregate-put-pairs c = search needs
 
--- src/whole.rt:36:9
 put-pairs-requires : tie.Need-put-pairs-requires
 put-pairs-requires c κs = (c .before .before .before .before .before .pre .0 .lines, shorter _ _ (c .before .before .before .before .before .pre .2))
 
--- src/whole.rt:37:37
 slice-aggregate-put-pairs-2 : tie.Need-slice-aggregate-put-pairs-2
 slice-aggregate-put-pairs-2 c = search needs
 
--- src/whole.rt:37:74
 sub-put-pairs : tie.Need-sub-put-pairs
 sub-put-pairs c = next-start (next _ (c .before .before .before .put-pairs .ensures) (c .before .before .before .before .before .before .before .before .before .pre .2))
 
--- src/whole.rt:37:74
 part-put-pairs-start : tie.Need-part-put-pairs-start
 part-put-pairs-start c = next-start (next _ (c .before .before .before .put-pairs .ensures) (c .before .before .before .before .before .before .before .before .before .pre .2))
 
--- src/whole.rt:37:74
 part-put-pairs-end : tie.Need-part-put-pairs-end
 part-put-pairs-end c = search needs
 
--- src/whole.rt:37:9
 put-pairs-requires-2 : tie.Need-put-pairs-requires-2
 put-pairs-requires-2 c κs = (c .before .before .before .before .before .before .before .before .before .before .pre .1 .lines, next-rest (next _ (c .before .before .before .before .put-pairs .ensures) (c .before .before .before .before .before .before .before .before .before .before .pre .2)))
 
--- src/whole.rt:38:5
 add-result : tie.Need-add-result
 add-result c = omega (arith, next-sum (next _ (c .before .before .before .before .before .before .before .put-pairs .ensures) (c .before .before .before .before .before .before .before .before .before .before .before .before .before .pre .2)) (c .before .before .put-pairs2 .ensures))
 
--- src/whole.rt:30:1
 returns : tie.Need-returns
 returns c = next-put (next _ (c .before .before .before .before .before .before .before .put-pairs .ensures) (c .before .before .before .before .before .before .before .before .before .before .before .before .before .pre .2)) (c .before .before .put-pairs2 .ensures)
 
--- src/whole.rt:30:1
 same-length : tie.Need-same-length
 same-length c = returns c .long
 

@@ -4,72 +4,52 @@ use Rattle.writer.proofs.Putting.{shorter, next, next-start, next-rest,
 use borrow.Author.Needs.{needs}
 use Rattle.writer.proofs.whole.put_widths.Statement.{statement}
 use Rattle.writer.proofs.whole.put_widths.Tie as tie
-use Rattle.writer.proofs.whole.put_widths.Reads as reads
-use Rattle.writer.proofs.whole.put_widths.Lts as lts
-use Rattle.writer.proofs.line.put_one.Reads as put-one-reads
-use Rattle.writer.proofs.lines.put_widths.Reads as put-widths-reads
 
--- src/whole.rt:23:39
 slice-aggregate-put-one : tie.Need-slice-aggregate-put-one
 slice-aggregate-put-one c = search needs
 
--- src/whole.rt:23:9
 put-one-requires : tie.Need-put-one-requires
 put-one-requires c κs = search shorter
 
--- src/whole.rt:24:40
 slice-aggregate-put-widths : tie.Need-slice-aggregate-put-widths
 slice-aggregate-put-widths c = search needs
 
--- src/whole.rt:24:80
 sub-put-widths : tie.Need-sub-put-widths
 sub-put-widths c = next-start (next _ (c .before .before .before .put-one .ensures) (shorter _ _ (c .before .before .before .before .before .before .before .before .before .pre .2)))
 
--- src/whole.rt:24:80
 part-put-widths-start : tie.Need-part-put-widths-start
 part-put-widths-start c = next-start (next _ (c .before .before .before .put-one .ensures) (shorter _ _ (c .before .before .before .before .before .before .before .before .before .pre .2)))
 
--- src/whole.rt:24:80
 part-put-widths-end : tie.Need-part-put-widths-end
 part-put-widths-end c = search needs
 
--- src/whole.rt:24:15
 put-widths-requires : tie.Need-put-widths-requires
 put-widths-requires c κs = (c .before .before .before .before .before .before .before .before .before .before .pre .0 .widths, next-rest (next _ (c .before .before .before .before .put-one .ensures) (shorter _ _ (c .before .before .before .before .before .before .before .before .before .before .pre .2))))
 
--- src/whole.rt:24:10
 add-at : tie.Need-add-at
 add-at c = omega (arith, next-sum (next _ (c .before .before .before .before .before .before .before .put-one .ensures) (shorter _ _ (c .before .before .before .before .before .before .before .before .before .before .before .before .before .pre .2))) (c .before .before .put-widths .ensures))
 
--- src/whole.rt:25:40
 slice-aggregate-put-widths-2 : tie.Need-slice-aggregate-put-widths-2
 slice-aggregate-put-widths-2 c = search needs
 
--- src/whole.rt:25:84
 sub-put-widths-2 : tie.Need-sub-put-widths-2
 sub-put-widths-2 c = next-start (next _ (next-put (next _ (c .before .before .before .before .before .before .before .before .put-one .ensures) (shorter _ _ (c .before .before .before .before .before .before .before .before .before .before .before .before .before .before .pre .2))) (c .before .before .before .put-widths .ensures)) (c .before .before .before .before .before .before .before .before .before .before .before .before .before .before .pre .2))
 
--- src/whole.rt:25:84
 part-put-widths-start-2 : tie.Need-part-put-widths-start-2
 part-put-widths-start-2 c = next-start (next _ (next-put (next _ (c .before .before .before .before .before .before .before .before .put-one .ensures) (shorter _ _ (c .before .before .before .before .before .before .before .before .before .before .before .before .before .before .pre .2))) (c .before .before .before .put-widths .ensures)) (c .before .before .before .before .before .before .before .before .before .before .before .before .before .before .pre .2))
 
--- src/whole.rt:25:84
 part-put-widths-end-2 : tie.Need-part-put-widths-end-2
 part-put-widths-end-2 c = search needs
 
--- src/whole.rt:25:15
 put-widths-requires-2 : tie.Need-put-widths-requires-2
 put-widths-requires-2 c κs = (c .before .before .before .before .before .before .before .before .before .before .before .before .before .before .before .pre .1 .widths, next-rest (next _ (next-put (next _ (c .before .before .before .before .before .before .before .before .before .put-one .ensures) (shorter _ _ (c .before .before .before .before .before .before .before .before .before .before .before .before .before .before .before .pre .2))) (c .before .before .before .before .put-widths .ensures)) (c .before .before .before .before .before .before .before .before .before .before .before .before .before .before .before .pre .2)))
 
--- src/whole.rt:25:10
 add-at-2 : tie.Need-add-at-2
 add-at-2 c = omega (arith, next-sum (next _ (next-put (next _ (c .before .before .before .before .before .before .before .before .before .before .before .before .put-one .ensures) (shorter _ _ (c .before .before .before .before .before .before .before .before .before .before .before .before .before .before .before .before .before .before .pre .2))) (c .before .before .before .before .before .before .before .put-widths .ensures)) (c .before .before .before .before .before .before .before .before .before .before .before .before .before .before .before .before .before .before .pre .2)) (c .before .before .put-widths2 .ensures))
 
--- src/whole.rt:17:1
 returns : tie.Need-returns
 returns c = next-put (next _ (next-put (next _ (c .before .before .before .before .before .before .before .before .before .before .before .before .put-one .ensures) (shorter _ _ (c .before .before .before .before .before .before .before .before .before .before .before .before .before .before .before .before .before .before .pre .2))) (c .before .before .before .before .before .before .before .put-widths .ensures)) (c .before .before .before .before .before .before .before .before .before .before .before .before .before .before .before .before .before .before .pre .2)) (c .before .before .put-widths2 .ensures)
 
--- src/whole.rt:17:1
 same-length : tie.Need-same-length
 same-length c = returns c .long
 

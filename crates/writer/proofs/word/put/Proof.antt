@@ -1,38 +1,25 @@
 -- `writer::word::put` meets its contract: it puts the bytes that spell the word.
-use Prim.Native.Nat.{_≤_}
-use mathlib.Core.Path.{_≡_, sym}
-use native.Mathlib.Omega.{arith}
-use lib.ListN.{length}
+use mathlib.Core.Path.{sym}
 use lib.Seq.{length-take-le}
 use borrow.Author.Needs.{needs}
 use Rattle.writer.proofs.word.put.Statement.{statement}
 use Rattle.writer.proofs.word.put.Tie as tie
-use Rattle.writer.proofs.word.put.Reads as reads
-use Rattle.writer.proofs.word.put.Lts as lts
-use Rattle.writer.proofs.bytes.put_field.Reads as put-field-reads
-use Rattle.writer.proofs.word.spell.Reads as spell-reads
 
--- src/word.rt:46:9
 spell-requires : tie.Need-spell-requires
 spell-requires c κs = search needs
 
--- src/word.rt:49:29
 array-share-prefix-bytes : tie.Need-array-share-prefix-bytes
 array-share-prefix-bytes c = c .before .spell .ensures .most
 
--- src/word.rt:49:29
 slice-aggregate-put-field : tie.Need-slice-aggregate-put-field
 slice-aggregate-put-field c = sym (length-take-le _ _ (c .before .before .spell .ensures .most))
 
--- src/word.rt:49:5
 put-field-requires : tie.Need-put-field-requires
 put-field-requires c κs = rw (c .before .before .before .spell .ensures .bytes) (c .before .before .before .before .before .pre .1)
 
--- src/word.rt:42:1
 returns : tie.Need-returns
 returns c = rw (c .before .before .before .before .before .before .spell .ensures .bytes) at (c .before .before .put-field .ensures)
 
--- src/word.rt:42:1
 same-length : tie.Need-same-length
 same-length c = search needs
 
