@@ -79,20 +79,33 @@ next-byte {s} {b} {m} {r} {c} x =
 pub lead : {c : ℕ} {t b : List ℕ} → Room (c ∷ t) b → Next (c ∷ []) t b (set b 0 c) 1
 lead h = record { put = next-byte (record { put = put-none _; room = record { fits = omega (arith, h .fits) } }); room = h }
 
--- a line feed after a line
+-- ---- lines
+
 module _ {l b : List ℕ} (h : Room (ended l) b) where
   pub unended : Room l b
   unfolding ended
   unended = shorter l (lineFeed ∷ []) h
 
   module _ {m : List ℕ} {r : ℕ} (p : Put l b m r) where
-    pub end-fits : r + 1 ≤ length m
+    pub feed-fits : r + 1 ≤ length m
     unfolding ended
-    end-fits = next-fits (next (lineFeed ∷ []) p h)
+    feed-fits = next-fits (next (lineFeed ∷ []) p h)
 
-    pub end-put : Put (ended l) b (set m r lineFeed) (r + 1)
+    pub feed-put : Put (ended l) b (set m r lineFeed) (r + 1)
     unfolding ended
-    end-put = next-byte (next (lineFeed ∷ []) p h)
+    feed-put = next-byte (next (lineFeed ∷ []) p h)
+
+-- a line of two parts
+module _ {s t b m : List ℕ} {r : ℕ} (h : Room (ended (s ++ t)) b) (p : Put s b m r) where
+  pub last-next : Next s t b m r
+  last-next = next t p (unended h)
+
+  module _ {ys : List ℕ} {q : ℕ} (y : Put t (take (length m - r) (drop r m)) ys q) where
+    pub last-fits : r + q + 1 ≤ length (putMid r (length m - r) m ys)
+    last-fits = feed-fits h (next-put last-next y)
+
+    pub last-put : Put (ended (s ++ t)) b (set (putMid r (length m - r) m ys) (r + q) lineFeed) (r + q + 1)
+    last-put = feed-put h (next-put last-next y)
 
 -- ---- the first n elements of a list, one after the other
 

@@ -22,7 +22,7 @@ use Rattle.policy.proofs.Parts.{RuleParts, Parts, parts, whole}
 use Rattle.policy.proofs.Bounds.{rule-bounds, rule-digits, parts-within}
 use Rattle.policy.proofs.RoundTrip.{text-short}
 use Rattle.policy.proofs.Valid.{valid-stored}
-use Rattle.writer.specs.Put.{writable}
+use Rattle.writer.specs.Put.{ruleWritable}
 use Rattle.writer.specs.Whole.{SideWithin, RulesWithin, Writable}
 
 side-within : (s : Side) → WithinSide s → SideWithin (sideValue s)
@@ -30,8 +30,8 @@ unfolding sideValue
 side-within s h = record { widths = h .widths; lines = h .lines }
 
 module _ (p : Policy) (t : Parts p) where
-  rule-writable : (r : Rule) → RuleParts p r → writable (ruleValue r) ≡ true
-  unfolding writable ruleValue
+  rule-writable : (r : Rule) → RuleParts p r → ruleWritable (ruleValue r) ≡ true
+  unfolding ruleWritable ruleValue
   rule-writable r q =
       rw (le-leb (length (r .words)) wordPlaces (q .few), take-padded-map slot wordPlaces (slot True) (r .words), all-map (λ s. inDigits (s .word)) slot (r .words))
       (rule-digits p t r q)
@@ -42,8 +42,8 @@ module _ (p : Policy) (t : Parts p) where
       record {
         entries = h;
         words =
-          rw (take-padded-map ruleValue rulePlaces noRule (p .rules), all-map writable ruleValue (p .rules))
-          (all-of (λ r. writable (ruleValue r)) (p .rules) (λ r m. rule-writable r (rule-bounds p (p .rules) (t .rules) r m)));
+          rw (take-padded-map ruleValue rulePlaces noRule (p .rules), all-map ruleWritable ruleValue (p .rules))
+          (all-of (λ r. ruleWritable (ruleValue r)) (p .rules) (λ r m. rule-writable r (rule-bounds p (p .rules) (t .rules) r m)));
       }
 
   value-writable : Writable (valueOf p)

@@ -18,7 +18,8 @@ use Rattle.policy.specs.declared.value.PolicyValue.{PolicyValue}
 use Rattle.policy.specs.declared.value.Entry.{Entry}
 use Rattle.policy.specs.declared.value.RuleValue.{RuleValue}
 use Rattle.policy.specs.declared.value.Slot.{Slot}
-use Rattle.writer.specs.Put.{each, ended, field, wordFields, oneLine, twoLine, pairLine, entryLine, ruleTextOf}
+use Rattle.writer.specs.Put.{each, ended, field, wordFields, oneLine, twoLine, pairLine, entryLine}
+use Rattle.writer.specs.Put as Put
 use Rattle.writer.specs.Whole.{widthsText, seniorityText, registeredText, rulesText}
 
 -- ---- a line
@@ -41,7 +42,7 @@ join-next : (p q : List ℕ) (ps : List (List ℕ)) → join comma (p ∷ q ∷ 
 unfolding join
 join-next p q ps = refl
 
-rule : (r : RuleValue) → ended (lineText (ruleLine (ruleOf r .action) (ruleOf r .words))) ≡ ruleTextOf (wordOf RuleKind) r
+rule : (r : RuleValue) → ended (lineText (ruleLine (ruleOf r .action) (ruleOf r .words))) ≡ Put.ruleLine (wordOf RuleKind) r
 unfolding ruleOf lineText laterFields
 rule r = rw (join-next, join-words)
 
@@ -62,8 +63,8 @@ said-list g h e [] ls = refl
 said-list g h e (x ∷ xs) ls =
     said-next (g x) (map g xs ++ ls) ∙ rw (said-list g h e xs ls, e x) (sym (append-assoc (h x) (each h xs) (said ls)))
 
-said-rules : (rs : List RuleValue) (ls : List Line) → said (map (λ (r : Rule). ruleLine (r .action) (r .words)) (map ruleOf rs) ++ ls) ≡ each (ruleTextOf (bytes "rule")) rs ++ said ls
-said-rules rs ls = rw map-map (said-list (λ r. ruleLine (ruleOf r .action) (ruleOf r .words)) (ruleTextOf (bytes "rule")) rule rs ls)
+said-rules : (rs : List RuleValue) (ls : List Line) → said (map (λ (r : Rule). ruleLine (r .action) (r .words)) (map ruleOf rs) ++ ls) ≡ each (Put.ruleLine (bytes "rule")) rs ++ said ls
+said-rules rs ls = rw map-map (said-list (λ r. ruleLine (ruleOf r .action) (ruleOf r .words)) (Put.ruleLine (bytes "rule")) rule rs ls)
 
 said-end : said (plain End 0 0 ∷ []) ≡ bytes "end" ++ (lineFeed ∷ [])
 unfolding linesText lineText laterFields join

@@ -7,11 +7,11 @@ use lib.Dec.{leb}
 use lib.ListN.{length, take}
 use Rattle.basis.specs.Bytes.{byte}
 use Rattle.basis.specs.Lists.{all, over}
+use Rattle.seniority.specs.declared.Direct.{Direct}
 use Rattle.text.specs.Number.{decimal}
 use Rattle.text.specs.Parts.{comma, lineFeed}
 use Rattle.words.specs.Word.{written}
 use Rattle.words.proofs.RoundTrip.{inDigits}
-use Rattle.seniority.specs.declared.Direct.{Direct}
 use Rattle.policy.specs.Value.{wordPlaces}
 use Rattle.policy.specs.declared.value.Entry.{Entry}
 use Rattle.policy.specs.declared.value.RuleValue.{RuleValue}
@@ -47,14 +47,14 @@ unfoldable pub each : {A : Type 0} → (A → List ℕ) → List A → List ℕ
 each f [] = []
 each f (x ∷ xs) = f x ++ each f xs
 
--- the words of a rule
+-- the words of a rule can be spelt; each stands after a comma
 abbrev pub allInDigits : List Slot → Bool
 allInDigits ws = all (λ s. inDigits (s .word)) ws
 
 abbrev pub wordFields : List Slot → List ℕ
 wordFields ws = each (λ s. field (written (s .word))) ws
 
--- lines
+-- lines of one number, of two numbers, and of a number and words
 unfoldable pub ended : List ℕ → List ℕ
 ended l = l ++ (lineFeed ∷ [])
 
@@ -64,34 +64,22 @@ oneLine word a = ended (word ++ field (decimal a))
 abbrev pub twoLine : List ℕ → ℕ → ℕ → List ℕ
 twoLine word a b = ended ((word ++ field (decimal a)) ++ field (decimal b))
 
-abbrev pub ruleLine : List ℕ → ℕ → List Slot → List ℕ
-ruleLine word a ws = ended ((word ++ field (decimal a)) ++ wordFields ws)
+abbrev pub wordsLine : List ℕ → ℕ → List Slot → List ℕ
+wordsLine word a ws = ended ((word ++ field (decimal a)) ++ wordFields ws)
 
--- the lines of lists
-abbrev pub widthLines : List ℕ → List ℕ → List ℕ
-widthLines word ws = each (oneLine word) ws
-
+-- the lines of a seniority, of a user or an object, and of a rule
 abbrev pub pairLine : List ℕ → Direct → List ℕ
 pairLine word l = twoLine word (l .senior) (l .junior)
-
-abbrev pub pairLines : List ℕ → List Direct → List ℕ
-pairLines word ls = each (pairLine word) ls
 
 abbrev pub entryLine : List ℕ → Entry → List ℕ
 entryLine word e = twoLine word (e .number) (e .set)
 
-abbrev pub entryLines : List ℕ → List Entry → List ℕ
-entryLines word es = each (entryLine word) es
-
 abbrev pub wordsIn : RuleValue → List Slot
 wordsIn r = take (r .count) (r .words)
 
-abbrev pub ruleTextOf : List ℕ → RuleValue → List ℕ
-ruleTextOf word r = ruleLine word (r .action) (wordsIn r)
-
-abbrev pub ruleLines : List ℕ → List RuleValue → List ℕ
-ruleLines word rs = each (ruleTextOf word) rs
+abbrev pub ruleLine : List ℕ → RuleValue → List ℕ
+ruleLine word r = wordsLine word (r .action) (wordsIn r)
 
 -- a rule's count is within its array, and its words can be spelt
-unfoldable pub writable : RuleValue → Bool
-writable r = leb (r .count) wordPlaces && allInDigits (wordsIn r)
+unfoldable pub ruleWritable : RuleValue → Bool
+ruleWritable r = leb (r .count) wordPlaces && allInDigits (wordsIn r)

@@ -12,7 +12,7 @@ use Rattle.policy.specs.declared.value.SideValue.{SideValue}
 use Rattle.policy.specs.declared.value.Register.{Register}
 use Rattle.policy.specs.declared.value.Rules.{Rules}
 use Rattle.policy.specs.declared.value.PolicyValue.{PolicyValue}
-use Rattle.writer.specs.Put.{oneLine, widthLines, pairLines, entryLines, ruleLines, writable}
+use Rattle.writer.specs.Put.{each, oneLine, pairLine, entryLine, ruleLine, ruleWritable}
 
 -- counts are within their arrays, and words can be spelt
 pub record SideWithin (s : SideValue) : Type 0 where
@@ -24,7 +24,7 @@ pub record RegisterWithin (r : Register) : Type 0 where
 
 pub record RulesWithin (r : Rules) : Type 0 where
   pub entries : r .count ≤ rulePlaces
-  pub words : all writable (take (r .count) (r .entries)) ≡ true
+  pub words : all ruleWritable (take (r .count) (r .entries)) ≡ true
 
 pub record Writable (v : PolicyValue) : Type 0 where
   pub user : SideWithin (v .user)
@@ -36,16 +36,16 @@ pub record Writable (v : PolicyValue) : Type 0 where
 -- the parts of the text
 abbrev pub widthsText : ℕ → SideValue → SideValue → List ℕ
 widthsText form u o =
-    (oneLine (bytes "policy") form ++ widthLines (bytes "uattr") (take (u .attributes) (u .widths)))
-    ++ widthLines (bytes "oattr") (take (o .attributes) (o .widths))
+    (oneLine (bytes "policy") form ++ each (oneLine (bytes "uattr")) (take (u .attributes) (u .widths)))
+    ++ each (oneLine (bytes "oattr")) (take (o .attributes) (o .widths))
 
 abbrev pub seniorityText : SideValue → SideValue → List ℕ
 seniorityText u o =
-    pairLines (bytes "usen") (take (u .lines) (u .seniority)) ++ pairLines (bytes "osen") (take (o .lines) (o .seniority))
+    each (pairLine (bytes "usen")) (take (u .lines) (u .seniority)) ++ each (pairLine (bytes "osen")) (take (o .lines) (o .seniority))
 
 abbrev pub registeredText : Register → Register → List ℕ
 registeredText us os =
-    entryLines (bytes "user") (take (us .count) (us .entries)) ++ entryLines (bytes "object") (take (os .count) (os .entries))
+    each (entryLine (bytes "user")) (take (us .count) (us .entries)) ++ each (entryLine (bytes "object")) (take (os .count) (os .entries))
 
 abbrev pub rulesText : Rules → List ℕ
-rulesText rs = ruleLines (bytes "rule") (take (rs .count) (rs .entries)) ++ (bytes "end" ++ (lineFeed ∷ []))
+rulesText rs = each (ruleLine (bytes "rule")) (take (rs .count) (rs .entries)) ++ (bytes "end" ++ (lineFeed ∷ []))

@@ -1,7 +1,7 @@
 // Writing the text of a policy value into a lent buffer.
 ghost use mathlib.Core.Path.{_≡_};
 ghost use Rattle.policy.specs.Valid.{valid};
-ghost use Rattle.policy.specs.Write as policy;
+ghost use Rattle.policy.specs.Write as spec;
 ghost use Rattle.writer.specs.Answer.{answerOf};
 
 use policy::refusal::Refusal;
@@ -28,8 +28,8 @@ fn check(v: PolicyValue) -> bool
 
 // The text of a policy value, put into the buffer where it fits.
 pub fn write(v: PolicyValue, buffer: &mut [u8]) -> Written
-    ensures answer { λ r. ⌜ answerOf r ≡ policy.write v (now (buffer .entry)) ⌝ }
-    ensures bytes { λ r. ⌜ now (buffer .exit) ≡ policy.writeBuffer v (now (buffer .entry)) ⌝ }
+    ensures answer { λ r. ⌜ answerOf r ≡ spec.write v (now (buffer .entry)) ⌝ }
+    ensures bytes { λ r. ⌜ now (buffer .exit) ≡ spec.writeBuffer v (now (buffer .entry)) ⌝ }
 {
     if !check(v) {
         return Written::Refused(Refusal::InvalidState);

@@ -6,8 +6,11 @@ ghost use Prim.Native.Nat.{_≤_};
 ghost use lib.ListN.{length, take};
 ghost use Rattle.text.specs.Number.{decimal};
 ghost use Rattle.policy.specs.Value.{wordPlaces};
-ghost use Rattle.writer.specs.Put.{Room, Put, field, each, allInDigits, wordFields, oneLine, twoLine, ruleLine};
+ghost use Rattle.writer.specs.Put.{Room, Put, field, allInDigits, wordFields, oneLine, twoLine, wordsLine};
 
+use crate::bytes;
+use crate::number;
+use crate::word;
 use policy::value::Slot;
 
 // A kind word and a number.
@@ -15,8 +18,8 @@ fn put_first(word: &[u8], a: u32, buf: &mut [u8]) -> usize
     requires { ⌜ Room (now word ++ field (decimal a)) (now buf) ⌝ }
     ensures { λ r. ⌜ Put (now (word .entry) ++ field (decimal a)) (now (buf .entry)) (now (buf .exit)) r ⌝ }
 {
-    let at = crate::bytes::put(word, buf);
-    let n = crate::number::put(a, &mut buf[at..]);
+    let at = bytes::put(word, buf);
+    let n = number::put(a, &mut buf[at..]);
     at + n
 }
 
@@ -36,7 +39,7 @@ pub fn put_two(word: &[u8], a: u32, b: u32, buf: &mut [u8]) -> usize
     ensures { λ r. ⌜ Put (twoLine (now (word .entry)) a b) (now (buf .entry)) (now (buf .exit)) r ⌝ }
 {
     let at = put_first(word, a, buf);
-    let n = crate::number::put(b, &mut buf[at..]);
+    let n = number::put(b, &mut buf[at..]);
     let end = at + n;
     buf[end] = b'\n';
     end + 1
@@ -52,8 +55,8 @@ fn put_words(words: [Slot; 32], n: usize, buf: &mut [u8]) -> usize
     while i < n {
         let slot = words[i];
         let w = slot.word;
-        let m = crate::word::put(w, &mut buf[at..]);
-        at = at + m;
+        let m = word::put(w, &mut buf[at..]);
+        at += m;
         i += 1;
     }
     at
@@ -61,8 +64,8 @@ fn put_words(words: [Slot; 32], n: usize, buf: &mut [u8]) -> usize
 
 // A rule line.
 pub fn put_rule(word: &[u8], a: u32, words: [Slot; 32], n: usize, buf: &mut [u8]) -> usize
-    requires { ⌜ (n ≤ wordPlaces) × (allInDigits (take n words) ≡ true) × (Room (ruleLine (now word) a (take n words)) (now buf)) ⌝ }
-    ensures { λ r. ⌜ Put (ruleLine (now (word .entry)) a (take n words)) (now (buf .entry)) (now (buf .exit)) r ⌝ }
+    requires { ⌜ (n ≤ wordPlaces) × (allInDigits (take n words) ≡ true) × (Room (wordsLine (now word) a (take n words)) (now buf)) ⌝ }
+    ensures { λ r. ⌜ Put (wordsLine (now (word .entry)) a (take n words)) (now (buf .entry)) (now (buf .exit)) r ⌝ }
 {
     let at = put_first(word, a, buf);
     let m = put_words(words, n, &mut buf[at..]);

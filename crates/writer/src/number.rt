@@ -6,6 +6,8 @@ ghost use Rattle.basis.specs.Bytes.{byte};
 ghost use Rattle.text.specs.Number.{decimal};
 ghost use Rattle.writer.specs.Put.{Room, Put, field, fiveDigits};
 
+use crate::bytes;
+
 // The byte of the last digit of n.
 fn digit(n: u32) -> u8
     ensures { λ r. ⌜ r ≡ byte "0" + n % 10 ⌝ }
@@ -46,5 +48,5 @@ pub fn put(n: u32, buf: &mut [u8]) -> usize
         digit(n),
     ];
     let from = unwritten(n);
-    crate::bytes::put_field(&digits[from..], buf)
+    bytes::put_field(&digits[from..], buf)
 }

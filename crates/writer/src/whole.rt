@@ -8,6 +8,9 @@ ghost use Rattle.policy.specs.Value.{policyOf};
 ghost use Rattle.writer.specs.Put.{Room, Put};
 ghost use Rattle.writer.specs.Whole.{SideWithin, RegisterWithin, RulesWithin, Writable, widthsText, seniorityText, registeredText, rulesText};
 
+use crate::bytes;
+use crate::line;
+use crate::lines;
 use policy::value::PolicyValue;
 use policy::value::Register;
 use policy::value::Rules;
@@ -20,9 +23,9 @@ fn put_widths(form: u32, user: SideValue, object: SideValue, buf: &mut [u8]) -> 
 {
     let user_widths = user.widths;
     let object_widths = object.widths;
-    let mut at = crate::line::put_one(b"policy", form, buf);
-    at = at + crate::lines::put_widths(b"uattr", user_widths, user.attributes, &mut buf[at..]);
-    at = at + crate::lines::put_widths(b"oattr", object_widths, object.attributes, &mut buf[at..]);
+    let mut at = line::put_one(b"policy", form, buf);
+    at += lines::put_widths(b"uattr", user_widths, user.attributes, &mut buf[at..]);
+    at += lines::put_widths(b"oattr", object_widths, object.attributes, &mut buf[at..]);
     at
 }
 
@@ -33,8 +36,8 @@ fn put_seniority(user: SideValue, object: SideValue, buf: &mut [u8]) -> usize
 {
     let user_pairs = user.seniority;
     let object_pairs = object.seniority;
-    let at = crate::lines::put_pairs(b"usen", user_pairs, user.lines, buf);
-    let n = crate::lines::put_pairs(b"osen", object_pairs, object.lines, &mut buf[at..]);
+    let at = lines::put_pairs(b"usen", user_pairs, user.lines, buf);
+    let n = lines::put_pairs(b"osen", object_pairs, object.lines, &mut buf[at..]);
     at + n
 }
 
@@ -45,8 +48,8 @@ fn put_registered(users: Register, objects: Register, buf: &mut [u8]) -> usize
 {
     let user_entries = users.entries;
     let object_entries = objects.entries;
-    let at = crate::lines::put_entries(b"user", user_entries, users.count, buf);
-    let n = crate::lines::put_entries(b"object", object_entries, objects.count, &mut buf[at..]);
+    let at = lines::put_entries(b"user", user_entries, users.count, buf);
+    let n = lines::put_entries(b"object", object_entries, objects.count, &mut buf[at..]);
     at + n
 }
 
@@ -56,8 +59,8 @@ fn put_rules(rules: Rules, buf: &mut [u8]) -> usize
     ensures { λ r. ⌜ Put (rulesText rules) (now (buf .entry)) (now (buf .exit)) r ⌝ }
 {
     let entries = rules.entries;
-    let at = crate::lines::put_rules(b"rule", entries, rules.count, buf);
-    let n = crate::bytes::put(b"end\n", &mut buf[at..]);
+    let at = lines::put_rules(b"rule", entries, rules.count, buf);
+    let n = bytes::put(b"end\n", &mut buf[at..]);
     at + n
 }
 
@@ -72,9 +75,9 @@ pub fn put(v: PolicyValue, buf: &mut [u8]) -> usize
     let objects = v.objects;
     let rules = v.rules;
     let mut at = put_widths(v.form, user, object, buf);
-    at = at + put_seniority(user, object, &mut buf[at..]);
-    at = at + put_registered(users, objects, &mut buf[at..]);
-    at = at + put_rules(rules, &mut buf[at..]);
+    at += put_seniority(user, object, &mut buf[at..]);
+    at += put_registered(users, objects, &mut buf[at..]);
+    at += put_rules(rules, &mut buf[at..]);
     at
 }
 

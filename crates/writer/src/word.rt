@@ -7,6 +7,7 @@ ghost use Rattle.words.specs.Word.{written};
 ghost use Rattle.words.proofs.RoundTrip.{inDigits};
 ghost use Rattle.writer.specs.Put.{Room, Put, field, Spelt};
 
+use crate::bytes;
 use words::Comparison;
 use words::Holding;
 use words::Word;
@@ -46,5 +47,5 @@ pub fn put(w: Word, buf: &mut [u8]) -> usize
     let s = spell(w);
     let bytes = s.bytes;
     let n = s.count;
-    crate::bytes::put_field(&bytes[..n], buf)
+    bytes::put_field(&bytes[..n], buf)
 }

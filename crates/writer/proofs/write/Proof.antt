@@ -1,10 +1,11 @@
 -- `writer::write` meets its contract: by the checks in their order.
-use Prim.Native.Nat.{ℕ, _≤_, _<_}
-use mathlib.Core.Path.{_≡_, refl, sym, _∙_}
-use mathlib.Core.Bool.{Bool, true, false, not}
+use Prim.Native.Nat.{ℕ, _<_}
+use mathlib.Core.Path.{_≡_, sym, _∙_}
+use mathlib.Core.Bool.{true, false}
 use mathlib.Core.List.{List}
 use native.Mathlib.Omega.{arith}
 use borrow.Author.Tests.{lt-ltb, le-ltb, not-true, not-false}
+use borrow.Author.Needs.{needs}
 use lib.ListN.{length}
 use Rattle.basis.specs.Choice.{gives, refuses, lowest}
 use Rattle.policy.specs.Text.{textOf}
@@ -14,14 +15,8 @@ use Rattle.policy.specs.Write.{write, writeBuffer}
 use Rattle.policy.specs.declared.value.PolicyValue.{PolicyValue}
 use Rattle.writer.specs.Put.{Room, Put}
 use Rattle.writer.proofs.Ready.{valid-writable, valid-short}
-use borrow.Author.Needs.{needs}
 use Rattle.writer.proofs.write.Statement.{statement}
 use Rattle.writer.proofs.write.Tie as tie
-use Rattle.writer.proofs.write.Reads as reads
-use Rattle.writer.proofs.write.Lts as lts
-use Rattle.writer.proofs.check.Reads as check-reads
-use Rattle.writer.proofs.whole.measure.Reads as measure-reads
-use Rattle.writer.proofs.whole.put.Reads as put-reads
 
 -- the answer and the buffer by the checks
 module _ (v : PolicyValue) (b : List ℕ) where
@@ -42,31 +37,24 @@ module _ (v : PolicyValue) (b : List ℕ) where
         let t = le-ltb (length b) (length (textOf (policyOf v))) (h .fits) in
         (rw (e, t, p .count), rw (e, t) (p .bytes))
 
--- src/lib.rt:34:9
 check-requires : tie.Need-check-requires
 check-requires c κs = search needs
 
--- src/lib.rt:35:9
 returns : tie.Need-returns
 returns c = invalid _ _ (sym (c .before .check .ensures) ∙ not-true _ (c .if1 .taken))
 
--- src/lib.rt:37:9
 measure-requires : tie.Need-measure-requires
 measure-requires c κs = (valid-writable _ (sym (c .before .check .ensures) ∙ not-false _ (c .if1 .left)), valid-short _ (sym (c .before .check .ensures) ∙ not-false _ (c .if1 .left)))
 
--- src/lib.rt:39:9
 returns-2 : tie.Need-returns-2
 returns-2 c = short _ _ (sym (c .before .before .before .check .ensures) ∙ not-false _ (c .before .before .if1 .left)) (omega (arith, c .before .measure .ensures))
 
--- src/lib.rt:41:9
 put-requires : tie.Need-put-requires
 put-requires c κs = (valid-writable _ (sym (c .before .before .before .before .check .ensures) ∙ not-false _ (c .before .before .before .if1 .left)), record { fits = omega (arith, c .before .before .measure .ensures) })
 
--- src/lib.rt:30:1
 returns-3 : tie.Need-returns-3
 returns-3 c = stored _ _ (sym (c .before .before .before .before .before .before .before .check .ensures) ∙ not-false _ (c .before .before .before .before .before .before .if1 .left)) (record { fits = omega (arith, c .before .before .before .before .before .measure .ensures) }) (c .before .before .put .ensures)
 
--- src/lib.rt:30:1
 same-length : tie.Need-same-length
 same-length c = search needs
 

@@ -1,6 +1,6 @@
 -- `writer::bytes::put_field` meets its contract: the bytes stand after the comma.
-use Rattle.writer.proofs.Putting.{lead, next-start, next-rest, next-put}
 use borrow.Author.Needs.{needs}
+use Rattle.writer.proofs.Putting.{lead, next-start, next-rest, next-put}
 use Rattle.writer.proofs.bytes.put_field.Statement.{statement}
 use Rattle.writer.proofs.bytes.put_field.Tie as tie
 

@@ -1,7 +1,7 @@
 -- `writer::line::put_first` meets its contract: the number stands after the word.
 use native.Mathlib.Omega.{arith}
-use Rattle.writer.proofs.Putting.{shorter, next, next-start, next-rest, next-sum, next-put}
 use borrow.Author.Needs.{needs}
+use Rattle.writer.proofs.Putting.{shorter, next, next-start, next-rest, next-sum, next-put}
 use Rattle.writer.proofs.line.put_first.Statement.{statement}
 use Rattle.writer.proofs.line.put_first.Tie as tie
 

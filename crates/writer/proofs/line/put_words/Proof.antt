@@ -2,6 +2,7 @@
 use Prim.Native.Nat.{ℕ, _-_}
 use mathlib.Core.List.{List}
 use native.Mathlib.Omega.{arith}
+use borrow.Author.Needs.{needs}
 use Rattle.basis.proofs.Lists.{long, all-taken}
 use Rattle.words.specs.Word.{written}
 use Rattle.words.proofs.RoundTrip.{inDigits}
@@ -10,7 +11,6 @@ use Rattle.policy.specs.Value.{slot}
 use Rattle.policy.specs.declared.value.Slot.{Slot}
 use Rattle.writer.specs.Put.{field}
 use Rattle.writer.proofs.Putting.{Run, run-start, run-end, run-next, run-put, next-start, next-rest, next-sum}
-use borrow.Author.Needs.{needs}
 use Rattle.writer.proofs.line.put_words.Statement.{statement}
 use Rattle.writer.proofs.line.put_words.Tie as tie
 

@@ -1,11 +1,11 @@
 -- `writer::lines::put_pairs` meets its contract: after i turns the first i lines are put.
 use Prim.Native.Nat.{_-_}
 use native.Mathlib.Omega.{arith}
+use borrow.Author.Needs.{needs}
 use Rattle.basis.proofs.Lists.{long}
 use Rattle.seniority.specs.Seniority.{direct}
 use Rattle.writer.specs.Put.{pairLine}
 use Rattle.writer.proofs.Putting.{Run, run-start, run-end, run-next, run-put, next-start, next-rest, next-sum}
-use borrow.Author.Needs.{needs}
 use Rattle.writer.proofs.lines.put_pairs.Statement.{statement}
 use Rattle.writer.proofs.lines.put_pairs.Tie as tie
 

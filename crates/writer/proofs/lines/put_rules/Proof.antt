@@ -5,15 +5,15 @@ use mathlib.Core.Bool.{true}
 use mathlib.Core.List.{[]}
 use native.Mathlib.Omega.{arith}
 use borrow.Author.Tests.{leb-true}
+use borrow.Author.Needs.{needs}
 use lib.Dec.{leb}
 use lib.ListN.{getD}
 use Rattle.basis.proofs.Bools.{and-left, and-right}
 use Rattle.basis.proofs.Lists.{long, all-taken}
 use Rattle.policy.specs.Value.{wordPlaces}
 use Rattle.policy.specs.declared.value.RuleValue.{RuleValue}
-use Rattle.writer.specs.Put.{allInDigits, wordsIn, ruleTextOf, writable}
+use Rattle.writer.specs.Put.{allInDigits, wordsIn, ruleLine, ruleWritable}
 use Rattle.writer.proofs.Putting.{Run, run-start, run-end, run-next, run-put, next-start, next-rest, next-sum}
-use borrow.Author.Needs.{needs}
 use Rattle.writer.proofs.lines.put_rules.Statement.{statement}
 use Rattle.writer.proofs.lines.put_rules.Tie as tie
 
@@ -22,17 +22,17 @@ abbrev noRule : RuleValue
 noRule = record { action = 0; count = 0; words = [] }
 
 -- a rule that can be written
-module _ (r : RuleValue) (h : writable r ≡ true) where
+module _ (r : RuleValue) (h : ruleWritable r ≡ true) where
   within : r .count ≤ wordPlaces
-  unfolding writable
+  unfolding ruleWritable
   within = leb-true (r .count) wordPlaces (and-left (leb (r .count) wordPlaces) (allInDigits (wordsIn r)) h)
 
   spelt : allInDigits (wordsIn r) ≡ true
-  unfolding writable
+  unfolding ruleWritable
   spelt = and-right (leb (r .count) wordPlaces) (allInDigits (wordsIn r)) h
 
 abbrev Inv-loop : tie.InvT-loop
-Inv-loop word n buf₀ rules at₀ i₀ buf at i = Run (ruleTextOf word) rules n buf₀ i buf at
+Inv-loop word n buf₀ rules at₀ i₀ buf at i = Run (ruleLine word) rules n buf₀ i buf at
 
 abbrev μ-loop : tie.MeasureT-loop
 μ-loop word n buf₀ rules at₀ i₀ buf at i = n - i
@@ -58,7 +58,7 @@ part-put-rule-end c = search needs
 put-rule-requires : tie.Need-put-rule-requires Inv-loop μ-loop
 put-rule-requires c κs =
     let r = getD (c .before .before .before .before .before .before .before .args .t2) (c .before .before .before .before .loop .i) noRule in
-    let w : writable r ≡ true = all-taken writable noRule (c .before .before .before .before .before .before .before .args .t2) (c .before .before .before .before .before .before .before .args .n) (c .before .before .before .before .loop .i) (search needs) (c .before .before .before .before .loop .inv .places) (c .before .before .before .before .before .before .before .pre .1) in
+    let w : ruleWritable r ≡ true = all-taken ruleWritable noRule (c .before .before .before .before .before .before .before .args .t2) (c .before .before .before .before .before .before .before .args .n) (c .before .before .before .before .loop .i) (search needs) (c .before .before .before .before .loop .inv .places) (c .before .before .before .before .before .before .before .pre .1) in
     (within r w, spelt r w, next-rest (run-next (c .before .before .before .before .loop .inv) noRule (search needs)))
 
 add-at : tie.Need-add-at Inv-loop μ-loop

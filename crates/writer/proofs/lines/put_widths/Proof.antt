@@ -1,9 +1,9 @@
 -- `writer::lines::put_widths` meets its contract: after i turns the first i lines are put.
 use Prim.Native.Nat.{_-_}
 use native.Mathlib.Omega.{arith}
+use borrow.Author.Needs.{needs}
 use Rattle.writer.specs.Put.{oneLine}
 use Rattle.writer.proofs.Putting.{Run, run-start, run-end, run-next, run-put, next-start, next-rest, next-sum}
-use borrow.Author.Needs.{needs}
 use Rattle.writer.proofs.lines.put_widths.Statement.{statement}
 use Rattle.writer.proofs.lines.put_widths.Tie as tie
 

@@ -3,12 +3,12 @@ use Prim.Native.Nat.{ℕ, _+_, _-_, _/_, _%_, _≤_}
 use mathlib.Core.Path.{_≡_}
 use mathlib.Core.List.{List, [], _∷_}
 use native.Mathlib.Omega.{arith}
+use borrow.Author.Needs.{needs}
 use lib.ListN.{length, take, drop, length-drop}
 use lib.Seq.{take-all}
 use Rattle.basis.specs.Bytes.{byte}
 use Rattle.text.specs.Number.{decimal}
 use Rattle.writer.specs.Put.{Room, Put, field, fiveDigits}
-use borrow.Author.Needs.{needs}
 use Rattle.writer.proofs.number.put.Statement.{statement}
 use Rattle.writer.proofs.number.put.Tie as tie
 

@@ -2,6 +2,7 @@
 use Prim.Native.Nat.{ℕ}
 use mathlib.Core.List.{List, _++_}
 use native.Mathlib.Omega.{arith}
+use borrow.Author.Needs.{needs}
 use Rattle.policy.specs.Text.{textOf}
 use Rattle.policy.specs.Value.{policyOf}
 use Rattle.policy.specs.declared.value.PolicyValue.{PolicyValue}
@@ -9,7 +10,6 @@ use Rattle.writer.specs.Put.{Room, Put}
 use Rattle.writer.specs.Whole.{Writable, widthsText, seniorityText, registeredText, rulesText}
 use Rattle.writer.proofs.Putting.{shorter, Next, next, next-start, next-rest, next-sum, next-put}
 use Rattle.writer.proofs.Texts.{valueText, text-is}
-use borrow.Author.Needs.{needs}
 use Rattle.writer.proofs.whole.put.Statement.{statement}
 use Rattle.writer.proofs.whole.put.Tie as tie
 

@@ -1,7 +1,7 @@
 -- `writer::whole::put_registered` meets its contract: the objects stand after the users.
 use native.Mathlib.Omega.{arith}
-use Rattle.writer.proofs.Putting.{shorter, next, next-start, next-rest, next-sum, next-put}
 use borrow.Author.Needs.{needs}
+use Rattle.writer.proofs.Putting.{shorter, next, next-start, next-rest, next-sum, next-put}
 use Rattle.writer.proofs.whole.put_registered.Statement.{statement}
 use Rattle.writer.proofs.whole.put_registered.Tie as tie
 

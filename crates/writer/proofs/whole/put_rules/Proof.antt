@@ -1,7 +1,7 @@
 -- `writer::whole::put_rules` meets its contract: the end line stands after the rules.
 use native.Mathlib.Omega.{arith}
-use Rattle.writer.proofs.Putting.{shorter, next, next-start, next-rest, next-sum, next-put}
 use borrow.Author.Needs.{needs}
+use Rattle.writer.proofs.Putting.{shorter, next, next-start, next-rest, next-sum, next-put}
 use Rattle.writer.proofs.whole.put_rules.Statement.{statement}
 use Rattle.writer.proofs.whole.put_rules.Tie as tie
 

@@ -1,7 +1,7 @@
 -- `writer::whole::put_seniority` meets its contract: the object side stands after the user side.
 use native.Mathlib.Omega.{arith}
-use Rattle.writer.proofs.Putting.{shorter, next, next-start, next-rest, next-sum, next-put}
 use borrow.Author.Needs.{needs}
+use Rattle.writer.proofs.Putting.{shorter, next, next-start, next-rest, next-sum, next-put}
 use Rattle.writer.proofs.whole.put_seniority.Statement.{statement}
 use Rattle.writer.proofs.whole.put_seniority.Tie as tie
 

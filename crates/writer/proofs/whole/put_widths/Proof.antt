@@ -1,7 +1,7 @@
 -- `writer::whole::put_widths` meets its contract: the user attributes stand after the form, and the object attributes after both.
 use native.Mathlib.Omega.{arith}
-use Rattle.writer.proofs.Putting.{shorter, next, next-start, next-rest, next-sum, next-put}
 use borrow.Author.Needs.{needs}
+use Rattle.writer.proofs.Putting.{shorter, next, next-start, next-rest, next-sum, next-put}
 use Rattle.writer.proofs.whole.put_widths.Statement.{statement}
 use Rattle.writer.proofs.whole.put_widths.Tie as tie
 

@@ -1,7 +1,7 @@
 -- `writer::word::put` meets its contract: it puts the bytes that spell the word.
 use mathlib.Core.Path.{sym}
-use lib.Seq.{length-take-le}
 use borrow.Author.Needs.{needs}
+use lib.Seq.{length-take-le}
 use Rattle.writer.proofs.word.put.Statement.{statement}
 use Rattle.writer.proofs.word.put.Tie as tie
 

@@ -4,11 +4,11 @@ use mathlib.Core.Path.{_≡_}
 use mathlib.Core.Bool.{true, _&&_}
 use native.Mathlib.Omega.{arith}
 use borrow.Author.Tests.{ltb-true}
+use borrow.Author.Needs.{needs}
 use lib.Dec.{ltb, lit≤}
 use Rattle.basis.proofs.Bools.{and-left, and-right}
 use Rattle.words.specs.Word.{written}
 use Rattle.words.proofs.RoundTrip.{inDigits}
-use borrow.Author.Needs.{needs}
 use Rattle.writer.proofs.word.spell.Statement.{statement}
 use Rattle.writer.proofs.word.spell.Tie as tie
 
