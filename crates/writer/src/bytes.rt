@@ -1,6 +1,4 @@
 // Bytes, put at the start of a buffer.
-ghost use Prim.Native.Nat.{_≤_};
-ghost use lib.ListN.{length};
 ghost use Rattle.writer.specs.Put.{Room, Put, field};
 
 // The bytes s.

@@ -3,7 +3,7 @@ ghost use mathlib.Core.Path.{_≡_};
 ghost use mathlib.Core.Bool.{true};
 ghost use mathlib.Core.List.{_++_};
 ghost use Prim.Native.Nat.{_≤_};
-ghost use lib.ListN.{length, take};
+ghost use lib.ListN.{take};
 ghost use Rattle.text.specs.Number.{decimal};
 ghost use Rattle.policy.specs.Value.{wordPlaces};
 ghost use Rattle.writer.specs.Put.{Room, Put, field, allInDigits, wordFields, oneLine, twoLine, wordsLine};

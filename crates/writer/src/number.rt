@@ -1,7 +1,7 @@
 // A number field, put at the start of a buffer.
 ghost use mathlib.Core.Path.{_≡_};
 ghost use Prim.Native.Nat.{_+_, _%_, _≤_};
-ghost use lib.ListN.{length, drop};
+ghost use lib.ListN.{drop};
 ghost use Rattle.basis.specs.Bytes.{byte};
 ghost use Rattle.text.specs.Number.{decimal};
 ghost use Rattle.writer.specs.Put.{Room, Put, field, fiveDigits};

@@ -1,8 +1,6 @@
 // A word field, put at the start of a buffer.
 ghost use mathlib.Core.Path.{_≡_};
 ghost use mathlib.Core.Bool.{true};
-ghost use Prim.Native.Nat.{_≤_};
-ghost use lib.ListN.{length};
 ghost use Rattle.words.specs.Word.{written};
 ghost use Rattle.words.proofs.RoundTrip.{inDigits};
 ghost use Rattle.writer.specs.Put.{Room, Put, field, Spelt};
