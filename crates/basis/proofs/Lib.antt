@@ -1,7 +1,10 @@
 pub mod Bools
+pub mod Counting
 pub mod Lists
 pub mod Numbers
-pub mod Same
-pub mod Table
+pub mod Over
 pub mod Padded
+pub mod Same
+pub mod Snoc
+pub mod Table
 pub mod Walk

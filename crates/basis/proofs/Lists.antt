@@ -44,6 +44,12 @@ getD-in (x ∷ xs) (suc k) d h = List·Memᴰ·tail (getD-in xs k d (le-of-suc-l
 pub long : {A B : Type 0} (f : A → B) (xs : List A) (n : ℕ) → length (map f xs) ≡ n → length xs ≡ n
 long f xs n e = sym (length-map xs f) ∙ e
 
+-- a test of a list's images
+pub all-map : {A B : Type 0} (f : B → Bool) (g : A → B) (xs : List A) → all f (map g xs) ≡ all (λ x. f (g x)) xs
+unfolding all
+all-map f g [] = refl
+all-map f g (x ∷ xs) = rw (all-map f g xs)
+
 -- what passes at each of the first n places passes at place i
 pub all-taken : {A : Type 0} (f : A → Bool) (d : A) (xs : List A) (n i : ℕ) → i < n → n ≤ length xs → all f (take n xs) ≡ true → f (getD xs i d) ≡ true
 all-taken f d xs n i h l e =

@@ -1,6 +1,5 @@
 -- The lines of a policy kind by kind: the lines from a kind on, and one line more of the last kind that has any.
-use Prim.Native.Nat.{ℕ}
-use mathlib.Core.Path.{_≡_, refl, sym, _∙_}
+use mathlib.Core.Path.{_≡_, refl, _∙_}
 use mathlib.Core.List.{List, [], _∷_, _++_, map, append-nil, append-assoc, map-append}
 use lib.ListN.{take, drop}
 use Rattle.text.specs.Kind.{placeOf}

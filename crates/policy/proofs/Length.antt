@@ -1,6 +1,6 @@
 -- The text of a sound policy fits the limit of a text: so many lines of each kind at most, each with so many fields at most.
-use Prim.Native.Nat.{ℕ, zero, suc, _+_, _*_, _≤_, _<_}
-use mathlib.Core.Path.{_≡_, refl, sym, ap, _∙_}
+use Prim.Native.Nat.{ℕ, suc, _+_, _*_, _≤_}
+use mathlib.Core.Path.{refl}
 use mathlib.Core.List.{List, [], _∷_, _++_, map, List·Memᴰ, List·Memᴰ·head, List·Memᴰ·tail}
 use native.Mathlib.Omega.{arith}
 use lib.ListN.{length, length-append, length-map}
@@ -11,13 +11,13 @@ use Rattle.words.specs.Word.{written}
 use Rattle.policy.specs.Limits.{textBytes}
 use Rattle.policy.specs.Policy.{Rule, Policy}
 use Rattle.policy.specs.Line.{Line, plain, ruleLine}
-use Rattle.policy.specs.Text.{widthLines, pairLines, entryLines, ruleLines, linesOf, laterFields, lineText, textOf}
+use Rattle.policy.specs.Text.{laterFields, lineText, textOf}
 use Rattle.policy.specs.declared.value.Entry.{Entry}
-use Rattle.policy.proofs.Sound.{sound, Within}
-use Rattle.policy.proofs.Parts.{RuleParts, Parts, parts, Whole, whole}
+use Rattle.policy.proofs.Parts.{Parts}
 use Rattle.policy.proofs.Bounds.{parts-within, rule-bounds}
 use Rattle.policy.proofs.Groups.{groups, linesFrom, lines-from}
-use Rattle.policy.proofs.Fields.{fieldsOf, line-short}
+use Rattle.policy.proofs.Fields.{fieldsOf}
+use Rattle.policy.proofs.LineText.{line-short}
 
 -- the bytes of some lines, each with its line feed
 size : List Line → ℕ

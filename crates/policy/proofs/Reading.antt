@@ -1,9 +1,9 @@
 -- What holds of a state while a text is read: the lists are sound, no line of a later kind was read, and what is due was; each line keeps it.
-use Prim.Native.Nat.{ℕ, suc, _+_, _-_, _≤_}
+use Prim.Native.Nat.{ℕ, suc, _+_, _≤_}
 use mathlib.Core.Path.{_≡_, refl, sym, ap, _∙_, subst}
-use mathlib.Core.Bool.{Bool, true, false, _&&_}
-use mathlib.Core.List.{List, [], _∷_, _++_, map}
-use mathlib.Core.Option.{Option, none, some}
+use mathlib.Core.Bool.{Bool, true}
+use mathlib.Core.List.{List, [], _∷_, _++_}
+use mathlib.Core.Option.{none, some}
 use native.Mathlib.Omega.{arith}
 use lib.Dec.{leb}
 use lib.ListN.{length, drop, length-append, length-drop, length-map}
@@ -18,15 +18,15 @@ use Rattle.words.specs.Word.{parsed, wordIn}
 use Rattle.words.specs.declared.Word.{Word}
 use Rattle.policy.specs.Limits.{isForm, mostWords}
 use Rattle.policy.specs.Policy.{Policy, blank}
-use Rattle.policy.specs.Line.{Line, allowed, countFits, lineOf}
-use Rattle.policy.specs.Checks.{inRange, extended, withLineOf}
+use Rattle.policy.specs.Line.{allowed, countFits, lineOf}
+use Rattle.policy.specs.Checks.{inRange, extended}
 use Rattle.policy.specs.Read.{State, start, after, lineRefusal, lineAfter}
 use Rattle.policy.proofs.Sound.{widthsSound, linesSound, entriesSound, rulesSound, sideSound, listsSound, sound, Within}
 use Rattle.policy.proofs.Parts.{Parts, parts, lists-sound, is-sound}
 use Rattle.policy.proofs.Bounds.{sound-within}
 use Rattle.policy.proofs.Order.{reached, May, allowed-order, cut, cut-more}
 use Rattle.policy.proofs.Growth.{Fits, parts-more}
-use Rattle.policy.proofs.Passed.{Passed, Taken, taken}
+use Rattle.policy.proofs.Passed.{Passed, taken}
 
 -- what is due where the kinds before place i were reached: a known form, and widths of each side
 pub record DueOf (i f : ℕ) (us os : List ℕ) : Type 0 where

@@ -6,9 +6,8 @@ use mathlib.Core.List.{List}
 use borrow.Author.Tests.{le-leb}
 use lib.ListN.{length, take}
 use Rattle.basis.specs.Lists.{all}
-use Rattle.basis.proofs.Lists.{all-of}
+use Rattle.basis.proofs.Lists.{all-of, all-map}
 use Rattle.basis.proofs.Padded.{take-padded-map}
-use Rattle.basis.proofs.Walk.{all-map}
 use Rattle.words.specs.declared.Word.the-variants.{True}
 use Rattle.words.proofs.RoundTrip.{inDigits}
 use Rattle.policy.specs.Limits.{textBytes}

@@ -1,6 +1,5 @@
 // Writing the text of a policy value into a lent buffer.
 ghost use mathlib.Core.Path.{_≡_};
-ghost use Rattle.policy.specs.Valid.{valid};
 ghost use Rattle.policy.specs.Write as spec;
 ghost use Rattle.writer.specs.Answer.{answerOf};
 
@@ -20,18 +19,12 @@ pub enum Written {
     Refused(Refusal),
 }
 
-fn check(v: PolicyValue) -> bool
-    ensures { λ r. ⌜ r ≡ valid v ⌝ }
-{
-    v.form == 1
-}
-
 // The text of a policy value, put into the buffer where it fits.
 pub fn write(v: PolicyValue, buffer: &mut [u8]) -> Written
     ensures answer { λ r. ⌜ answerOf r ≡ spec.write v (now (buffer .entry)) ⌝ }
     ensures bytes { λ r. ⌜ now (buffer .exit) ≡ spec.writeBuffer v (now (buffer .entry)) ⌝ }
 {
-    if !check(v) {
+    if !validity::check(v) {
         return Written::Refused(Refusal::InvalidState);
     }
     let n = whole::measure(v);
