@@ -1,4 +1,5 @@
 pub mod Bools
+pub mod Choice
 pub mod Lists
 pub mod Numbers
 pub mod Same

@@ -1,0 +1,3 @@
+pub mod Run
+pub mod Agreement
+pub mod Request
