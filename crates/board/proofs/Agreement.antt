@@ -30,6 +30,7 @@ use Rattle.board.specs.declared.Session.{Session}
 use Rattle.board.specs.declared.Board.{Board}
 use Rattle.board.specs.Machine.{Entry, Map, empty, put, Call, opens, adds, drops, closes, requests, sessionNumbers, sessionOf, reachOf, objectSet, noSession, checks, entryAfter, heldIn, reply, Out, step, run}
 use Rattle.board.specs.Board.{closed, entryOf, sessionFor, entryAt, store, fresh, entryFits, boardFits, fits, Labels, pastEnd, grantsByLabels, lookUp, boardReply, boardChecks, boardAfter, boardStep}
+use Rattle.board.proofs.Refusals.{allowed, step-is, lower-good}
 use Rattle.board.proofs.Run.{Alike, RanAlike, run-alike}
 
 -- the labels lead every two sets to what the formulas say
@@ -174,13 +175,6 @@ module _ (p : Policy) (b : Board) (m : Map) (h : Holds p b m) where
 
 -- ---- one call
 
--- a good board's refusals: the machine's, then 20
-pub refusals : (v : PolicyValue) (l : Labels) (c : Call) (b : Board) → fits v b ≡ true
-    → lowest (boardChecks v l c b)
-    ≡ given (lowest (checks (policyOf v) c (entryAt b (sessionOf c)))) (lowest (lookUp (policyOf v) l c (entryAt b (sessionOf c)))) some
-unfolding boardChecks lowest
-refusals v l c b f = rw f (lowest-append (checks (policyOf v) c (entryAt b (sessionOf c))) (lookUp (policyOf v) l c (entryAt b (sessionOf c))))
-
 module _ (p : Policy) (l : Labels) (objects : ObjectsFit p) (serves : Serves p l) where
   -- a call that the machine does not refuse finds its places, and is answered alike
   found : (c : Call) (e : Option Entry) → fitting p e ≡ true → lowest (lookUp p l c e) ≡ none
@@ -202,39 +196,37 @@ module _ (p : Policy) (l : Labels) (objects : ObjectsFit p) (serves : Serves p l
       ap decided
       (serves .decides a (heldIn e) (objectSet p n) (leb-false (actions (p .form)) a (t .0)) (held-lt p e f) (objectSet-lt p objects n))
 
-  -- the step of a good board, by its entry
-  answer-alike : (c : Call) (b : Board) (m : Map) → Holds p b m → (r : Option ℕ) → lowest (checks p c (m (sessionOf c))) ≡ r
-      → Alike (Holds p)
-      (given (given r (lowest (lookUp p l c (m (sessionOf c)))) some)
-      (record { reply = boardReply p l c (m (sessionOf c)); state = boardAfter c b })
-      (λ n. record { reply = refused n; state = b }))
-      (given r
-      (record { reply = reply p c (m (sessionOf c)); state = put m (sessionOf c) (entryAfter c (m (sessionOf c))) })
-      (λ n. record { reply = refused n; state = m }))
-  answer-alike c b m h (some n) q = record { reply = refl; state = h }
-  answer-alike c b m h none q =
-      rw (found c (m (sessionOf c)) (holds-entry p b m h (sessionOf c)))
-      (record { reply = answered c (m (sessionOf c)) (holds-entry p b m h (sessionOf c)) q; state = holds-after p b m h c q })
+  module _ (v : PolicyValue) (e : policyOf v ≡ p) (ok : valid v ≡ true) where
+    let-through : (c : Call) (b : Board) (m : Map) → Holds p b m → lowest (checks p c (m (sessionOf c))) ≡ none
+        → Alike (Holds p) (allowed v l c b)
+        (record { reply = reply p c (m (sessionOf c)); state = put m (sessionOf c) (entryAfter c (m (sessionOf c))) })
+    unfolding allowed
+    let-through c b m h q =
+        rw (e, h .entries (sessionOf c), found c (m (sessionOf c)) (holds-entry p b m h (sessionOf c)))
+        (record { reply = answered c (m (sessionOf c)) (holds-entry p b m h (sessionOf c)) q; state = holds-after p b m h c q })
 
-  pub step-alike : (v : PolicyValue) → policyOf v ≡ p → valid v ≡ true
-      → (c : Call) (b : Board) (m : Map) → Holds p b m → Alike (Holds p) (boardStep v l c b) (step p c m)
-  unfolding boardStep step
-  step-alike v e ok c b m h =
-      rw (refusals v l c b (holds-fits p b m h v e ok), e, h .entries (sessionOf c))
-      (answer-alike c b m h (lowest (checks p c (m (sessionOf c)))) refl)
+    pub step-alike : (c : Call) (b : Board) (m : Map) → Holds p b m → Alike (Holds p) (boardStep v l c b) (step p c m)
+    unfolding step
+    step-alike c b m h =
+        rw (step-is v l c b, lower-good v c b (holds-fits p b m h v e ok), e, h .entries (sessionOf c)) (go (lowest (checks p c (m (sessionOf c)))) refl)
+      where
+        go : (r : Option ℕ) → lowest (checks p c (m (sessionOf c))) ≡ r
+            → Alike (Holds p) (given r (allowed v l c b) (λ n. record { reply = refused n; state = b }))
+            (given r
+            (record { reply = reply p c (m (sessionOf c)); state = put m (sessionOf c) (entryAfter c (m (sessionOf c))) })
+            (λ n. record { reply = refused n; state = m }))
+        go (some n) q = record { reply = refl; state = h }
+        go none q = let-through c b m h q
 
-  -- ---- every list of calls
+    -- ---- every list of calls
 
-  pub agreement : (v : PolicyValue) → policyOf v ≡ p → valid v ≡ true
-      → (calls : List Call) → RanAlike (Holds p) (run (boardStep v l) calls fresh) (run (step p) calls empty)
-  agreement v e ok calls = run-alike (boardStep v l) (step p) (Holds p) (step-alike v e ok) calls fresh empty (holds-fresh p)
+    pub agreement : (calls : List Call) → RanAlike (Holds p) (run (boardStep v l) calls fresh) (run (step p) calls empty)
+    agreement calls = run-alike (boardStep v l) (step p) (Holds p) step-alike calls fresh empty (holds-fresh p)
 
-  -- "Each answer equals the machine's"
-  pub replies-agree : (v : PolicyValue) → policyOf v ≡ p → valid v ≡ true
-      → (calls : List Call) → run (boardStep v l) calls fresh .replies ≡ run (step p) calls empty .replies
-  replies-agree v e ok calls = agreement v e ok calls .replies
+    -- "Each answer equals the machine's"
+    pub replies-agree : (calls : List Call) → run (boardStep v l) calls fresh .replies ≡ run (step p) calls empty .replies
+    replies-agree calls = agreement calls .replies
 
-  -- "after the list the board holds exactly the map's sessions, each with its user and held set"
-  pub sessions-agree : (v : PolicyValue) → policyOf v ≡ p → valid v ≡ true
-      → (calls : List Call) (k : ℕ) → entryAt (run (boardStep v l) calls fresh .state) k ≡ run (step p) calls empty .state k
-  sessions-agree v e ok calls = agreement v e ok calls .state .entries
+    -- "after the list the board holds exactly the map's sessions, each with its user and held set"
+    pub sessions-agree : (calls : List Call) (k : ℕ) → entryAt (run (boardStep v l) calls fresh .state) k ≡ run (step p) calls empty .state k
+    sessions-agree calls = agreement calls .state .entries

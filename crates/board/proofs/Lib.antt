@@ -1,3 +1,4 @@
 pub mod Run
+pub mod Refusals
 pub mod Agreement
-pub mod Request
+pub mod OneRequest

@@ -1,1 +1,0 @@
--- Demand 3's last sentence
