@@ -4,3 +4,4 @@ pub mod Lists
 pub mod Numbers
 pub mod Same
 pub mod Table
+pub mod Walk

@@ -2,3 +2,6 @@ pub mod Run
 pub mod Refusals
 pub mod Agreement
 pub mod OneRequest
+mod Look
+mod Users
+mod Ways

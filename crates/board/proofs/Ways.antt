@@ -1,0 +1,96 @@
+-- One law for each way out of a ruling: the checks before it pass, and its own is broken; of an allowed call none is.
+use Prim.Native.Nat.{ℕ, _≤_, _<_}
+use mathlib.Core.Path.{_≡_, refl, sym, ap, _∙_}
+use mathlib.Core.Bool.{Bool, true, false, not}
+use mathlib.Core.List.{List, [], _∷_, _++_}
+use mathlib.Core.Option.{Option, none, some}
+use lib.Dec.{eqb, leb}
+use borrow.Author.Tests.{le-leb, lt-leb, eq-eqb, ne-eqb, not-true, not-false}
+use Rattle.basis.specs.Choice.{given, there, Check, check, lowest}
+use Rattle.basis.proofs.Choice.{lowest-append}
+use Rattle.sets.specs.Set.{within}
+use Rattle.policy.specs.Policy.{Policy, setOfNumber}
+use Rattle.policy.specs.declared.refusal.Refusal.{Refusal}
+use Rattle.board.specs.declared.Session.{Session}
+use Rattle.board.specs.declared.reach.Found.{Found}
+use Rattle.board.specs.declared.rulings.Ruling.{Ruling}
+use Rattle.board.specs.declared.rulings.Ruling.the-variants.{Allowed, Refused}
+use Rattle.board.specs.Machine.{sessionNumbers, reachOf, opens, closes, outOfReach, changeChecks, checks}
+use Rattle.board.specs.Board.{entryOf}
+use Rattle.board.specs.Inner.{refusalOf, Reaches}
+
+-- ---- close
+
+module _ (p : Policy) (u s : ℕ) (x : Session) where
+  pub close-unknown : sessionNumbers ≤ s → some 13 ≡ lowest (checks p (closes u s) (entryOf x))
+  unfolding checks lowest
+  close-unknown n = rw (le-leb sessionNumbers s n)
+
+  module _ (n : s < sessionNumbers) (g : Bool) (h : g ≡ there (setOfNumber (p .users) u)) where
+    pub close-unregistered : not g ≡ true → some 14 ≡ lowest (checks p (closes u s) (entryOf x))
+    unfolding checks lowest
+    close-unregistered r = rw (lt-leb sessionNumbers s n, sym h ∙ not-true g r)
+
+    module _ (r : not g ≡ false) where
+      pub close-closed : not (x .live) ≡ true → some 17 ≡ lowest (checks p (closes u s) (entryOf x))
+      unfolding checks lowest
+      close-closed l = rw (lt-leb sessionNumbers s n, sym h ∙ not-false g r, not-true (x .live) l)
+
+      module _ (l : not (x .live) ≡ false) where
+        pub close-other : (x .user ≡ u → ⊥) → some 18 ≡ lowest (checks p (closes u s) (entryOf x))
+        unfolding checks lowest
+        close-other o = rw (lt-leb sessionNumbers s n, sym h ∙ not-false g r, not-false (x .live) l, ne-eqb (x .user) u o)
+
+        pub close-allowed : x .user ≡ u → none ≡ lowest (checks p (closes u s) (entryOf x))
+        unfolding checks lowest
+        close-allowed o = rw (lt-leb sessionNumbers s n, sym h ∙ not-false g r, not-false (x .live) l, eq-eqb (x .user) u o)
+
+-- ---- open
+
+module _ (p : Policy) (u s set : ℕ) (x : Session) where
+  pub open-unknown : sessionNumbers ≤ s → some 13 ≡ lowest (checks p (opens u s set) (entryOf x))
+  unfolding checks lowest
+  open-unknown n = rw (le-leb sessionNumbers s n)
+
+  module _ (n : s < sessionNumbers) (f : Found) (h : Reaches p u f) where
+    pub open-unregistered : not (f .registered) ≡ true → some 14 ≡ lowest (checks p (opens u s set) (entryOf x))
+    unfolding checks lowest
+    open-unregistered r = rw (lt-leb sessionNumbers s n, sym (h .registered) ∙ not-true (f .registered) r)
+
+    module _ (r : not (f .registered) ≡ false) where
+      pub open-open : x .live ≡ true → some 16 ≡ lowest (checks p (opens u s set) (entryOf x))
+      unfolding checks lowest
+      open-open l = rw (lt-leb sessionNumbers s n, sym (h .registered) ∙ not-false (f .registered) r, l)
+
+      module _ (l : x .live ≡ false) (t : Bool) (w : t ≡ within set (f .set)) where
+        pub open-allowed : t ≡ true → none ≡ lowest (checks p (opens u s set) (entryOf x))
+        unfolding checks lowest
+        open-allowed e =
+            rw (lt-leb sessionNumbers s n, sym (h .registered) ∙ not-false (f .registered) r, l, ← h .set, sym w ∙ e)
+
+        pub open-outside : t ≡ false → some 19 ≡ lowest (checks p (opens u s set) (entryOf x))
+        unfolding checks lowest
+        open-outside e =
+            rw (lt-leb sessionNumbers s n, sym (h .registered) ∙ not-false (f .registered) r, l, ← h .set, sym w ∙ e)
+
+-- ---- add and drop: the checks of close, then 19
+
+module _ (p : Policy) (u s set : ℕ) (x : Session) (f : Found) (h : Reaches p u f) (y : Ruling)
+    (hy : (p : Policy) → f .registered ≡ there (setOfNumber (p .users) u) → refusalOf y ≡ lowest (checks p (closes u s) (entryOf x))) where
+  change-is : lowest (changeChecks p u s set (entryOf x)) ≡ given (refusalOf y) (lowest (check 19 (outOfReach p u set) ∷ [])) some
+  unfolding checks
+  change-is =
+      lowest-append (checks p (closes u s) (entryOf x)) (check 19 (outOfReach p u set) ∷ [])
+      ∙ ap (λ (o : Option ℕ). given o (lowest (check 19 (outOfReach p u set) ∷ [])) some) (sym (hy p (h .registered)))
+
+  pub change-refused : (w : Refusal) → y ≡ Refused w → refusalOf y ≡ lowest (changeChecks p u s set (entryOf x))
+  change-refused w e = rw e (sym (change-is ∙ rw e))
+
+  module _ (e : y ≡ Allowed) (t : Bool) (w : t ≡ within set (f .set)) where
+    pub change-allowed : t ≡ true → none ≡ lowest (changeChecks p u s set (entryOf x))
+    unfolding lowest
+    change-allowed q = sym (change-is ∙ rw (e, ← h .set, sym w ∙ q))
+
+    pub change-outside : t ≡ false → some 19 ≡ lowest (changeChecks p u s set (entryOf x))
+    unfolding lowest
+    change-outside q = sym (change-is ∙ rw (e, ← h .set, sym w ∙ q))
