@@ -2,6 +2,7 @@ pub mod Bools
 pub mod Choice
 pub mod Lists
 pub mod Numbers
+pub mod Padded
 pub mod Same
 pub mod Table
 pub mod Walk

@@ -2,6 +2,8 @@ pub mod Run
 pub mod Refusals
 pub mod Agreement
 pub mod OneRequest
+pub mod Valid
 mod Look
 mod Users
 mod Ways
+mod Fitting

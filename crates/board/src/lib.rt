@@ -8,6 +8,7 @@ use policy::value::PolicyValue;
 
 mod buffers;
 mod entries;
+mod fit;
 mod reach;
 mod rulings;
 
