@@ -7,3 +7,4 @@ mod Look
 mod Users
 mod Ways
 mod Fitting
+mod Settled

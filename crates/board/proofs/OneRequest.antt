@@ -16,7 +16,8 @@ use Rattle.policy.specs.Value.{policyOf}
 use Rattle.policy.specs.Answers.{Reply, granted, denied, refused, decided}
 use Rattle.policy.specs.declared.value.PolicyValue.{PolicyValue}
 use Rattle.board.specs.declared.Board.{Board}
-use Rattle.board.proofs.Refusals.{lower, allowed, step-is}
+use Rattle.board.proofs.Refusals.{allowed, step-is}
+use Rattle.board.specs.Inner.{lower}
 use Rattle.board.specs.Machine.{Entry, Call, requests, objectSet, heldIn, checks, Out}
 use Rattle.board.specs.Board.{entryAt, fits, Labels, placeAt, pastEnd, grantsByLabels, lookUp, boardReply, boardChecks, boardAfter, boardStep}
 

@@ -11,11 +11,8 @@ use Rattle.policy.specs.Answers.{refused}
 use Rattle.policy.specs.declared.value.PolicyValue.{PolicyValue}
 use Rattle.board.specs.declared.Board.{Board}
 use Rattle.board.specs.Machine.{Entry, Call, sessionOf, checks, Out}
+use Rattle.board.specs.Inner.{lower}
 use Rattle.board.specs.Board.{entryAt, fits, Labels, lookUp, boardReply, boardChecks, boardAfter, boardStep}
-
--- the lowest refusal below 20
-unfoldable pub lower : PolicyValue → Call → Board → Option ℕ
-lower v c b = lowest (check 11 (not (fits v b)) ∷ checks (policyOf v) c (entryAt b (sessionOf c)))
 
 module _ (v : PolicyValue) (c : Call) (b : Board) where
   pub lower-bad : fits v b ≡ false → lower v c b ≡ some 11

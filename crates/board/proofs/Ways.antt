@@ -1,4 +1,4 @@
--- One law for each way out of a ruling: the checks before it pass, and its own is broken; of an allowed call none is.
+-- One law for each way out of a ruling: the checks before it pass, and its own is broken; where the call is allowed, none is.
 use Prim.Native.Nat.{ℕ, _≤_, _<_}
 use mathlib.Core.Path.{_≡_, refl, sym, ap, _∙_}
 use mathlib.Core.Bool.{Bool, true, false, not}
@@ -10,14 +10,20 @@ use Rattle.basis.specs.Choice.{given, there, Check, check, lowest}
 use Rattle.basis.proofs.Choice.{lowest-append}
 use Rattle.sets.specs.Set.{within}
 use Rattle.policy.specs.Policy.{Policy, setOfNumber}
+use Rattle.policy.specs.Value.{entriesOf, sideOf, policyOf}
+use Rattle.policy.specs.declared.value.PolicyValue.{PolicyValue}
 use Rattle.policy.specs.declared.refusal.Refusal.{Refusal}
 use Rattle.board.specs.declared.Session.{Session}
+use Rattle.board.specs.declared.Board.{Board}
 use Rattle.board.specs.declared.reach.Found.{Found}
 use Rattle.board.specs.declared.rulings.Ruling.{Ruling}
 use Rattle.board.specs.declared.rulings.Ruling.the-variants.{Allowed, Refused}
-use Rattle.board.specs.Machine.{sessionNumbers, reachOf, opens, closes, outOfReach, changeChecks, checks}
-use Rattle.board.specs.Board.{entryOf}
-use Rattle.board.specs.Inner.{refusalOf, Reaches}
+use Rattle.board.specs.Machine.{Call, sessionOf, sessionNumbers, reachOf, opens, adds, closes, outOfReach, changeChecks, checks}
+use Rattle.board.specs.Board.{entryOf, entryAt, fits}
+use Rattle.board.specs.Inner.{refusalOf, FoundAs, Reaches, Reachable, lower}
+use Rattle.board.proofs.Refusals.{lower-bad, lower-good}
+use Rattle.board.proofs.Fitting.{fits-valid}
+use Rattle.board.proofs.Valid.{reachable}
 
 -- ---- close
 
@@ -94,3 +100,36 @@ module _ (p : Policy) (u s set : ℕ) (x : Session) (f : Found) (h : Reaches p u
     pub change-outside : t ≡ false → some 19 ≡ lowest (changeChecks p u s set (entryOf x))
     unfolding lowest
     change-outside q = sym (change-is ∙ rw (e, ← h .set, sym w ∙ q))
+
+-- ---- with 11 before them
+
+module _ (v : PolicyValue) (b : Board) (t : Bool) (ht : t ≡ fits v b) where
+  pub ruled-bad : (c : Call) → not t ≡ true → some 11 ≡ lower v c b
+  ruled-bad c n = sym (lower-bad v c b (sym ht ∙ not-true t n))
+
+  module _ (n : not t ≡ false) where
+    pub ready : Reachable (v .user) (v .users)
+    ready = reachable v (fits-valid v b (sym ht ∙ not-false t n))
+
+    ruled : (c : Call) (x : Session) → entryOf x ≡ entryAt b (sessionOf c) → (r : Option ℕ) → r ≡ lowest (checks (policyOf v) c (entryOf x))
+        → r ≡ lower v c b
+    ruled c x h r e = e ∙ rw h (sym (lower-good v c b (sym ht ∙ not-false t n)))
+
+    module _ (u s : ℕ) (x : Session) (hx : entryOf x ≡ entryAt b s) (y : Ruling) where
+      module _ (set : ℕ) (f : Found)
+          (hf : (p : Policy) → p .users ≡ entriesOf (v .users) → p .user ≡ sideOf (v .user) → Reaches p u f) where
+        pub open-ruled : ((p : Policy) (w : ℕ) → Reaches p w f → refusalOf y ≡ lowest (checks p (opens w s set) (entryOf x)))
+            → refusalOf y ≡ lower v (opens u s set) b
+        unfolding policyOf
+        open-ruled hy = ruled (opens u s set) x hx (refusalOf y) (hy (policyOf v) u (hf (policyOf v) refl refl))
+
+        pub change-ruled : ((p : Policy) → Reaches p u f → refusalOf y ≡ lowest (changeChecks p u s set (entryOf x)))
+            → refusalOf y ≡ lower v (adds u s set) b
+        unfolding policyOf checks
+        change-ruled hy = ruled (adds u s set) x hx (refusalOf y) (hy (policyOf v) (hf (policyOf v) refl refl))
+
+      pub close-ruled : (f : Found) → FoundAs (setOfNumber (entriesOf (v .users)) u) f
+          → ((p : Policy) → f .registered ≡ there (setOfNumber (p .users) u) → refusalOf y ≡ lowest (checks p (closes u s) (entryOf x)))
+          → refusalOf y ≡ lower v (closes u s) b
+      unfolding policyOf
+      close-ruled f hf hy = ruled (closes u s) x hx (refusalOf y) (hy (policyOf v) (hf .registered))

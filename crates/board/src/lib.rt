@@ -1,10 +1,14 @@
 // The board of staff sessions: its five calls.
 ghost use mathlib.Core.Path.{_≡_};
-ghost use Rattle.board.specs.Machine.{opens, adds, drops, closes, requests};
+ghost use mathlib.Core.Option.{none};
+ghost use Prim.Native.Nat.{_<_};
+ghost use Rattle.board.specs.Machine.{sessionNumbers, opens, adds, drops, closes, requests};
 ghost use Rattle.board.specs.Board.{Labels, labelsOf, outOf, fresh, boardStep};
+ghost use Rattle.board.specs.Inner.{refusalOf, settled};
 use labels::Counts;
 use policy::refusal::Refusal;
 use policy::value::PolicyValue;
+use crate::rulings::Ruling;
 
 mod buffers;
 mod entries;
@@ -48,4 +52,78 @@ pub fn fresh() -> Board
     let none = entries::closed();
     let sessions = [none; 32];
     Board { sessions: sessions }
+}
+
+// A call done, with the entry that its session gets, or refused.
+fn settle(board: Board, session: u32, ruling: Ruling, entry: Session) -> Step
+    requires { ⌜ (refusalOf ruling ≡ none → session < sessionNumbers) ⌝ }
+    ensures { λ r. ⌜ outOf r ≡ settled board session (refusalOf ruling) entry ⌝ }
+{
+    match ruling {
+        Ruling::Allowed => {
+            let i = session as usize;
+            let mut after = board;
+            after.sessions[i] = entry;
+            Step {
+                answer: Answer::Done,
+                board: after,
+            }
+        }
+        Ruling::Refused(why) => Step {
+            answer: Answer::Refused(why),
+            board: board,
+        },
+    }
+}
+
+// The map gains (user, set).
+pub fn open(board: Board, policy: PolicyValue, user: u32, session: u32, set: u32) -> Step
+    ensures { λ r. ⌜ ((l : Labels) → outOf r ≡ boardStep policy l (opens user session set) board) ⌝ }
+{
+    let ruling = rulings::of_open(board, policy, user, session, set);
+    let entry = Session {
+        live: true,
+        user: user,
+        held: set,
+    };
+    settle(board, session, ruling, entry)
+}
+
+// The held set gains these values.
+pub fn add(board: Board, policy: PolicyValue, user: u32, session: u32, set: u32) -> Step
+    ensures { λ r. ⌜ ((l : Labels) → outOf r ≡ boardStep policy l (adds user session set) board) ⌝ }
+{
+    let ruling = rulings::of_change(board, policy, user, session, set);
+    let before = entries::at(board, session);
+    let held = sets::union(before.held, set);
+    let entry = Session {
+        live: true,
+        user: before.user,
+        held: held,
+    };
+    settle(board, session, ruling, entry)
+}
+
+// The held set loses these values.
+pub fn drop(board: Board, policy: PolicyValue, user: u32, session: u32, set: u32) -> Step
+    ensures { λ r. ⌜ ((l : Labels) → outOf r ≡ boardStep policy l (drops user session set) board) ⌝ }
+{
+    let ruling = rulings::of_change(board, policy, user, session, set);
+    let before = entries::at(board, session);
+    let held = sets::minus(before.held, set);
+    let entry = Session {
+        live: true,
+        user: before.user,
+        held: held,
+    };
+    settle(board, session, ruling, entry)
+}
+
+// The entry goes.
+pub fn close(board: Board, policy: PolicyValue, user: u32, session: u32) -> Step
+    ensures { λ r. ⌜ ((l : Labels) → outOf r ≡ boardStep policy l (closes user session) board) ⌝ }
+{
+    let ruling = rulings::of_close(board, policy, user, session);
+    let entry = entries::closed();
+    settle(board, session, ruling, entry)
 }
