@@ -8,3 +8,4 @@ mod Users
 mod Ways
 mod Fitting
 mod Settled
+mod Asked

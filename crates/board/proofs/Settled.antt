@@ -53,7 +53,7 @@ module _ (v : PolicyValue) (c : Call) (b : Board) (r : Option ℕ) (h : r ≡ lo
 
 -- ---- the session's next entry
 
-live-of : (x : Session) → there (entryOf x) ≡ true → x .live ≡ true
+pub live-of : (x : Session) → there (entryOf x) ≡ true → x .live ≡ true
 live-of x e = go (x .live) e
   where
     go : (t : Bool) → there (cond {A = Option Entry} t (some (record { user = x .user; held = x .held })) none) ≡ true → t ≡ true

@@ -9,14 +9,14 @@ use native.Mathlib.Omega.{arith}
 use lib.Dec.{eqb, lit≤}
 use Rattle.policy.specs.Limits.{values, userNumbers, objectNumbers}
 use Rattle.policy.specs.Policy.{Side, Policy, total, sets, setOfNumber}
-use Rattle.policy.specs.Value.{sideOf, entriesOf, policyOf, sideValue, register, valueOf}
+use Rattle.policy.specs.Value.{entryPlaces, sideOf, entriesOf, policyOf, sideValue, register, valueOf}
 use Rattle.policy.specs.Valid.{valid}
 use Rattle.policy.specs.declared.value.Entry.{Entry}
 use Rattle.policy.specs.declared.value.PolicyValue.{PolicyValue}
 use Rattle.policy.proofs.Sound.{sound, Within}
 use Rattle.policy.proofs.Parts.{numberFits, numberAbove, Parts, parts, whole}
 use Rattle.policy.proofs.Rising.{rising}
-use Rattle.policy.proofs.Bounds.{total-most, lines-ordered, entry-bounds, parts-within}
+use Rattle.policy.proofs.Bounds.{total-most, lines-ordered, entry-bounds, parts-within, sound-within}
 use Rattle.policy.proofs.Valid.{valid-stored}
 use Rattle.board.specs.Inner.{Reachable}
 use Rattle.board.proofs.Agreement.{ObjectsFit}
@@ -53,3 +53,9 @@ reachable v e =
       ordered = lines-ordered (values (p .form)) (p .user) (t .user);
       assigned = set-lt userNumbers (p .user) (p .users) (t .users);
     }
+
+pub objects-within : (v : PolicyValue) → valid v ≡ true → v .objects .count ≤ entryPlaces
+unfolding policyOf valueOf register
+objects-within v e =
+    let q = valid-stored v e in
+    rw (ap (λ (x : PolicyValue). x .objects .count) (q .0)) at (sound-within (policyOf v) (whole (policyOf v) (q .1) .lists) .objects)

@@ -9,16 +9,18 @@ use borrow.Author.Tests.{le-leb, lt-leb, eq-eqb, ne-eqb, not-true, not-false}
 use Rattle.basis.specs.Choice.{given, there, Check, check, lowest}
 use Rattle.basis.proofs.Choice.{lowest-append}
 use Rattle.sets.specs.Set.{within}
+use Rattle.policy.specs.Limits.{actions}
 use Rattle.policy.specs.Policy.{Policy, setOfNumber}
 use Rattle.policy.specs.Value.{entriesOf, sideOf, policyOf}
 use Rattle.policy.specs.declared.value.PolicyValue.{PolicyValue}
 use Rattle.policy.specs.declared.refusal.Refusal.{Refusal}
+use Rattle.formula.specs.Decide.{noAction}
 use Rattle.board.specs.declared.Session.{Session}
 use Rattle.board.specs.declared.Board.{Board}
 use Rattle.board.specs.declared.reach.Found.{Found}
 use Rattle.board.specs.declared.rulings.Ruling.{Ruling}
 use Rattle.board.specs.declared.rulings.Ruling.the-variants.{Allowed, Refused}
-use Rattle.board.specs.Machine.{Call, sessionOf, sessionNumbers, reachOf, opens, adds, closes, outOfReach, changeChecks, checks}
+use Rattle.board.specs.Machine.{Call, sessionOf, sessionNumbers, reachOf, opens, adds, closes, requests, outOfReach, changeChecks, checks}
 use Rattle.board.specs.Board.{entryOf, entryAt, fits}
 use Rattle.board.specs.Inner.{refusalOf, FoundAs, Reaches, Reachable, lower}
 use Rattle.board.proofs.Refusals.{lower-bad, lower-good}
@@ -100,6 +102,35 @@ module _ (p : Policy) (u s set : ℕ) (x : Session) (f : Found) (h : Reaches p u
     pub change-outside : t ≡ false → some 19 ≡ lowest (changeChecks p u s set (entryOf x))
     unfolding lowest
     change-outside q = sym (change-is ∙ rw (e, ← h .set, sym w ∙ q))
+
+-- ---- request
+
+module _ (p : Policy) (s a n : ℕ) (x : Session) (k : ℕ) (hk : k ≡ actions (p .form)) where
+  pub request-unknown : k ≤ a → some 12 ≡ lowest (checks p (requests s a n) (entryOf x))
+  unfolding checks lowest
+  request-unknown h = rw (le-leb (actions (p .form)) a (rw hk at h))
+
+  module _ (h : a < k) where
+    known : noAction p a ≡ false
+    known = lt-leb (actions (p .form)) a (rw hk at h)
+
+    pub request-nowhere : sessionNumbers ≤ s → some 13 ≡ lowest (checks p (requests s a n) (entryOf x))
+    unfolding checks lowest
+    request-nowhere m = rw (known, le-leb sessionNumbers s m)
+
+    module _ (m : s < sessionNumbers) (g : Bool) (hg : g ≡ there (setOfNumber (p .objects) n)) where
+      pub request-unregistered : not g ≡ true → some 15 ≡ lowest (checks p (requests s a n) (entryOf x))
+      unfolding checks lowest
+      request-unregistered r = rw (known, lt-leb sessionNumbers s m, sym hg ∙ not-true g r)
+
+      module _ (r : not g ≡ false) where
+        pub request-allowed : x .live ≡ true → none ≡ lowest (checks p (requests s a n) (entryOf x))
+        unfolding checks lowest
+        request-allowed l = rw (known, lt-leb sessionNumbers s m, sym hg ∙ not-false g r, l)
+
+        pub request-closed : x .live ≡ false → some 17 ≡ lowest (checks p (requests s a n) (entryOf x))
+        unfolding checks lowest
+        request-closed l = rw (known, lt-leb sessionNumbers s m, sym hg ∙ not-false g r, l)
 
 -- ---- with 11 before them
 

@@ -37,6 +37,14 @@ pub fn set_of(register: Register, number: u32) -> Found
     }
 }
 
+// The set of the object that a request names.
+pub fn object_of(objects: Register, object: u32) -> Found
+    requires { ⌜ objects .count ≤ entryPlaces ⌝ }
+    ensures { λ r. ⌜ FoundAs (policy.setOfNumber (entriesOf objects) object) r ⌝ }
+{
+    set_of(objects, object)
+}
+
 // The reach of a user: the assigned values and all juniors of them.
 pub fn of(users: Register, side: SideValue, user: u32) -> Found
     requires { ⌜ Reachable side users ⌝ }
