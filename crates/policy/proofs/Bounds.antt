@@ -243,7 +243,7 @@ module _ (p : Policy) (t : Parts p) where
 
 -- ---- the lists fit their arrays
 
-side-within : (s : Side) → SideParts widthPlaces s → WithinSide s
+pub side-within : (s : Side) → SideParts widthPlaces s → WithinSide s
 unfolding triangle
 side-within s h =
     record { widths = le-trans (attributes-few widthPlaces s h) (total-most widthPlaces s h); lines = lines-few widthPlaces s h }

@@ -4,7 +4,7 @@ use mathlib.Core.Path.{_≡_, refl, fun-ext}
 use mathlib.Core.Bool.{true}
 use mathlib.Core.List.{List, [], _∷_, _++_}
 use mathlib.Core.Option.{none}
-use lib.Dec.{ltb}
+use lib.Dec.{ltb, lit≤}
 use lib.ListN.{length}
 use borrow.Author.Tests.{le-leb}
 use Rattle.basis.specs.Lists.{all}
@@ -30,16 +30,16 @@ use Rattle.policy.proofs.Order.{cut}
 -- ---- one list
 
 module _ (most : ℕ) where
-  more-widths : (ws : List ℕ) (w : ℕ) → let s : Side = record { widths = ws; lines = [] } in
+  pub more-widths : (ws : List ℕ) (w : ℕ) → let s : Side = record { widths = ws; lines = [] } in
       SideParts most s → widthFits most s w ≡ true → SideParts most (withWidth w s)
   unfolding rising
   more-widths ws w h f = record { widths = widths-more most (record { widths = ws; lines = [] }) w (h .widths) f; lines = refl }
 
-  more-lines : (s : Side) (v j : ℕ) → SideParts most s → pairFits s v j ≡ true → pairRises s v j ≡ true → SideParts most (withLine v j s)
+  pub more-lines : (s : Side) (v j : ℕ) → SideParts most s → pairFits s v j ≡ true → pairRises s v j ≡ true → SideParts most (withLine v j s)
   unfolding pairFits total pairRises
   more-lines s v j h f a = record { widths = h .widths; lines = rising-more (lineFits s) lineAbove (s .lines) (direct v j) (h .lines) f a }
 
-more-entries : (most : ℕ) (s : Side) (es : List Entry) (n x : ℕ) → rising (numberFits most s) numberAbove none es ≡ true
+pub more-entries : (most : ℕ) (s : Side) (es : List Entry) (n x : ℕ) → rising (numberFits most s) numberAbove none es ≡ true
     → entryFits most s n x ≡ true → entryRises es n ≡ true → rising (numberFits most s) numberAbove none (withEntry n x es) ≡ true
 unfolding entryRises
 more-entries most s es n x h f a = rising-more (numberFits most s) numberAbove es (record { number = n; set = x }) h f a
@@ -82,7 +82,12 @@ pub record Fits (k : Kind) (p : Policy) (n m : ℕ) (ws : List Word) : Type 0 wh
   pub balance : balances k ws ≡ true
   pub few : length ws ≤ mostWords
 
-more-rules : (p : Policy) (a m : ℕ) (ws : List Word) → let r : Rule = record { action = a; words = ws } in
+-- a line with no words
+pub plain-fits : (k : Kind) (p : Policy) (n m : ℕ) → inRange k p n m [] ≡ true → rises k p n m ≡ true → balances k [] ≡ true → Fits k p n m []
+unfolding all
+plain-fits k p n m f a b = record { range = f; rise = a; equal = refl; balance = b; few = lit≤ tt }
+
+pub more-rules : (p : Policy) (a m : ℕ) (ws : List Word) → let r : Rule = record { action = a; words = ws } in
     rising (ruleSound p) actionAbove none (p .rules) ≡ true → Fits RuleKind p a m ws
     → rising (ruleSound (withRules (p .rules ++ (r ∷ [])) p)) actionAbove none (p .rules ++ (r ∷ [])) ≡ true
 unfolding ruleSound inRange rises ruleRises balances

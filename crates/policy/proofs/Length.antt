@@ -16,7 +16,8 @@ use Rattle.policy.specs.declared.value.Entry.{Entry}
 use Rattle.policy.proofs.Parts.{Parts}
 use Rattle.policy.proofs.Bounds.{parts-within, rule-bounds}
 use Rattle.policy.proofs.Groups.{groups, linesFrom, lines-from}
-use Rattle.policy.proofs.Fields.{fieldsOf, line-short}
+use Rattle.policy.proofs.Fields.{fieldsOf}
+use Rattle.policy.proofs.LineText.{line-short}
 
 -- the bytes of some lines, each with its line feed
 size : List Line → ℕ

@@ -102,8 +102,15 @@ keep-keep i j k xs h = elim (decLt (placeOf k) j) [
 cut-cut : (i j : ℕ) (p : Policy) → i ≤ j → cut j (cut i p) ≡ cut i p
 unfolding cut
 cut-cut i j p h =
-    rw (keep-keep i j Uattr (p .user .widths) h, keep-keep i j Usen (p .user .lines) h, keep-keep i j Oattr (p .object .widths) h,
-      keep-keep i j Osen (p .object .lines) h, keep-keep i j User (p .users) h, keep-keep i j Object (p .objects) h, keep-keep i j RuleKind (p .rules) h)
+    rw (
+      keep-keep i j Uattr (p .user .widths) h,
+      keep-keep i j Usen (p .user .lines) h,
+      keep-keep i j Oattr (p .object .widths) h,
+      keep-keep i j Osen (p .object .lines) h,
+      keep-keep i j User (p .users) h,
+      keep-keep i j Object (p .objects) h,
+      keep-keep i j RuleKind (p .rules) h,
+    )
 
 -- a policy with no line from place i on has none from a later place on
 pub cut-more : (i j : ℕ) (p : Policy) → i ≤ j → cut i p ≡ p → cut j p ≡ p

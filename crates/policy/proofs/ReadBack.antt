@@ -1,4 +1,4 @@
--- A sound policy's text is read back as the policy: its lines are taken one after the other, kind by kind.
+-- Lines that are read back: one line that passes its checks, the lines of a kind, and a list that rises.
 use Prim.Native.Nat.{ℕ, suc, _≤_, min}
 use mathlib.Core.Path.{_≡_, refl, sym, _∙_}
 use mathlib.Core.Bool.{Bool, true}
@@ -9,6 +9,7 @@ use lib.ListN.{length}
 use lib.Seq.{append-snoc}
 use Rattle.basis.specs.Choice.{given}
 use Rattle.basis.specs.Lists.{last}
+use Rattle.basis.proofs.Snoc.{last-snoc}
 use Rattle.text.specs.Parts.{Line as TextLine}
 use Rattle.text.specs.Kind.{placeOf}
 use Rattle.text.specs.declared.kind.Kind.{Kind}
@@ -18,11 +19,12 @@ use Rattle.policy.specs.Line.{Line, allowed}
 use Rattle.policy.specs.Checks.{withLineOf}
 use Rattle.policy.specs.Read.{Accepted, State, after, readLines}
 use Rattle.policy.specs.Text.{lineText}
-use Rattle.policy.proofs.Rising.{rising, head, last-snoc}
+use Rattle.policy.proofs.Rising.{rising, head}
 use Rattle.policy.proofs.Order.{reached, May, order-allowed}
 use Rattle.policy.proofs.Passed.{Passed, not-refused}
 use Rattle.policy.proofs.Growth.{Fits}
-use Rattle.policy.proofs.Fields.{fieldsOf, Back, fields-text}
+use Rattle.policy.proofs.Fields.{fieldsOf, Back}
+use Rattle.policy.proofs.LineText.{fields-text}
 
 abbrev pub state : Option Kind → Policy → State
 state b p = record { before = b; policy = p }

@@ -2,7 +2,7 @@
 use Prim.Native.Nat.{ℕ, _≤_}
 use mathlib.Core.Path.{_≡_, refl, sym, ap, _∙_}
 use mathlib.Core.Bool.{true}
-use mathlib.Core.List.{List, [], _∷_, map}
+use mathlib.Core.List.{List, [], _∷_, map, map-map}
 use borrow.Author.Tests.{le-ltb}
 use lib.ListN.{length}
 use Rattle.basis.specs.Lists.{all}
@@ -15,8 +15,9 @@ use Rattle.policy.specs.Read.{Accepted, readText}
 use Rattle.policy.specs.Text.{linesOf, lineText, textOf}
 use Rattle.policy.proofs.Sound.{sound}
 use Rattle.policy.proofs.Parts.{parts, whole}
-use Rattle.policy.proofs.Fields.{text-lacks-feed}
-use Rattle.policy.proofs.Accepted.{text-reads, texts, soFar}
+use Rattle.policy.proofs.LineText.{text-lacks-feed}
+use Rattle.policy.proofs.SoFar.{soFar}
+use Rattle.policy.proofs.Accepted.{text-reads, texts}
 use Rattle.policy.proofs.ReadBack.{textLine}
 use Rattle.policy.proofs.Length.{parts-short}
 use Rattle.policy.proofs.Written.{leads-all}
@@ -33,10 +34,6 @@ pub text-short : (p : Policy) → sound p ≡ true → length (textOf p) ≤ tex
 text-short p e = parts-short p (parts p (whole p e .lists))
 
 -- ---- the lines of a policy's text
-
-map-map : {A B C : Type 0} (g : B → C) (f : A → B) (xs : List A) → map g (map f xs) ≡ map (λ x. g (f x)) xs
-map-map g f [] = refl
-map-map g f (x ∷ xs) = rw (map-map g f xs)
 
 each-lacks : (ls : List Line) → all (lacks lineFeed) (map lineText ls) ≡ true
 unfolding all

@@ -12,6 +12,7 @@ use Rattle.policy.specs.Value.{valueOf, policyOf}
 use Rattle.policy.specs.Valid.{Yielded, sameValue, yields, valid}
 use Rattle.policy.specs.declared.value.PolicyValue.{PolicyValue}
 use Rattle.policy.proofs.Sound.{sound}
+use Rattle.policy.proofs.Parts.{Parts, parts, Whole, whole}
 use Rattle.policy.proofs.Same.{same-value}
 use Rattle.policy.proofs.Values.{policy-value}
 use Rattle.policy.proofs.RoundTrip.{read-sound, read-text, sound-read}
@@ -41,6 +42,13 @@ valid-stored v e =
     let y = valid-yielded v e in
     let q : policyOf v ≡ y .1 = ap policyOf (y .3) ∙ policy-value (y .1) in
     (ap valueOf q ∙ sym (y .3), ap sound q ∙ read-sound (y .0) (y .1) (y .2))
+
+-- so the bounds of a sound policy hold of a valid value's
+pub valid-whole : (v : PolicyValue) → valid v ≡ true → Whole (policyOf v)
+valid-whole v e = whole (policyOf v) (valid-stored v e .1)
+
+pub valid-parts : (v : PolicyValue) → valid v ≡ true → Parts (policyOf v)
+valid-parts v e = parts (policyOf v) (valid-whole v e .lists)
 
 pub sound-valid : (p : Policy) → sound p ≡ true → valid (valueOf p) ≡ true
 sound-valid p e = yielded-valid (textOf p) p (sound-read p e)

@@ -2,8 +2,8 @@
 use Prim.Native.Nat.{ℕ, _+_, _<_}
 use mathlib.Core.Path.{_≡_, refl, ap}
 use mathlib.Core.List.{List, [], _∷_, _++_, map}
-use native.Mathlib.Omega.{arith}
-use lib.ListN.{length, set, length-append}
+use lib.ListN.{length, set}
+use Rattle.basis.proofs.Snoc.{length-snoc}
 use Rattle.basis.proofs.Padded.{take-padded, take-padded-map, padded-more, padded-more-map}
 use Rattle.seniority.specs.Seniority.{direct}
 use Rattle.words.specs.declared.Word.{Word}
@@ -61,9 +61,6 @@ moreEntry n s x = record { count = x .count + 1; entries = set (x .entries) (x .
 
 abbrev pub moreRule : RuleValue → Rules → Rules
 moreRule r x = record { count = x .count + 1; entries = set (x .entries) (x .count) r }
-
-length-snoc : {A : Type 0} (xs : List A) (x : A) → length (xs ++ (x ∷ [])) ≡ length xs + 1
-length-snoc xs x = omega (arith, length-append xs (x ∷ []))
 
 pub more-width : (w : ℕ) (s : Side) → length (s .widths) < widthPlaces → sideValue (withWidth w s) ≡ moreWidth w (sideValue s)
 unfolding sideValue

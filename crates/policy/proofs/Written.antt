@@ -1,5 +1,5 @@
--- A sound policy's text is read back as the policy, and fits the limit of a text.
-use Prim.Native.Nat.{ℕ, suc, _+_, _≤_}
+-- The lines of a sound policy are read back as the policy: list by list, from the end line to the first.
+use Prim.Native.Nat.{ℕ, suc, _≤_}
 use mathlib.Core.Path.{_≡_, refl, fun-ext}
 use mathlib.Core.Bool.{true, false≢true}
 use mathlib.Core.List.{List, [], _∷_, _++_, map}
@@ -10,10 +10,10 @@ use lib.ListN.{length}
 use lib.Pow.{pow-mono}
 use borrow.Author.Tests.{lt-ltb, eqb-true}
 use Rattle.basis.specs.Choice.{given}
-use Rattle.basis.specs.Lists.{all, last, sum}
+use Rattle.basis.specs.Lists.{last, sum}
+use Rattle.basis.proofs.Snoc.{sum-snoc}
 use Rattle.basis.proofs.Bools.{and-left}
 use Rattle.seniority.specs.declared.Direct.{Direct}
-use Rattle.text.specs.Parts.{lines}
 use Rattle.text.specs.Kind.{placeOf}
 use Rattle.text.specs.declared.kind.Kind.{Kind}
 use Rattle.text.specs.declared.kind.Kind.the-variants.{Policy as PolicyKind, Uattr, Oattr, Usen, Osen, User, Object, Rule as RuleKind, End}
@@ -29,7 +29,7 @@ use Rattle.policy.proofs.Sound.{widthsSound, ruleSound}
 use Rattle.policy.proofs.Parts.{lineFits, lineAbove, numberFits, numberAbove, actionAbove, SideParts, rule-parts, Parts, parts, Whole}
 use Rattle.policy.proofs.Bounds.{width-head, width-tail, pair-fits, entry-fits, total-most, rule-digits}
 use Rattle.policy.proofs.Order.{reached, May, order-allowed, cut}
-use Rattle.policy.proofs.Growth.{Fits, fits-same, equal-same}
+use Rattle.policy.proofs.Growth.{Fits, plain-fits, fits-same, equal-same}
 use Rattle.policy.proofs.Fields.{OneNumber, TwoNumbers, policy-one, uattr-one, oattr-one, usen-two, osen-two, user-two, object-two, Back, one-back, two-back, rule-back, end-back}
 use Rattle.policy.proofs.Groups.{groups, linesFrom, lines-from}
 use Rattle.policy.proofs.ReadBack.{state, Leads, Good, leads-line, kind-lines, rising-lines}
@@ -40,11 +40,6 @@ module _ (p : Policy) (t : Parts p) where
   From k = (b : Option Kind) → May (reached b) (placeOf k) → Leads (state b (cut (placeOf k) p)) (linesFrom k p) p
 
   -- ---- widths
-
-  sum-snoc : (ws : List ℕ) (w : ℕ) → sum (ws ++ (w ∷ [])) ≡ sum ws + w
-  unfolding sum
-  sum-snoc [] w = omega arith
-  sum-snoc (v ∷ ws) w = omega (arith, sum-snoc ws w)
 
   module _ (k : Kind) (o : OneNumber k) (put : List ℕ → Policy)
       (fits : (ws : List ℕ) (w : ℕ) → widthFits (values (p .form)) (record { widths = ws; lines = [] }) w ≡ true → Fits k (put ws) w 0 []) where
@@ -68,17 +63,17 @@ module _ (p : Policy) (t : Parts p) where
         kind-lines k h g (λ w. plain k w 0) (λ w. refl) put grow Sums width-good width-next ws more p then b m (λ z. omega arith) e
 
   oattr-lines : 1 ≤ length (p .object .widths) → From Usen → From Oattr
-  unfolding linesFrom groups cut extended inRange rises all balances
+  unfolding linesFrom groups cut extended inRange rises balances
   oattr-lines l =
-      width-lines Oattr oattr-one (λ ws. withObject (record { widths = ws; lines = [] }) (cut 2 p))
-      (λ ws w f. record { range = f; rise = refl; equal = refl; balance = refl; few = lit≤ tt }) (lit≤ tt) (lit≤ tt) (λ ws w. refl)
+      width-lines Oattr oattr-one (λ ws. withObject (record { widths = ws; lines = [] }) (cut (placeOf Oattr) p))
+      (λ ws w f. plain-fits Oattr _ w 0 f refl refl) (lit≤ tt) (lit≤ tt) (λ ws w. refl)
       (p .object .widths) l (t .object .widths) (linesFrom Usen p)
 
   uattr-lines : 1 ≤ length (p .user .widths) → From Oattr → From Uattr
-  unfolding linesFrom groups cut extended inRange rises all balances
+  unfolding linesFrom groups cut extended inRange rises balances
   uattr-lines l =
-      width-lines Uattr uattr-one (λ ws. withUser (record { widths = ws; lines = [] }) (cut 1 p))
-      (λ ws w f. record { range = f; rise = refl; equal = refl; balance = refl; few = lit≤ tt }) (lit≤ tt) (lit≤ tt) (λ ws w. refl)
+      width-lines Uattr uattr-one (λ ws. withUser (record { widths = ws; lines = [] }) (cut (placeOf Uattr) p))
+      (λ ws w f. plain-fits Uattr _ w 0 f refl refl) (lit≤ tt) (lit≤ tt) (λ ws w. refl)
       (p .user .widths) l (t .user .widths) (linesFrom Oattr p)
 
   -- ---- seniorities
@@ -91,19 +86,19 @@ module _ (p : Policy) (t : Parts p) where
       two-back k o (l .senior) (l .junior) (omega (arith, b .value)) (omega (arith, b .value, b .above))
 
   usen-lines : From Osen → From Usen
-  unfolding linesFrom groups cut extended inRange rises pairFits total pairRises all balances
+  unfolding linesFrom groups cut extended inRange rises pairFits total pairRises balances
   usen-lines =
       rising-lines Usen (lit≤ tt) (lit≤ tt) (λ (l : Direct). plain Usen (l .senior) (l .junior)) (λ l. refl)
-      (λ ls. withUser (record { widths = p .user .widths; lines = ls }) (cut 3 p)) (λ ls l. refl) (lineFits (p .user)) lineAbove
-      (λ ls l f a. record { back = pair-back Usen usen-two (p .user) (t .user) l f; fits = record { range = f; rise = a; equal = refl; balance = refl; few = lit≤ tt } })
+      (λ ls. withUser (record { widths = p .user .widths; lines = ls }) (cut (placeOf Usen) p)) (λ ls l. refl) (lineFits (p .user)) lineAbove
+      (λ ls l f a. record { back = pair-back Usen usen-two (p .user) (t .user) l f; fits = plain-fits Usen _ _ _ f a refl })
       (p .user .lines) (t .user .lines) (linesFrom Osen p) p
 
   osen-lines : From User → From Osen
-  unfolding linesFrom groups cut extended inRange rises pairFits total pairRises all balances
+  unfolding linesFrom groups cut extended inRange rises pairFits total pairRises balances
   osen-lines =
       rising-lines Osen (lit≤ tt) (lit≤ tt) (λ (l : Direct). plain Osen (l .senior) (l .junior)) (λ l. refl)
-      (λ ls. withObject (record { widths = p .object .widths; lines = ls }) (cut 4 p)) (λ ls l. refl) (lineFits (p .object)) lineAbove
-      (λ ls l f a. record { back = pair-back Osen osen-two (p .object) (t .object) l f; fits = record { range = f; rise = a; equal = refl; balance = refl; few = lit≤ tt } })
+      (λ ls. withObject (record { widths = p .object .widths; lines = ls }) (cut (placeOf Osen) p)) (λ ls l. refl) (lineFits (p .object)) lineAbove
+      (λ ls l f a. record { back = pair-back Osen osen-two (p .object) (t .object) l f; fits = plain-fits Osen _ _ _ f a refl })
       (p .object .lines) (t .object .lines) (linesFrom User p) p
 
   -- ---- users and objects
@@ -116,19 +111,19 @@ module _ (p : Policy) (t : Parts p) where
       two-back k o (e .number) (e .set) (omega (arith, b .0)) (omega (arith, b .1))
 
   user-lines : From Object → From User
-  unfolding linesFrom groups cut extended inRange rises entryRises all balances
+  unfolding linesFrom groups cut extended inRange rises entryRises balances
   user-lines =
       rising-lines User (lit≤ tt) (lit≤ tt) (λ (e : Entry). plain User (e .number) (e .set)) (λ e. refl)
-      (λ es. withUsers es (cut 5 p)) (λ es e. refl) (numberFits userNumbers (p .user)) numberAbove
-      (λ es e f a. record { back = entry-back User user-two userNumbers (lit≤ tt) (p .user) (t .user) e f; fits = record { range = f; rise = a; equal = refl; balance = refl; few = lit≤ tt } })
+      (λ es. withUsers es (cut (placeOf User) p)) (λ es e. refl) (numberFits userNumbers (p .user)) numberAbove
+      (λ es e f a. record { back = entry-back User user-two userNumbers (lit≤ tt) (p .user) (t .user) e f; fits = plain-fits User _ _ _ f a refl })
       (p .users) (t .users) (linesFrom Object p) p
 
   object-lines : From RuleKind → From Object
-  unfolding linesFrom groups cut extended inRange rises entryRises all balances
+  unfolding linesFrom groups cut extended inRange rises entryRises balances
   object-lines =
       rising-lines Object (lit≤ tt) (lit≤ tt) (λ (e : Entry). plain Object (e .number) (e .set)) (λ e. refl)
-      (λ es. withObjects es (cut 6 p)) (λ es e. refl) (numberFits objectNumbers (p .object)) numberAbove
-      (λ es e f a. record { back = entry-back Object object-two objectNumbers (lit≤ tt) (p .object) (t .object) e f; fits = record { range = f; rise = a; equal = refl; balance = refl; few = lit≤ tt } })
+      (λ es. withObjects es (cut (placeOf Object) p)) (λ es e. refl) (numberFits objectNumbers (p .object)) numberAbove
+      (λ es e f a. record { back = entry-back Object object-two objectNumbers (lit≤ tt) (p .object) (t .object) e f; fits = plain-fits Object _ _ _ f a refl })
       (p .objects) (t .objects) (linesFrom RuleKind p) p
 
   -- ---- rules
@@ -146,13 +141,13 @@ module _ (p : Policy) (t : Parts p) where
       record {
         back = rule-back (r .action) (r .words) (omega (arith, q .action)) (some-words (r .words) (q .balance)) (q .few) (rule-digits p t r q);
         fits =
-          record {
-            range = rw (lt-ltb (r .action) (actions (p .form)) (q .action), ← fun-ext (fits-same p rs)) (q .fit);
-            rise = a;
-            equal = rw (← fun-ext (equal-same p rs)) (q .equal);
-            balance = q .balance;
-            few = q .few;
-          };
+            record {
+              range = rw (lt-ltb (r .action) (actions (p .form)) (q .action), ← fun-ext (fits-same p rs)) (q .fit);
+              rise = a;
+              equal = rw (← fun-ext (equal-same p rs)) (q .equal);
+              balance = q .balance;
+              few = q .few;
+            };
       }
 
   rule-lines : From End → From RuleKind
@@ -164,18 +159,18 @@ module _ (p : Policy) (t : Parts p) where
   -- ---- the first line and the last
 
   end-line : From End
-  unfolding linesFrom groups cut extended inRange rises all balances readLines ending
+  unfolding linesFrom groups cut extended inRange rises balances readLines ending
   end-line b m =
-      leads-line b (cut 8 p) (plain End 0 0) [] p (order-allowed b End m)
-      (record { back = end-back; fits = record { range = refl; rise = refl; equal = refl; balance = refl; few = lit≤ tt } }) (λ n. refl)
+      leads-line b (cut (placeOf End) p) (plain End 0 0) [] p (order-allowed b End m)
+      (record { back = end-back; fits = plain-fits End _ 0 0 refl refl refl }) (λ n. refl)
 
   first-line : isForm (p .form) ≡ true → From Uattr → Leads start (linesFrom PolicyKind p) p
-  unfolding linesFrom groups blank cut extended inRange rises all balances
+  unfolding linesFrom groups blank cut extended inRange rises balances
   first-line f then =
       leads-line none blank (plain PolicyKind (p .form) 0) (linesFrom Uattr p) p (order-allowed none PolicyKind (record { low = omega arith; high = omega arith; first = λ h. refl }))
       (record {
         back = one-back PolicyKind policy-one (p .form) (omega (arith, eqb-true (p .form) 1 f));
-        fits = record { range = f; rise = refl; equal = refl; balance = refl; few = lit≤ tt };
+        fits = plain-fits PolicyKind blank (p .form) 0 f refl refl;
       })
       (then (some PolicyKind) (record { low = omega arith; high = omega arith; first = λ h. omega arith }))
 
