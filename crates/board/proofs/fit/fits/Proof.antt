@@ -7,7 +7,7 @@ use Rattle.board.proofs.fit.fits.Statement.{statement}
 use Rattle.board.proofs.fit.fits.Tie as tie
 
 check-requires : tie.Need-check-requires
-check-requires c κs = ?
+check-requires c κs = search needs
 
 entries-fit-requires : tie.Need-entries-fit-requires
 entries-fit-requires c κs =
