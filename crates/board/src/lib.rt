@@ -3,13 +3,14 @@ ghost use mathlib.Core.Path.{_≡_};
 ghost use mathlib.Core.Option.{none};
 ghost use Prim.Native.Nat.{_<_};
 ghost use Rattle.board.specs.Machine.{sessionNumbers, opens, adds, drops, closes, requests};
-ghost use Rattle.board.specs.Board.{Labels, labelsOf, replyOf, outOf, fresh, boardStep};
+ghost use Rattle.board.specs.Board.{Labels, labelsOf, outOf, fresh, boardStep};
 ghost use Rattle.board.specs.Inner.{refusalOf, settled};
 use labels::Counts;
 use policy::refusal::Refusal;
 use policy::value::PolicyValue;
 use crate::rulings::Ruling;
 
+mod asking;
 mod buffers;
 mod entries;
 mod fit;
@@ -124,44 +125,8 @@ pub fn close(board: Board, policy: PolicyValue, user: u32, session: u32) -> Step
     ensures { λ r. ⌜ ((l : Labels) → outOf r ≡ boardStep policy l (closes user session) board) ⌝ }
 {
     let ruling = rulings::of_close(board, policy, user, session);
-    let entry = entries::closed();
-    settle(board, session, ruling, entry)
-}
-
-// What a request is answered: by 11 to 17, or by the labels.
-fn ask(
-    board: Board,
-    policy: PolicyValue,
-    counts: Counts,
-    users: &[u8],
-    objects: &[u8],
-    table: &[u8],
-    session: u32,
-    action: u32,
-    object: u32,
-) -> Answer
-    ensures { λ r. ⌜ replyOf r ≡ boardStep policy (labelsOf counts (now (users .entry)) (now (objects .entry)) (now (table .entry))) (requests session action object) board .reply ⌝ }
-{
-    if !fit::fits(policy, board) {
-        return Answer::Refused(Refusal::InvalidState);
-    }
-    let registered = policy.objects;
-    let found = reach::object_of(registered, object);
-    let entry = entries::at(board, session);
-    let actions = checks::limits::actions(policy.form);
-    let ruling = rulings::of_request(actions, entry, found.registered, session, action);
-    match ruling {
-        Ruling::Allowed => buffers::look_up(
-            counts,
-            users,
-            objects,
-            table,
-            action,
-            entry.held,
-            found.set,
-        ),
-        Ruling::Refused(why) => Answer::Refused(why),
-    }
+    let gone = entries::closed();
+    settle(board, session, ruling, gone)
 }
 
 // Granted or denied by the labels of the held set and the object's set: one byte of each lent buffer is read.
@@ -178,7 +143,7 @@ pub fn request(
 ) -> Step
     ensures { λ r. ⌜ outOf r ≡ boardStep policy (labelsOf counts (now (users .entry)) (now (objects .entry)) (now (table .entry))) (requests session action object) board ⌝ }
 {
-    let answer = ask(
+    let answer = asking::ask(
         board,
         policy,
         counts,

@@ -1,10 +1,9 @@
-// The refusals of each call, but 20.
+// The refusals of the calls that change a session.
 ghost use mathlib.Core.Path.{_≡_};
 ghost use Prim.Native.Nat.{ℕ};
 ghost use Rattle.basis.specs.Choice.{there, lowest};
-ghost use Rattle.policy.specs.Limits as limits;
 ghost use Rattle.policy.specs.Policy as policy;
-ghost use Rattle.board.specs.Machine.{opens, adds, closes, requests, checks, changeChecks};
+ghost use Rattle.board.specs.Machine.{opens, adds, closes, checks, changeChecks};
 ghost use Rattle.board.specs.Board.{entryOf};
 ghost use Rattle.board.specs.Inner.{refusalOf, Reaches, lower};
 use crate::entries;
@@ -75,32 +74,6 @@ fn change_checks(entry: Session, reach: Found, user: u32, session: u32, set: u32
         Ruling::Allowed
     } else {
         Ruling::Refused(Refusal::SetOutOfReach)
-    }
-}
-
-// Refusals 12 to 17 of request, where the policy has `actions` actions and the object is registered or not.
-pub fn of_request(
-    actions: u32,
-    entry: Session,
-    registered: bool,
-    session: u32,
-    action: u32,
-) -> Ruling
-    ensures { λ r. ⌜ ((p : policy.Policy) (n : ℕ) → actions ≡ limits.actions (p .form) → registered ≡ there (policy.setOfNumber (p .objects) n) → refusalOf r ≡ lowest (checks p (requests session action n) (entryOf entry))) ⌝ }
-{
-    if actions <= action {
-        return Ruling::Refused(Refusal::UnknownAction);
-    }
-    if SESSION_NUMBERS <= session {
-        return Ruling::Refused(Refusal::UnknownSession);
-    }
-    if !registered {
-        return Ruling::Refused(Refusal::UnregisteredObject);
-    }
-    if entry.live {
-        Ruling::Allowed
-    } else {
-        Ruling::Refused(Refusal::SessionNotOpen)
     }
 }
 

@@ -1,7 +1,7 @@
--- `board::rulings::of_request` meets its contract: one law for each way out.
+-- `board::asking::request_checks` meets its contract: one law for each way out.
 use Rattle.board.proofs.Ways.{request-unknown, request-nowhere, request-unregistered, request-allowed, request-closed}
-use Rattle.board.proofs.rulings.of_request.Statement.{statement}
-use Rattle.board.proofs.rulings.of_request.Tie as tie
+use Rattle.board.proofs.asking.request_checks.Statement.{statement}
+use Rattle.board.proofs.asking.request_checks.Tie as tie
 
 returns : tie.Need-returns
 returns c = search request-unknown
@@ -18,5 +18,5 @@ returns-4 c = search request-allowed
 returns-5 : tie.Need-returns-5
 returns-5 c = search request-closed
 
-pub of-request-spec : {M : Type 1} → statement M
-of-request-spec = tie.close (tie.spec returns returns-2 returns-3 returns-4 returns-5)
+pub request-checks-spec : {M : Type 1} → statement M
+request-checks-spec = tie.close (tie.spec returns returns-2 returns-3 returns-4 returns-5)

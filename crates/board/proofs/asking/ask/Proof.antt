@@ -1,12 +1,12 @@
--- `board::ask` meets its contract: one law for each way out.
+-- `board::asking::ask` meets its contract: one law for each way out.
 use mathlib.Core.Path.{sym, _∙_}
 use borrow.Author.Needs.{needs}
 use borrow.Author.Tests.{not-false}
 use Rattle.board.proofs.Asked.{asked-bad, asked-refused, asked-labels}
 use Rattle.board.proofs.Fitting.{fits-valid}
 use Rattle.board.proofs.Valid.{objects-within}
-use Rattle.board.proofs.ask.Statement.{statement}
-use Rattle.board.proofs.ask.Tie as tie
+use Rattle.board.proofs.asking.ask.Statement.{statement}
+use Rattle.board.proofs.asking.ask.Tie as tie
 
 fits-requires : tie.Need-fits-requires
 fits-requires c κs = search needs
@@ -26,8 +26,8 @@ at-requires c κs = search needs
 actions-requires : tie.Need-actions-requires
 actions-requires c κs = search needs
 
-of-request-requires : tie.Need-of-request-requires
-of-request-requires c κs = search needs
+request-checks-requires : tie.Need-request-checks-requires
+request-checks-requires c κs = search needs
 
 enum-told : tie.Need-enum-told
 enum-told c = search needs
@@ -53,7 +53,7 @@ ask-spec =
     object-of-requires
     at-requires
     actions-requires
-    of-request-requires
+    request-checks-requires
     enum-told
     look-up-requires
     enum-known-ruling
