@@ -1,7 +1,7 @@
 -- A request: its answer by the lower refusals and the look-up, and that it leaves the board.
 use Prim.Native.Nat.{ℕ}
 use mathlib.Core.Path.{_≡_, refl, sym, ap, ap₂, _∙_}
-use mathlib.Core.Bool.{Bool, true, false, cond, not}
+use mathlib.Core.Bool.{Bool, true, false, not}
 use mathlib.Core.Option.{Option, none, some}
 use borrow.Author.Tests.{not-true, not-false}
 use Rattle.basis.specs.Choice.{given, there, lowest}

@@ -1,7 +1,7 @@
 -- What the bytes at the three places say, one law for each way out of a look-up.
-use Prim.Native.Nat.{ℕ, _+_, _*_, _≤_, _<_}
-use mathlib.Core.Path.{_≡_, refl, sym, ap, _∙_}
-use mathlib.Core.Bool.{Bool, true, false, cond, _||_}
+use Prim.Native.Nat.{ℕ, _+_, _*_}
+use mathlib.Core.Path.{_≡_, refl, sym, _∙_}
+use mathlib.Core.Bool.{Bool, true, false, cond}
 use mathlib.Core.List.{List}
 use mathlib.Core.Option.{Option, none, some}
 use native.Mathlib.Omega.{arith}
@@ -9,7 +9,7 @@ use lib.Dec.{ltb, leb}
 use lib.ListN.{length, getD}
 use borrow.Author.Tests.{ltb-true, ltb-false, le-leb, lt-leb}
 use Rattle.sets.specs.Set.{has}
-use Rattle.policy.specs.Answers.{Reply, granted, denied, refused, decided}
+use Rattle.policy.specs.Answers.{granted, denied, refused, decided}
 use Rattle.board.specs.Board.{Labels, placeAt, pastEnd, grantsByLabels}
 use Rattle.board.specs.Inner.{byteOf, byteAt, lookedUp}
 use Rattle.board.specs.declared.buffers.Byte.{Byte}

@@ -2,24 +2,22 @@
 -- bit at the labels is set, and a place past its buffer's end gets 20. By cases on the lower refusals and on the places.
 use Prim.Native.Nat.{ℕ, _≤_}
 use mathlib.Core.Path.{_≡_, refl, sym, ap, _∙_}
-use mathlib.Core.Bool.{Bool, true, false, cond, not, _||_}
-use mathlib.Core.List.{List, [], _∷_, _++_}
+use mathlib.Core.Bool.{Bool, true, false, cond, _||_}
 use mathlib.Core.Logic.{_⊎_, inl, inr, ⊎-elim, _↔_}
 use mathlib.Core.Option.{Option, none, some}
-use native.Mathlib.Omega.{arith}
 use lib.Dec.{leb}
 use lib.ListN.{length}
 use borrow.Author.Tests.{le-leb, leb-true}
-use Rattle.basis.specs.Choice.{given, Check, check, lowest}
+use Rattle.basis.specs.Choice.{given, lowest}
 use Rattle.basis.proofs.Bools.{or-cases, or-left, or-right}
 use Rattle.policy.specs.Value.{policyOf}
-use Rattle.policy.specs.Answers.{Reply, granted, denied, refused, decided}
+use Rattle.policy.specs.Answers.{Reply, granted, refused, decided}
 use Rattle.policy.specs.declared.value.PolicyValue.{PolicyValue}
 use Rattle.board.specs.declared.Board.{Board}
 use Rattle.board.proofs.Refusals.{allowed, step-is}
 use Rattle.board.specs.Inner.{lower, lookedUp}
-use Rattle.board.specs.Machine.{Entry, Call, requests, objectSet, heldIn, checks, Out}
-use Rattle.board.specs.Board.{entryAt, fits, Labels, placeAt, pastEnd, grantsByLabels, lookUp, boardReply, boardChecks, boardAfter, boardStep}
+use Rattle.board.specs.Machine.{requests, objectSet, heldIn, Out}
+use Rattle.board.specs.Board.{entryAt, Labels, placeAt, pastEnd, grantsByLabels, lookUp, boardReply, boardStep}
 
 -- the answer to a request, the sets that it is about
 abbrev pub answer : PolicyValue → Labels → Board → ℕ → ℕ → ℕ → Reply
@@ -41,16 +39,17 @@ unfolding pastEnd
 past-iff l u o =
     let x = leb (length (l .buffers .users)) u in
     let y = leb (length (l .buffers .objects)) o in
-    let z = leb (length (l .buffers .table)) (placeAt l u o) in
-    ((λ e. ⊎-elim
-    (λ p. inl (leb-true (length (l .buffers .users)) u p))
-    (λ q. inr (⊎-elim (λ p. inl (leb-true (length (l .buffers .objects)) o p)) (λ p. inr (leb-true (length (l .buffers .table)) (placeAt l u o) p)) (or-cases y z q)))
-    (or-cases x (y || z) e)),
-    ⊎-elim
-    (λ p. or-left x (y || z) (le-leb (length (l .buffers .users)) u p))
-    (λ q. or-right x (y || z) (⊎-elim
-    (λ p. or-left y z (le-leb (length (l .buffers .objects)) o p))
-    (λ p. or-right y z (le-leb (length (l .buffers .table)) (placeAt l u o) p)) q)))
+    let z = leb (length (l .buffers .table)) (placeAt l u o) in (
+      (λ e. ⊎-elim
+          (λ p. inl (leb-true (length (l .buffers .users)) u p))
+          (λ q. inr (⊎-elim (λ p. inl (leb-true (length (l .buffers .objects)) o p)) (λ p. inr (leb-true (length (l .buffers .table)) (placeAt l u o) p)) (or-cases y z q)))
+          (or-cases x (y || z) e)),
+      ⊎-elim
+          (λ p. or-left x (y || z) (le-leb (length (l .buffers .users)) u p))
+          (λ q. or-right x (y || z) (⊎-elim
+          (λ p. or-left y z (le-leb (length (l .buffers .objects)) o p))
+          (λ p. or-right y z (le-leb (length (l .buffers .table)) (placeAt l u o) p)) q)),
+    )
 
 -- what an answer says of its parts: r a lower refusal, t that a place lies past its end, g the bit
 past-only : (t g : Bool) → cond t (refused 20) (decided g) ≡ refused 20 → t ≡ true

@@ -1,13 +1,12 @@
 -- The calls that change a session: what a ruling and the session's next entry make of the board is the call's step.
 use Prim.Native.Nat.{ℕ, _<_}
-use mathlib.Core.Path.{_≡_, refl, sym, ap, _∙_}
+use mathlib.Core.Path.{_≡_, refl, sym, _∙_}
 use mathlib.Core.Bool.{Bool, true, false, not, cond}
-use mathlib.Core.List.{List, [], _∷_}
 use mathlib.Core.Option.{Option, none, some}
 use native.Mathlib.Omega.{arith}
 use borrow.Author.Tests.{not-false}
 use lib.ListN.{set}
-use Rattle.basis.specs.Choice.{given, there, Check, check, lowest}
+use Rattle.basis.specs.Choice.{given, there, lowest}
 use Rattle.basis.proofs.Choice.{unbroken}
 use Rattle.sets.specs.Set.{union, minus}
 use Rattle.policy.specs.Value.{policyOf}

@@ -1,8 +1,8 @@
 -- Looking a number up place by place, and working out a user's reach.
 use Prim.Native.Nat.{ℕ, _+_, _≤_, _<_}
-use mathlib.Core.Path.{_≡_, refl, sym, _∙_}
-use mathlib.Core.Bool.{Bool, true, false, cond}
-use mathlib.Core.List.{List, [], _∷_}
+use mathlib.Core.Path.{_≡_, refl, _∙_}
+use mathlib.Core.Bool.{true, false, cond}
+use mathlib.Core.List.{List}
 use mathlib.Core.Option.{Option, none, some}
 use lib.Dec.{eqb}
 use lib.ListN.{length, getD, take, drop}
@@ -10,7 +10,7 @@ use borrow.Author.Tests.{eq-eqb, ne-eqb}
 use Rattle.basis.proofs.Bools.{never}
 use Rattle.basis.proofs.Walk.{part-next, part-end}
 use Rattle.sets.specs.Set.{has}
-use Rattle.seniority.specs.Seniority.{reach, heldOrSenior}
+use Rattle.seniority.specs.Seniority.{heldOrSenior}
 use Rattle.seniority.proofs.Laws.{reach-is}
 use Rattle.policy.specs.Policy.{Policy, total, setOfNumber}
 use Rattle.policy.specs.Value.{noEntry, sideOf, entriesOf}
@@ -55,8 +55,8 @@ module _ (users : Register) (side : SideValue) (h : Reachable side users) (u : �
           record {
             registered = rw (eu, n);
             set =
-              rw (eu, es, n)
-              (reach-is (total (sideOf side)) (sideOf side .lines) (h .ordered) s (h .assigned u s n) r (rw k at e));
+                rw (eu, es, n)
+                (reach-is (total (sideOf side)) (sideOf side .lines) (h .ordered) s (h .assigned u s n) r (rw k at e));
           }
 
   pub reach-none : f .registered ≡ false → Reaches p u f

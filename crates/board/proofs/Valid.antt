@@ -1,6 +1,6 @@
 -- What check 11 on the policy value gives the board: reach can be worked out, and registered sets are sets of their side.
 use Prim.Native.Nat.{ℕ, _≤_, _<_}
-use mathlib.Core.Path.{_≡_, refl, sym, ap, subst, _∙_}
+use mathlib.Core.Path.{_≡_, refl, ap}
 use mathlib.Core.Bool.{Bool, true, false, cond}
 use mathlib.Core.List.{List, [], _∷_, List·Memᴰ, List·Memᴰ·head, List·Memᴰ·tail}
 use mathlib.Core.Option.{Option, none, some}
@@ -8,8 +8,8 @@ use native.Mathlib.Nat.{le-trans}
 use native.Mathlib.Omega.{arith}
 use lib.Dec.{eqb, lit≤}
 use Rattle.policy.specs.Limits.{values, userNumbers, objectNumbers}
-use Rattle.policy.specs.Policy.{Side, Policy, total, sets, setOfNumber}
-use Rattle.policy.specs.Value.{entryPlaces, sideOf, entriesOf, policyOf, sideValue, register, valueOf}
+use Rattle.policy.specs.Policy.{Side, Policy, sets, setOfNumber}
+use Rattle.policy.specs.Value.{entryPlaces, policyOf, sideValue, register, valueOf}
 use Rattle.policy.specs.Valid.{valid}
 use Rattle.policy.specs.declared.value.Entry.{Entry}
 use Rattle.policy.specs.declared.value.PolicyValue.{PolicyValue}

@@ -2,11 +2,10 @@
 use Prim.Native.Nat.{ℕ, _≤_, _<_}
 use mathlib.Core.Path.{_≡_, refl, sym, ap, _∙_}
 use mathlib.Core.Bool.{Bool, true, false, not}
-use mathlib.Core.List.{List, [], _∷_, _++_}
+use mathlib.Core.List.{[], _∷_}
 use mathlib.Core.Option.{Option, none, some}
-use lib.Dec.{eqb, leb}
 use borrow.Author.Tests.{le-leb, lt-leb, eq-eqb, ne-eqb, not-true, not-false}
-use Rattle.basis.specs.Choice.{given, there, Check, check, lowest}
+use Rattle.basis.specs.Choice.{given, there, check, lowest}
 use Rattle.basis.proofs.Choice.{lowest-append}
 use Rattle.sets.specs.Set.{within}
 use Rattle.policy.specs.Limits.{actions}
@@ -20,7 +19,7 @@ use Rattle.board.specs.declared.Board.{Board}
 use Rattle.board.specs.declared.reach.Found.{Found}
 use Rattle.board.specs.declared.rulings.Ruling.{Ruling}
 use Rattle.board.specs.declared.rulings.Ruling.the-variants.{Allowed, Refused}
-use Rattle.board.specs.Machine.{Call, sessionOf, sessionNumbers, reachOf, opens, adds, closes, requests, outOfReach, changeChecks, checks}
+use Rattle.board.specs.Machine.{Call, sessionOf, sessionNumbers, opens, adds, closes, requests, outOfReach, changeChecks, checks}
 use Rattle.board.specs.Board.{entryOf, entryAt, fits}
 use Rattle.board.specs.Inner.{refusalOf, FoundAs, Reaches, Reachable, lower}
 use Rattle.board.proofs.Refusals.{lower-bad, lower-good}

@@ -51,7 +51,11 @@ pub fn look_up(
     let Byte::At(object_label) = byte_at(objects, object as usize) else {
         return Answer::Refused(Refusal::BufferTooShort);
     };
-    let place = place_of(UserLabel(user_label), ObjectLabel(object_label), counts.objects);
+    let place = place_of(
+        UserLabel(user_label),
+        ObjectLabel(object_label),
+        counts.objects,
+    );
     let Byte::At(entry) = byte_at(table, place) else {
         return Answer::Refused(Refusal::BufferTooShort);
     };

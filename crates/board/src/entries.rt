@@ -5,8 +5,8 @@ ghost use lib.ListN.{set};
 ghost use Rattle.board.specs.Board.{closed, entryOf, entryAt};
 ghost use Rattle.board.specs.Machine.{sessionNumbers};
 use crate::Board;
-use crate::Session;
 use crate::SESSION_NUMBERS;
+use crate::Session;
 
 // The entry of a session that is not open.
 pub fn closed() -> Session

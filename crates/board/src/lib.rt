@@ -5,10 +5,10 @@ ghost use Prim.Native.Nat.{_<_};
 ghost use Rattle.board.specs.Machine.{sessionNumbers, opens, adds, drops, closes, requests};
 ghost use Rattle.board.specs.Board.{Labels, labelsOf, outOf, fresh, boardStep};
 ghost use Rattle.board.specs.Inner.{refusalOf, settled};
+use crate::rulings::Ruling;
 use labels::Counts;
 use policy::refusal::Refusal;
 use policy::value::PolicyValue;
-use crate::rulings::Ruling;
 
 mod asking;
 mod buffers;

@@ -1,5 +1,5 @@
 -- `board::settle` meets its contract, by the ruling's cases.
-use mathlib.Core.Path.{sym, ap}
+use mathlib.Core.Path.{ap}
 use borrow.Author.Needs.{needs}
 use Rattle.board.specs.Inner.{refusalOf, settled}
 use Rattle.board.proofs.settle.Statement.{statement}

@@ -1,5 +1,5 @@
 -- `board::buffers::place_of` meets its contract: a label is below 2^8 and a count below 2^32, so nothing wraps.
-use Prim.Native.Nat.{_*_, _<_, _≤_, _^_}
+use Prim.Native.Nat.{_*_, _≤_}
 use native.Mathlib.Omega.{arith}
 use native.Mathlib.Nat.{mul-le-mul}
 use borrow.Author.Needs.{needs}

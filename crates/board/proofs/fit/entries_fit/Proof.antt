@@ -58,11 +58,12 @@ loop-less c = search needs
 
 loop-again : tie.Need-loop-again Inv-loop μ-loop
 loop-again c =
-    let l = c .before .before .before .before in
-    (omega arith,
-    λ p eu es.
-    let t = sym (c .before .entry-fits .ensures p eu es) ∙ not-false (c .before .entry-fits .result) (c .if1 .left) in
-    l .loop .inv .1 p eu es ∙ next-fits p (l .before .before .args .board .sessions) (l .loop .i) (inside (c .before)) t)
+    let l = c .before .before .before .before in (
+      omega arith,
+      λ p eu es.
+          let t = sym (c .before .entry-fits .ensures p eu es) ∙ not-false (c .before .entry-fits .result) (c .if1 .left) in
+          l .loop .inv .1 p eu es ∙ next-fits p (l .before .before .args .board .sessions) (l .loop .i) (inside (c .before)) t,
+    )
 
 returns-2 : tie.Need-returns-2 Inv-loop μ-loop
 unfolding boardFits
