@@ -81,7 +81,7 @@ pub fn parse(f: &[u8]) -> Named
 }
 
 // A kind's place in the list of nine.
-fn place(k: Kind) -> usize
+pub fn place(k: Kind) -> usize
     ensures { λ r. ⌜ r ≡ placeOf k ⌝ }
 {
     match k {
