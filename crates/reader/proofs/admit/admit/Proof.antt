@@ -1,168 +1,122 @@
+-- `reader::admit::admit` meets its contract, kind by kind.
+use Rattle.reader.proofs.Admitted.{admits-form, admits-uattr, admits-oattr, admits-usen, admits-osen, admits-user, admits-object, admits-rule, admits-end}
 use borrow.Author.Needs.{needs}
 use Rattle.reader.proofs.admit.admit.Statement.{statement}
 use Rattle.reader.proofs.admit.admit.Tie as tie
-use Rattle.reader.proofs.admit.admit.Reads as reads
-use Rattle.reader.proofs.admit.admit.Lts as lts
-use Rattle.checks.proofs.limits.is_form.Reads as is-form-reads
-use Rattle.checks.proofs.limits.values.Reads as values-reads
-use Rattle.checks.proofs.side.entry_fits.Reads as entry-fits-reads
-use Rattle.checks.proofs.side.pair_fits.Reads as pair-fits-reads
-use Rattle.checks.proofs.side.width_fits.Reads as width-fits-reads
-use Rattle.reader.proofs.admit.pair_rises.Reads as pair-rises-reads
-use Rattle.reader.proofs.admit.place.Reads as place-reads
-use Rattle.reader.proofs.admit.rises.Reads as rises-reads
 
--- src/admit.rt:57:31
 enum-told : tie.Need-enum-told
 enum-told c = search needs
 
--- src/admit.rt:57:31
 is-form-requires : tie.Need-is-form-requires
 is-form-requires c κs = search needs
 
--- src/admit.rt:57:25
 place-requires : tie.Need-place-requires
 place-requires c κs = search needs
 
--- src/admit.rt:58:55
 enum-told-2 : tie.Need-enum-told-2
 enum-told-2 c = search needs
 
--- src/admit.rt:58:55
 values-requires : tie.Need-values-requires
 values-requires c κs = search needs
 
--- src/admit.rt:58:30
 width-fits-requires : tie.Need-width-fits-requires
 width-fits-requires c κs = search needs
 
--- src/admit.rt:58:24
 place-requires-2 : tie.Need-place-requires-2
 place-requires-2 c κs = search needs
 
--- src/admit.rt:59:55
 enum-told-3 : tie.Need-enum-told-3
 enum-told-3 c = search needs
 
--- src/admit.rt:59:55
 values-requires-2 : tie.Need-values-requires-2
 values-requires-2 c κs = search needs
 
--- src/admit.rt:59:30
 width-fits-requires-2 : tie.Need-width-fits-requires-2
 width-fits-requires-2 c κs = search needs
 
--- src/admit.rt:59:24
 place-requires-3 : tie.Need-place-requires-3
 place-requires-3 c κs = search needs
 
--- src/admit.rt:60:29
 enum-told-4 : tie.Need-enum-told-4
 enum-told-4 c = search needs
 
--- src/admit.rt:60:29
 pair-fits-requires : tie.Need-pair-fits-requires
 pair-fits-requires c κs = search needs
 
--- src/admit.rt:60:66
 pair-rises-requires : tie.Need-pair-rises-requires
 pair-rises-requires c κs = search needs
 
--- src/admit.rt:60:23
 place-requires-4 : tie.Need-place-requires-4
 place-requires-4 c κs = search needs
 
--- src/admit.rt:61:29
 enum-told-5 : tie.Need-enum-told-5
 enum-told-5 c = search needs
 
--- src/admit.rt:61:29
 pair-fits-requires-2 : tie.Need-pair-fits-requires-2
 pair-fits-requires-2 c κs = search needs
 
--- src/admit.rt:61:68
 pair-rises-requires-2 : tie.Need-pair-rises-requires-2
 pair-rises-requires-2 c κs = search needs
 
--- src/admit.rt:61:23
 place-requires-5 : tie.Need-place-requires-5
 place-requires-5 c κs = search needs
 
--- src/admit.rt:62:29
 enum-told-6 : tie.Need-enum-told-6
 enum-told-6 c = search needs
 
--- src/admit.rt:62:29
 entry-fits-requires : tie.Need-entry-fits-requires
 entry-fits-requires c κs = search needs
 
--- src/admit.rt:62:103
 rises-requires : tie.Need-rises-requires
 rises-requires c κs = search needs
 
--- src/admit.rt:62:23
 place-requires-6 : tie.Need-place-requires-6
 place-requires-6 c κs = search needs
 
--- src/admit.rt:63:31
 enum-told-7 : tie.Need-enum-told-7
 enum-told-7 c = search needs
 
--- src/admit.rt:63:31
 entry-fits-requires-2 : tie.Need-entry-fits-requires-2
 entry-fits-requires-2 c κs = search needs
 
--- src/admit.rt:63:109
 rises-requires-2 : tie.Need-rises-requires-2
 rises-requires-2 c κs = search needs
 
--- src/admit.rt:63:25
 place-requires-7 : tie.Need-place-requires-7
 place-requires-7 c κs = search needs
 
--- src/admit.rt:64:23
 enum-told-8 : tie.Need-enum-told-8
 enum-told-8 c = search needs
 
--- src/admit.rt:65:22
 enum-told-9 : tie.Need-enum-told-9
 enum-told-9 c = search needs
 
--- src/admit.rt:52:1
 returns : tie.Need-returns
-returns c = ?
+returns c = λ p s. search admits-form
 
--- src/admit.rt:52:1
 returns-2 : tie.Need-returns-2
-returns-2 c = ?
+returns-2 c = λ p s. search admits-uattr
 
--- src/admit.rt:52:1
 returns-3 : tie.Need-returns-3
-returns-3 c = ?
+returns-3 c = λ p s. search admits-oattr
 
--- src/admit.rt:52:1
 returns-4 : tie.Need-returns-4
-returns-4 c = ?
+returns-4 c = λ p s. search admits-usen
 
--- src/admit.rt:52:1
 returns-5 : tie.Need-returns-5
-returns-5 c = ?
+returns-5 c = λ p s. search admits-osen
 
--- src/admit.rt:52:1
 returns-6 : tie.Need-returns-6
-returns-6 c = ?
+returns-6 c = λ p s. search admits-user
 
--- src/admit.rt:52:1
 returns-7 : tie.Need-returns-7
-returns-7 c = ?
+returns-7 c = λ p s. search admits-object
 
--- src/admit.rt:52:1
 returns-8 : tie.Need-returns-8
-returns-8 c = ?
+returns-8 c = λ p s. search admits-rule
 
--- src/admit.rt:52:1
 returns-9 : tie.Need-returns-9
-returns-9 c = ?
+returns-9 c = λ p s. search admits-end
 
 pub admit-spec : {M : Type 1} → statement M
 admit-spec =
