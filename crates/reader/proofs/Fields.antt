@@ -12,9 +12,9 @@ use lib.ListN.{length, getD, take, drop}
 use Rattle.basis.specs.Lists.{all}
 use Rattle.text.specs.Number.{isNumber, valueOf, numeral}
 use Rattle.text.specs.Parts.{fields, comma, Found}
-use Rattle.text.specs.Kind.{placeOf, follows, named}
+use Rattle.text.specs.Kind.{isKind, follows, named}
 use Rattle.text.specs.declared.kind.Kind.{Kind}
-use Rattle.text.specs.declared.kind.Kind.the-variants.{Rule, End}
+use Rattle.text.specs.declared.kind.Kind.the-variants.{Policy, Rule, End}
 use Rattle.text.specs.declared.kind.Named.{Named}
 use Rattle.text.specs.declared.kind.Named.the-variants.{Is as IsKind, Unknown}
 use Rattle.text.specs.declared.number.Numeral.{Numeral}
@@ -150,13 +150,13 @@ module _ (l : List ℕ) (c : ℕ) (r : Line) (f : Found l 0 comma c) (n : ℕ) (
 -- ---- the kind, and the whole line
 
 module _ (b : Before) (k : Kind) where
-  pub stands-first : b ≡ Start → (x : ℕ) → x ≡ placeOf k → eqb 0 x ≡ allowed (beforeOf b) k
+  pub stands-first : (r : Bool) → b ≡ Start → r ≡ isKind Policy k → r ≡ allowed (beforeOf b) k
   unfolding allowed
-  stands-first e x q = rw (e, q)
+  stands-first r e q = rw e q
 
-  pub stands-after : (j : Kind) (m n : ℕ) → b ≡ After j m n → (r : Bool) → r ≡ follows j k → r ≡ allowed (beforeOf b) k
+  pub stands-after : (r : Bool) (j : Kind) (m n : ℕ) → b ≡ After j m n → r ≡ follows j k → r ≡ allowed (beforeOf b) k
   unfolding allowed
-  stands-after j m n e r q = rw e q
+  stands-after r j m n e q = rw e q
 
 module _ (b : Option Kind) (l : List ℕ) (r : Line) (c : ℕ) (f : Found l 0 comma c) (x : Named) (e : x ≡ named (between l 0 c)) where
   first-named : kindOf l ≡ x

@@ -30,7 +30,7 @@ pub fn rises(before: Before, k: Kind, m: u32) -> bool
     let Before::After(j, a, _) = before else {
         return true;
     };
-    if text::kind::place(j) == text::kind::place(k) {
+    if text::kind::same(j, k) {
         return a < m;
     }
     true
@@ -42,7 +42,7 @@ fn pair_rises(before: Before, k: Kind, v: u32, j: u32) -> bool
     let Before::After(i, a, b) = before else {
         return true;
     };
-    if text::kind::place(i) == text::kind::place(k) {
+    if text::kind::same(i, k) {
         return checks::side::pair_above(Direct { senior: a, junior: b }, v, j);
     }
     true

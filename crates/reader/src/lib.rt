@@ -55,7 +55,7 @@ fn ended(before: Before) -> bool
     let Before::After(k, _, _) = before else {
         return false;
     };
-    text::kind::place(k) == 8
+    text::kind::same(Kind::End, k)
 }
 
 // The policy value of a text, or the refusal and its line.

@@ -147,7 +147,7 @@ fn may_stand(before: Before, k: Kind) -> bool
     ensures { λ r. ⌜ r ≡ allowed (beforeOf before) k ⌝ }
 {
     match before {
-        Before::Start => 0 == text::kind::place(k),
+        Before::Start => text::kind::same(Kind::Policy, k),
         Before::After(j, _, _) => text::kind::may_follow(j, k),
     }
 }

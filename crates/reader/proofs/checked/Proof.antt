@@ -1,33 +1,26 @@
+-- `reader::checked` meets its contract: what is broken of 3 to 5 comes first.
+use Rattle.reader.proofs.Admitted.{checked-before, checked-now}
 use borrow.Author.Needs.{needs}
 use Rattle.reader.proofs.checked.Statement.{statement}
 use Rattle.reader.proofs.checked.Tie as tie
-use Rattle.reader.proofs.checked.Reads as reads
-use Rattle.reader.proofs.checked.Lts as lts
-use Rattle.reader.proofs.admit.admit.Reads as admit-reads
-use Rattle.reader.proofs.line.parse.Reads as parse-reads
 
--- src/lib.rt:41:9
 parse-requires : tie.Need-parse-requires
 parse-requires c κs = search needs
 
 enum-told : tie.Need-enum-told
 enum-told c = search needs
 
--- src/lib.rt:44:9
 enum-told-2 : tie.Need-enum-told-2
 enum-told-2 c = search needs
 
--- src/lib.rt:44:9
 returns : tie.Need-returns
-returns c = ?
+returns c = λ p s. search checked-before
 
--- src/lib.rt:47:9
 admit-requires : tie.Need-admit-requires
 admit-requires c κs = search needs
 
--- src/lib.rt:37:1
 returns-2 : tie.Need-returns-2
-returns-2 c = ?
+returns-2 c = λ p s. let q = c .admit .ensures p s in search checked-now
 
 pub checked-spec : {M : Type 1} → statement M
 checked-spec =

@@ -13,11 +13,8 @@ enum-told c = search needs
 returns : tie.Need-returns
 returns c = search needs
 
-place-requires : tie.Need-place-requires
-place-requires c κs = search needs
-
-place-requires-2 : tie.Need-place-requires-2
-place-requires-2 c κs = search needs
+same-requires : tie.Need-same-requires
+same-requires c κs = search needs
 
 pair-above-requires : tie.Need-pair-above-requires
 pair-above-requires c κs = search needs
@@ -35,8 +32,7 @@ pair-rises-spec =
     enum-known-before
     enum-told
     returns
-    place-requires
-    place-requires-2
+    same-requires
     pair-above-requires
     returns-2
     returns-3)

@@ -13,11 +13,8 @@ enum-told c = search needs
 returns : tie.Need-returns
 returns c = search needs
 
-place-requires : tie.Need-place-requires
-place-requires c κs = search needs
-
-place-requires-2 : tie.Need-place-requires-2
-place-requires-2 c κs = search needs
+same-requires : tie.Need-same-requires
+same-requires c κs = search needs
 
 returns-2 : tie.Need-returns-2
 returns-2 c = search first-same
@@ -27,12 +24,4 @@ returns-3 c = search first-other
 
 pub rises-spec : {M : Type 1} → statement M
 rises-spec =
-    tie.close
-    (tie.spec
-    enum-known-before
-    enum-told
-    returns
-    place-requires
-    place-requires-2
-    returns-2
-    returns-3)
+    tie.close (tie.spec enum-known-before enum-told returns same-requires returns-2 returns-3)

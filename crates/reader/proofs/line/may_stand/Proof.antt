@@ -7,8 +7,8 @@ use Rattle.reader.proofs.line.may_stand.Tie as tie
 enum-told : tie.Need-enum-told
 enum-told c = search needs
 
-place-requires : tie.Need-place-requires
-place-requires c κs = search needs
+same-requires : tie.Need-same-requires
+same-requires c κs = search needs
 
 enum-known-before : tie.Need-enum-known-before
 enum-known-before c = search needs
@@ -25,4 +25,4 @@ returns-2 c = search stands-after
 pub may-stand-spec : {M : Type 1} → statement M
 may-stand-spec =
     tie.close
-    (tie.spec enum-told place-requires enum-known-before may-follow-requires returns returns-2)
+    (tie.spec enum-told same-requires enum-known-before may-follow-requires returns returns-2)
