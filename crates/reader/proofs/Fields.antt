@@ -44,6 +44,14 @@ module _ (l : List ℕ) (i r : ℕ) (f : Found l i comma r) where
   pub next-field : (r ≡ length l → ⊥) → fields (drop i l) ≡ between l i r ∷ fields (drop (r + 1) l)
   next-field h = part-next l i comma r f (omega (arith, h, f .high))
 
+  -- either way there is a field
+  pub some-field : (ps : List (List ℕ)) × (fields (drop i l) ≡ between l i r ∷ ps)
+  some-field =
+      elim (decLt r (length l)) [
+        | yes h ↦ (fields (drop (r + 1) l), next-field (λ z. omega (arith, h, z)))
+        | no h ↦ ([], last-field (omega (arith, h, f .high)))
+      ]
+
 -- ---- numbers
 
 said : (b : Bool) (v : ℕ) → cond b (Value v) Malformed ≡ Malformed → b ≡ false

@@ -1,3 +1,4 @@
 pub mod Fields
 pub mod Stored
 pub mod Admitted
+pub mod Rules

@@ -1,35 +1,26 @@
+-- `reader::rule::check` meets its contract: refusals 6 to 9 in their order.
+use Rattle.reader.proofs.Rules.{rule-range, rule-level, rule-formula}
 use borrow.Author.Needs.{needs}
 use Rattle.reader.proofs.rule.check.Statement.{statement}
 use Rattle.reader.proofs.rule.check.Tie as tie
-use Rattle.reader.proofs.rule.check.Reads as reads
-use Rattle.reader.proofs.rule.check.Lts as lts
-use Rattle.reader.proofs.admit.rises.Reads as rises-reads
-use Rattle.reader.proofs.rule.formula.Reads as formula-reads
-use Rattle.reader.proofs.rule.in_range.Reads as in-range-reads
 
--- src/rule.rt:100:8
 in-range-requires : tie.Need-in-range-requires
 in-range-requires c κs = search needs
 
--- src/rule.rt:101:12
 rises-requires : tie.Need-rises-requires
 rises-requires c κs = search needs
 
--- src/rule.rt:102:13
 formula-requires : tie.Need-formula-requires
 formula-requires c κs = search needs
 
--- src/rule.rt:102:13
 returns : tie.Need-returns
-returns c = ?
+returns c = λ p x s e. let q = c .before .before .before .before .in-range .ensures p x s e in let z = c .formula .ensures (c .before .before .before .before .before .args .form) p x s e in search rule-formula
 
--- src/rule.rt:104:9
 returns-2 : tie.Need-returns-2
-returns-2 c = ?
+returns-2 c = λ p x s e. let q = c .before .before .before .in-range .ensures p x s e in search rule-level
 
--- src/rule.rt:96:1
 returns-3 : tie.Need-returns-3
-returns-3 c = ?
+returns-3 c = λ p x s e. let q = c .before .in-range .ensures p x s e in search rule-range
 
 pub check-spec : {M : Type 1} → statement M
 check-spec =

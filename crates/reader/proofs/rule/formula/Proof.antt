@@ -1,30 +1,23 @@
+-- `reader::rule::formula` meets its contract.
+use Rattle.reader.proofs.Rules.{formula-fine, formula-unbalanced, formula-unequal}
 use borrow.Author.Needs.{needs}
 use Rattle.reader.proofs.rule.formula.Statement.{statement}
 use Rattle.reader.proofs.rule.formula.Tie as tie
-use Rattle.reader.proofs.rule.formula.Reads as reads
-use Rattle.reader.proofs.rule.formula.Lts as lts
-use Rattle.checks.proofs.formula.all_equal.Reads as all-equal-reads
-use Rattle.checks.proofs.formula.balanced.Reads as balanced-reads
 
--- src/rule.rt:87:8
 all-equal-requires : tie.Need-all-equal-requires
 all-equal-requires c κs = search needs
 
--- src/rule.rt:88:12
 balanced-requires : tie.Need-balanced-requires
 balanced-requires c κs = search needs
 
--- src/rule.rt:89:13
 returns : tie.Need-returns
-returns c = ?
+returns c = λ form p x s e. search formula-fine
 
--- src/rule.rt:91:9
 returns-2 : tie.Need-returns-2
-returns-2 c = ?
+returns-2 c = λ form p x s e. search formula-unbalanced
 
--- src/rule.rt:81:1
 returns-3 : tie.Need-returns-3
-returns-3 c = ?
+returns-3 c = λ form p x s e. search formula-unequal
 
 pub formula-spec : {M : Type 1} → statement M
 formula-spec =

@@ -1,34 +1,41 @@
+-- `reader::rule::parse` meets its contract: the words stand behind the second comma.
+use native.Mathlib.Omega.{arith}
+use denote.Ref.{now}
+use mathlib.Core.Path.{_≡_, refl, ap, _∙_}
+use lib.ListN.{length}
+use Rattle.text.specs.Parts.{fields}
+use Rattle.reader.specs.Admit.{ruleIn}
+use Rattle.reader.proofs.Fields.{comma-there}
+use Rattle.reader.proofs.Rules.{rule-count, words-there, words-are, words-few}
 use borrow.Author.Needs.{needs}
 use Rattle.reader.proofs.rule.parse.Statement.{statement}
 use Rattle.reader.proofs.rule.parse.Tie as tie
-use Rattle.reader.proofs.rule.parse.Reads as reads
-use Rattle.reader.proofs.rule.parse.Lts as lts
-use Rattle.reader.proofs.rule.words.Reads as words-reads
-use Rattle.text.proofs.parts.find.Reads as find-reads
 
--- src/rule.rt:64:9
 find-requires : tie.Need-find-requires
 find-requires c κs = search needs
 
--- src/rule.rt:65:37
 add-find : tie.Need-add-find
 add-find c = search needs
 
--- src/rule.rt:65:9
 find-requires-2 : tie.Need-find-requires-2
-find-requires-2 c κs = ?
+find-requires-2 c κs = let l = now (c .before .before .args .line) in comma-there l _ (length (fields l)) (c .find .ensures) refl (rule-count _ (c .before .before .pre) .0)
 
--- src/rule.rt:66:25
 add-words : tie.Need-add-words
 add-words c = search needs
 
--- src/rule.rt:66:5
 words-requires : tie.Need-words-requires
-words-requires c κs = ?
+words-requires c κs = 
+    let l = now (c .before .before .before .args .line) in
+    let p = c .before .before .before .pre in
+    let f = c .before .find .ensures in
+    let h = rule-count (length (fields l)) p .0 in
+    (words-there l _ _ f (c .find2 .ensures) h, rw (words-are l _ _ f (c .find2 .ensures) h) (words-few l p))
 
--- src/rule.rt:60:1
 returns : tie.Need-returns
-returns c = ?
+returns c = 
+    let l = now (c .before .before .before .before .args .line) in
+    let h = rule-count (length (fields l)) (c .before .before .before .before .pre) .0 in
+    c .words .ensures ∙ ap (ruleIn (c .before .before .before .before .args .action)) (words-are l _ _ (c .before .before .find .ensures) (c .before .find2 .ensures) h)
 
 pub parse-spec : {M : Type 1} → statement M
 parse-spec =

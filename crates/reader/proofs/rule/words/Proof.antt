@@ -1,85 +1,70 @@
+-- `reader::rule::words` meets its contract: the words done, and those of the fields that are left, are the words of all fields.
+use Prim.Native.Nat.{_-_}
+use native.Mathlib.Omega.{arith}
+use lib.ListN.{length}
+use Rattle.basis.specs.Lists.{padded}
+use Rattle.reader.proofs.Rules.{Sofar, none-done, room, stops, goes-on, ends}
 use borrow.Author.Needs.{needs}
 use Rattle.reader.proofs.rule.words.Statement.{statement}
 use Rattle.reader.proofs.rule.words.Tie as tie
-use Rattle.reader.proofs.rule.words.Reads as reads
-use Rattle.reader.proofs.rule.words.Lts as lts
-use Rattle.reader.proofs.rule.refused.Reads as refused-reads
-use Rattle.text.proofs.parts.find.Reads as find-reads
-use Rattle.words.proofs.parse.Reads as parse-reads
 
 abbrev Inv-loop : tie.InvT-loop
-Inv-loop action line from words₀ n₀ at₀ words n at = ?
+Inv-loop action line from words₀ n₀ at₀ words n at = Sofar line from words n at
 
 abbrev μ-loop : tie.MeasureT-loop
-μ-loop action line from words₀ n₀ at₀ words n at = ?
+μ-loop action line from words₀ n₀ at₀ words n at = length line - at
 
--- src/rule.rt:45:5
 loop-holds : tie.Need-loop-holds Inv-loop μ-loop
-loop-holds c = search needs
+unfolding padded
+loop-holds c = none-done _ _ (c .before .pre .0)
 
--- src/rule.rt:46:13
 find-requires : tie.Need-find-requires Inv-loop μ-loop
 find-requires c κs = search needs
 
--- src/rule.rt:47:30
 sub-parse : tie.Need-sub-parse Inv-loop μ-loop
 sub-parse c = search needs
 
--- src/rule.rt:47:30
 part-parse-start : tie.Need-part-parse-start Inv-loop μ-loop
 part-parse-start c = search needs
 
--- src/rule.rt:47:30
 part-parse-end : tie.Need-part-parse-end Inv-loop μ-loop
 part-parse-end c = search needs
 
--- src/rule.rt:47:13
 parse-requires : tie.Need-parse-requires Inv-loop μ-loop
 parse-requires c κs = search needs
 
--- src/rule.rt:48:24
 enum-known-x : tie.Need-enum-known-x Inv-loop μ-loop
 enum-known-x c = search needs
 
--- src/rule.rt:49:28
 enum-told : tie.Need-enum-told Inv-loop μ-loop
 enum-told c = search needs
 
--- src/rule.rt:49:13
 refused-requires : tie.Need-refused-requires Inv-loop μ-loop
 refused-requires c κs = search needs
 
--- src/rule.rt:49:13
 returns : tie.Need-returns Inv-loop μ-loop
-returns c = search needs
+returns c = search stops
 
--- src/rule.rt:51:9
 mul-words : tie.Need-mul-words Inv-loop μ-loop
-mul-words c = search needs
+mul-words c = let k = room (c .before .before .before .before .before .before .loop .inv) (c .before .before .before .before .before .before .before .before .pre .1) in search needs
 
--- src/rule.rt:51:9
 array-set-from-words : tie.Need-array-set-from-words Inv-loop μ-loop
-array-set-from-words c = search needs
+array-set-from-words c = let k = room (c .before .before .before .before .before .before .loop .inv) (c .before .before .before .before .before .before .before .before .pre .1) in search needs
 
--- src/rule.rt:52:9
 add-n : tie.Need-add-n Inv-loop μ-loop
-add-n c = search needs
+add-n c = let k = room (c .before .before .before .before .before .before .loop .inv) (c .before .before .before .before .before .before .before .before .pre .1) in omega arith
 
--- src/rule.rt:54:13
 returns-2 : tie.Need-returns-2 Inv-loop μ-loop
-returns-2 c = search needs
+returns-2 c = let k = room (c .before .before .before .before .before .before .before .loop .inv) (c .before .before .before .before .before .before .before .before .before .pre .1) in search ends
 
--- src/rule.rt:56:14
 add-at : tie.Need-add-at Inv-loop μ-loop
 add-at c = search needs
 
--- src/rule.rt:45:5
 loop-less : tie.Need-loop-less Inv-loop μ-loop
 loop-less c = search needs
 
--- src/rule.rt:45:5
 loop-again : tie.Need-loop-again Inv-loop μ-loop
-loop-again c = search needs
+loop-again c = let k = room (c .before .before .before .before .before .before .before .loop .inv) (c .before .before .before .before .before .before .before .before .before .pre .1) in search goes-on
 
 pub words-spec : {M : Type 1} → statement M
 words-spec =
