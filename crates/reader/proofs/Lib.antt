@@ -2,3 +2,4 @@ pub mod Fields
 pub mod Stored
 pub mod Admitted
 pub mod Rules
+pub mod Faults

@@ -31,7 +31,7 @@ use Rattle.policy.specs.declared.value.RuleValue.{RuleValue}
 use Rattle.policy.proofs.Values.{rule-value}
 use Rattle.checks.specs.Sides.{Shaped, wordsIn}
 use Rattle.checks.specs.declared.side.Shape.{Shape}
-use Rattle.reader.specs.Admit.{Sides, firstAfter, risesAfter, areWords, ruleOf, heldRule, faultyRule, ruleIn, formulaFault, ruleFault, admittedRule}
+use Rattle.reader.specs.Admit.{Sides, firstAfter, risesAfter, orElse, areWords, ruleOf, heldRule, faultyRule, ruleIn, formulaFault, ruleFault, admittedRule}
 use Rattle.reader.specs.declared.fault.Fault.{Fault}
 use Rattle.reader.specs.declared.fault.Fault.the-variants.{None, Is}
 use Rattle.reader.specs.declared.line.Before.{Before}
@@ -202,6 +202,17 @@ module _ (a : ℕ) (fs : List (List ℕ)) (z : RuleLine) (e : z ≡ ruleIn a fs)
     pub admitted-now : (f : Fault) → z .fault ≡ None → f ≡ ruleFault before p (ruleOf a fs) → record { fault = f; rule = z .rule } ≡ admittedRule before p a fs
     unfolding admittedRule
     admitted-now f h q = rw (← e, h, q)
+
+-- the rule of a line in which nothing is broken
+first-none : (f g : Fault) → orElse f g ≡ None → f ≡ None
+first-none None g e = refl
+first-none (Is r) g e = e
+
+pub rule-stored : (before : Before) (p : Policy) (a : ℕ) (fs : List (List ℕ)) (y : RuleLine) → y ≡ admittedRule before p a fs → y .fault ≡ None
+    → y .rule ≡ ruleValue (ruleOf a fs)
+unfolding admittedRule
+rule-stored before p a fs y e h =
+    ap (λ (z : RuleLine). z .rule) e ∙ rule-held a fs (ruleIn a fs) refl (first-none _ _ (sym (ap (λ (z : RuleLine). z .fault) e) ∙ h))
 
 pub words-few : (l : List ℕ) → countFits RuleKind (length (fields l)) ≡ true → length (drop 2 (fields l)) ≤ wordPlaces
 words-few l e = let b = rule-count (length (fields l)) e in omega (arith, length-drop 2 (fields l))
