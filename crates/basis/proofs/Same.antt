@@ -37,6 +37,7 @@ module _ {A : Type 0} (e : A → A → Bool) where
   same-eq r (x ∷ xs) (y ∷ ys) q = rw (r x y (and-left (e x y) (same e xs ys) q), same-eq r xs ys (and-right (e x y) (same e xs ys) q))
 
   -- one place more
-  pub same-next : (d : A) (a b : List A) (i : ℕ) → i < length a → i < length b → same e (drop i a) (drop i b) ≡ (e (getD a i d) (getD b i d) && same e (drop (i + 1) a) (drop (i + 1) b))
+  pub same-next : (d : A) (a b : List A) (i : ℕ) → i < length a → i < length b
+      → same e (drop i a) (drop i b) ≡ (e (getD a i d) (getD b i d) && same e (drop (i + 1) a) (drop (i + 1) b))
   unfolding same
   same-next d a b i h g = rw (drop-cons a i d, drop-cons b i d, add-one)

@@ -2,11 +2,11 @@
 use Prim.Native.Nat.{ℕ, suc, _+_, _-_, _^_, _≤_, _<_}
 use mathlib.Core.Path.{_≡_, refl}
 use mathlib.Core.Bool.{false, cond, and-true, and-false, or-false}
-use mathlib.Core.List.{List}
+use mathlib.Core.List.{List, []}
 use native.Mathlib.Omega.{arith}
 use borrow.Author.Tests.{lt-ltb, le-ltb, le-leb, lt-leb, eq-eqb, ne-eqb, ltb-true, leb-true}
 use lib.Dec.{eqb, leb, ltb}
-use lib.ListN.{length, getD, take, drop}
+use lib.ListN.{length, getD, take, drop, length-take}
 use lib.Pow.{pow-pos}
 use lib.Seq.{length-take-le}
 use Rattle.basis.specs.Lists.{sum}
@@ -68,6 +68,15 @@ pub measured : (ws : List ℕ) (n t : ℕ) → n ≤ length ws → t ≡ sum (ta
     → (s : Side) → s .widths ≡ take n ws → Shaped (record { attributes = n; widths = ws; total = t }) s
 unfolding total
 measured ws n t h e s q = record { attributes = rw (q, length-take-le n ws h); widths = q; total = rw q e }
+
+-- what `measure` ensures says of the shape's own numbers
+module _ (x : Shape) (ws : List ℕ) (n : ℕ) (f : (s : Side) → s .widths ≡ take n ws → Shaped x s) where
+  pub measured-places : (m : ℕ) → n ≤ m → x .attributes ≤ m
+  measured-places m h = omega (arith, f (record { widths = take n ws; lines = [] }) refl .attributes, length-take n ws)
+
+  pub measured-total : x .total ≡ sum (take n ws)
+  unfolding total
+  measured-total = f (record { widths = take n ws; lines = [] }) refl .total
 
 -- ---- a pair
 

@@ -1,7 +1,7 @@
 -- What the tests of a sound policy bound: widths and their sum, seniorities, numbers and sets, words; and so that its lists fit their arrays.
 use Prim.Native.Nat.{ℕ, zero, suc, _+_, _≤_, _<_}
-use mathlib.Core.Path.{_≡_, refl, sym, ap, _∙_}
-use mathlib.Core.Bool.{Bool, true, false, _&&_, _||_}
+use mathlib.Core.Path.{_≡_, refl, ap}
+use mathlib.Core.Bool.{true, _&&_}
 use mathlib.Core.List.{List, [], _∷_, _++_, List·Memᴰ, List·Memᴰ·head, List·Memᴰ·tail, List·Memᴰ·not-nil}
 use mathlib.Core.Logic.{⊎-elim}
 use mathlib.Core.Option.{Option, none, some}
@@ -21,13 +21,13 @@ use Rattle.words.specs.declared.Word.the-variants.{True, False, Holds, Compares
 use Rattle.words.specs.declared.Holding.the-variants.{User as UserValue, Object as ObjectValue}
 use Rattle.words.specs.declared.Comparison.the-variants.{Dominates, Equals}
 use Rattle.words.proofs.RoundTrip.{inDigits}
-use Rattle.policy.specs.Limits.{values, actions, userNumbers, objectNumbers, mostWords}
+use Rattle.policy.specs.Limits.{values, actions, userNumbers, objectNumbers}
 use Rattle.policy.specs.Policy.{Side, Rule, Policy, total, sets, attributeOf}
-use Rattle.policy.specs.Checks.{widthFits, pairFits, pairAbove, entryFits, bothThere, wordFits}
-use Rattle.policy.specs.Value.{widthPlaces, linePlaces, entryPlaces, rulePlaces}
+use Rattle.policy.specs.Checks.{widthFits, pairFits, entryFits, bothThere, wordFits}
+use Rattle.policy.specs.Value.{widthPlaces}
 use Rattle.policy.specs.declared.value.Entry.{Entry}
 use Rattle.policy.proofs.Sound.{widthsSound, ruleSound, listsSound, WithinSide, Within}
-use Rattle.policy.proofs.Rising.{rising, Head, head, rising-at, rising-few}
+use Rattle.policy.proofs.Rising.{rising, head, rising-at, rising-few}
 use Rattle.policy.proofs.Parts.{lineFits, lineAbove, numberFits, numberAbove, actionAbove, SideParts, RuleParts, rule-parts, Parts, parts}
 
 -- ---- widths
@@ -48,11 +48,11 @@ unfolding widthFits
 width-fits most s w e = width-test most (total s) w e
 
 module _ (most : ℕ) where
-  width-head : (n w : ℕ) (ws : List ℕ) → widthsSound most n (w ∷ ws) ≡ true → Width most n w
+  pub width-head : (n w : ℕ) (ws : List ℕ) → widthsSound most n (w ∷ ws) ≡ true → Width most n w
   unfolding widthsSound
   width-head n w ws e = width-test most n w (and-left _ _ e)
 
-  width-tail : (n w : ℕ) (ws : List ℕ) → widthsSound most n (w ∷ ws) ≡ true → widthsSound most (n + w) ws ≡ true
+  pub width-tail : (n w : ℕ) (ws : List ℕ) → widthsSound most n (w ∷ ws) ≡ true → widthsSound most (n + w) ws ≡ true
   unfolding widthsSound
   width-tail n w ws e = and-right (leb 1 w && (leb w most && leb (n + w) most)) _ e
 
@@ -187,7 +187,7 @@ module _ (most : ℕ) (s : Side) (h : SideParts most s) where
 -- ---- users and objects
 
 module _ (most : ℕ) (s : Side) where
-  entry-fits : (e : Entry) → numberFits most s e ≡ true → (e .number < most) × (e .set < sets s)
+  pub entry-fits : (e : Entry) → numberFits most s e ≡ true → (e .number < most) × (e .set < sets s)
   unfolding entryFits
   entry-fits e h = (ltb-true (e .number) most (and-left _ _ h), ltb-true (e .set) (sets s) (and-right (ltb (e .number) most) _ h))
 
@@ -243,7 +243,7 @@ module _ (p : Policy) (t : Parts p) where
 
 -- ---- the lists fit their arrays
 
-side-within : (s : Side) → SideParts widthPlaces s → WithinSide s
+pub side-within : (s : Side) → SideParts widthPlaces s → WithinSide s
 unfolding triangle
 side-within s h =
     record { widths = le-trans (attributes-few widthPlaces s h) (total-most widthPlaces s h); lines = lines-few widthPlaces s h }

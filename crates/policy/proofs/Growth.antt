@@ -1,17 +1,15 @@
 -- A line that passes checks 6 to 9 keeps the lists sound, where no line of a later kind was read.
 use Prim.Native.Nat.{ℕ, suc, _≤_}
 use mathlib.Core.Path.{_≡_, refl, fun-ext}
-use mathlib.Core.Bool.{Bool, true, false, _&&_}
+use mathlib.Core.Bool.{true}
 use mathlib.Core.List.{List, [], _∷_, _++_}
-use mathlib.Core.Option.{Option, none, some}
-use lib.Dec.{leb, ltb}
+use mathlib.Core.Option.{none}
+use lib.Dec.{ltb, lit≤}
 use lib.ListN.{length}
 use borrow.Author.Tests.{le-leb}
-use Rattle.basis.specs.Choice.{given}
-use Rattle.basis.specs.Lists.{all, last}
+use Rattle.basis.specs.Lists.{all}
 use Rattle.basis.proofs.Bools.{and-left, and-right}
 use Rattle.seniority.specs.Seniority.{direct}
-use Rattle.seniority.specs.declared.Direct.{Direct}
 use Rattle.text.specs.Kind.{placeOf}
 use Rattle.text.specs.declared.kind.Kind.{Kind}
 use Rattle.text.specs.declared.kind.Kind.the-variants.{Policy as PolicyKind, Uattr, Oattr, Usen, Osen, User, Object, Rule as RuleKind, End}
@@ -21,7 +19,7 @@ use Rattle.words.specs.declared.Holding.the-variants.{User as UserValue, Object
 use Rattle.words.specs.declared.Comparison.the-variants.{Dominates, Equals}
 use Rattle.policy.specs.Limits.{values, actions, userNumbers, objectNumbers, mostWords}
 use Rattle.policy.specs.Policy.{Side, Rule, Policy, total}
-use Rattle.policy.specs.Checks.{widthFits, pairFits, entryFits, wordFits, inRange, pairRises, entryRises, ruleRises, rises, widthsEqual, balanced, balances, withWidth, withLine, withEntry, withRules, extended}
+use Rattle.policy.specs.Checks.{widthFits, pairFits, entryFits, wordFits, inRange, pairRises, entryRises, ruleRises, rises, widthsEqual, balances, withWidth, withLine, withEntry, withRules, extended}
 use Rattle.policy.specs.declared.value.Entry.{Entry}
 use Rattle.policy.proofs.Sound.{widthsSound, ruleSound}
 use Rattle.policy.proofs.Rising.{rising, rising-more, rising-same}
@@ -32,16 +30,16 @@ use Rattle.policy.proofs.Order.{cut}
 -- ---- one list
 
 module _ (most : ℕ) where
-  more-widths : (ws : List ℕ) (w : ℕ) → let s : Side = record { widths = ws; lines = [] } in
+  pub more-widths : (ws : List ℕ) (w : ℕ) → let s : Side = record { widths = ws; lines = [] } in
       SideParts most s → widthFits most s w ≡ true → SideParts most (withWidth w s)
   unfolding rising
   more-widths ws w h f = record { widths = widths-more most (record { widths = ws; lines = [] }) w (h .widths) f; lines = refl }
 
-  more-lines : (s : Side) (v j : ℕ) → SideParts most s → pairFits s v j ≡ true → pairRises s v j ≡ true → SideParts most (withLine v j s)
+  pub more-lines : (s : Side) (v j : ℕ) → SideParts most s → pairFits s v j ≡ true → pairRises s v j ≡ true → SideParts most (withLine v j s)
   unfolding pairFits total pairRises
   more-lines s v j h f a = record { widths = h .widths; lines = rising-more (lineFits s) lineAbove (s .lines) (direct v j) (h .lines) f a }
 
-more-entries : (most : ℕ) (s : Side) (es : List Entry) (n x : ℕ) → rising (numberFits most s) numberAbove none es ≡ true
+pub more-entries : (most : ℕ) (s : Side) (es : List Entry) (n x : ℕ) → rising (numberFits most s) numberAbove none es ≡ true
     → entryFits most s n x ≡ true → entryRises es n ≡ true → rising (numberFits most s) numberAbove none (withEntry n x es) ≡ true
 unfolding entryRises
 more-entries most s es n x h f a = rising-more (numberFits most s) numberAbove es (record { number = n; set = x }) h f a
@@ -49,7 +47,7 @@ more-entries most s es n x h f a = rising-more (numberFits most s) numberAbove e
 -- ---- rules: a word's tests look at the sides alone
 
 module _ (p : Policy) (rs : List Rule) where
-  fits-same : (w : Word) → wordFits p w ≡ wordFits (withRules rs p) w
+  pub fits-same : (w : Word) → wordFits p w ≡ wordFits (withRules rs p) w
   fits-same True = refl
   fits-same False = refl
   fits-same (Holds (UserValue v)) = refl
@@ -60,7 +58,7 @@ module _ (p : Policy) (rs : List Rule) where
   fits-same And = refl
   fits-same Or = refl
 
-  equal-same : (w : Word) → widthsEqual p w ≡ widthsEqual (withRules rs p) w
+  pub equal-same : (w : Word) → widthsEqual p w ≡ widthsEqual (withRules rs p) w
   equal-same True = refl
   equal-same False = refl
   equal-same (Holds h) = refl
@@ -84,7 +82,12 @@ pub record Fits (k : Kind) (p : Policy) (n m : ℕ) (ws : List Word) : Type 0 wh
   pub balance : balances k ws ≡ true
   pub few : length ws ≤ mostWords
 
-more-rules : (p : Policy) (a m : ℕ) (ws : List Word) → let r : Rule = record { action = a; words = ws } in
+-- a line with no words
+pub plain-fits : (k : Kind) (p : Policy) (n m : ℕ) → inRange k p n m [] ≡ true → rises k p n m ≡ true → balances k [] ≡ true → Fits k p n m []
+unfolding all
+plain-fits k p n m f a b = record { range = f; rise = a; equal = refl; balance = b; few = lit≤ tt }
+
+pub more-rules : (p : Policy) (a m : ℕ) (ws : List Word) → let r : Rule = record { action = a; words = ws } in
     rising (ruleSound p) actionAbove none (p .rules) ≡ true → Fits RuleKind p a m ws
     → rising (ruleSound (withRules (p .rules ++ (r ∷ [])) p)) actionAbove none (p .rules ++ (r ∷ [])) ≡ true
 unfolding ruleSound inRange rises ruleRises balances

@@ -1,8 +1,8 @@
 -- The order of the kinds: which kind may follow, as inequalities of places, and a policy without the lines of later kinds.
-use Prim.Native.Nat.{ℕ, zero, suc, _≤_, _<_, min}
+use Prim.Native.Nat.{ℕ, zero, suc, _≤_, min}
 use mathlib.Core.Path.{_≡_, refl, sym, ap, _∙_}
 use mathlib.Core.Bool.{Bool, true, false, cond, _&&_}
-use mathlib.Core.List.{List, [], _∷_}
+use mathlib.Core.List.{List, []}
 use mathlib.Core.Option.{Option, none, some}
 use native.Mathlib.Omega.{arith}
 use native.Mathlib.Decide.{decLt}
@@ -14,9 +14,9 @@ use Rattle.basis.proofs.Same.{agree-eq}
 use Rattle.basis.proofs.Table.{everyEntry}
 use Rattle.text.specs.Kind.{kinds, placeOf, follows}
 use Rattle.text.specs.declared.kind.Kind.{Kind}
-use Rattle.text.specs.declared.kind.Kind.the-variants.{Policy as PolicyKind, Uattr, Oattr, Usen, Osen, User, Object, Rule as RuleKind, End}
+use Rattle.text.specs.declared.kind.Kind.the-variants.{Uattr, Oattr, Usen, Osen, User, Object, Rule as RuleKind}
 use Rattle.text.proofs.Naming.{each-kind}
-use Rattle.policy.specs.Policy.{Side, Policy}
+use Rattle.policy.specs.Policy.{Policy}
 use Rattle.policy.specs.Line.{allowed}
 
 -- ---- which kind may follow
@@ -102,8 +102,15 @@ keep-keep i j k xs h = elim (decLt (placeOf k) j) [
 cut-cut : (i j : ℕ) (p : Policy) → i ≤ j → cut j (cut i p) ≡ cut i p
 unfolding cut
 cut-cut i j p h =
-    rw (keep-keep i j Uattr (p .user .widths) h, keep-keep i j Usen (p .user .lines) h, keep-keep i j Oattr (p .object .widths) h,
-      keep-keep i j Osen (p .object .lines) h, keep-keep i j User (p .users) h, keep-keep i j Object (p .objects) h, keep-keep i j RuleKind (p .rules) h)
+    rw (
+      keep-keep i j Uattr (p .user .widths) h,
+      keep-keep i j Usen (p .user .lines) h,
+      keep-keep i j Oattr (p .object .widths) h,
+      keep-keep i j Osen (p .object .lines) h,
+      keep-keep i j User (p .users) h,
+      keep-keep i j Object (p .objects) h,
+      keep-keep i j RuleKind (p .rules) h,
+    )
 
 -- a policy with no line from place i on has none from a later place on
 pub cut-more : (i j : ℕ) (p : Policy) → i ≤ j → cut i p ≡ p → cut j p ≡ p

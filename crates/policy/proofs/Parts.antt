@@ -1,7 +1,7 @@
 -- The tests of a sound policy taken apart: each list's, the lists but the widths as rising lists, and both ways.
-use Prim.Native.Nat.{ℕ, _+_, _≤_, _<_}
+use Prim.Native.Nat.{ℕ, _≤_, _<_}
 use mathlib.Core.Path.{_≡_, refl}
-use mathlib.Core.Bool.{Bool, true, false, _&&_}
+use mathlib.Core.Bool.{Bool, true}
 use mathlib.Core.List.{List, [], _∷_}
 use mathlib.Core.Option.{Option, none, some}
 use lib.Dec.{leb, ltb}
@@ -109,10 +109,16 @@ parts p e =
 pub lists-sound : (p : Policy) → Parts p → listsSound p ≡ true
 unfolding listsSound
 lists-sound p t =
-    rw (side-sound (values (p .form)) (p .user) (t .user), side-sound (values (p .form)) (p .object) (t .object),
-      entries-rising userNumbers (p .user) none (p .users), t .users,
-      entries-rising objectNumbers (p .object) none (p .objects), t .objects,
-      rules-rising p none (p .rules), t .rules)
+    rw (
+      side-sound (values (p .form)) (p .user) (t .user),
+      side-sound (values (p .form)) (p .object) (t .object),
+      entries-rising userNumbers (p .user) none (p .users),
+      t .users,
+      entries-rising objectNumbers (p .object) none (p .objects),
+      t .objects,
+      rules-rising p none (p .rules),
+      t .rules,
+    )
 
 -- and of the policy of an accepted text
 pub record Whole (p : Policy) : Type 0 where

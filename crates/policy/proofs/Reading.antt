@@ -1,9 +1,9 @@
 -- What holds of a state while a text is read: the lists are sound, no line of a later kind was read, and what is due was; each line keeps it.
-use Prim.Native.Nat.{ℕ, suc, _+_, _-_, _≤_}
+use Prim.Native.Nat.{ℕ, suc, _+_, _≤_}
 use mathlib.Core.Path.{_≡_, refl, sym, ap, _∙_, subst}
-use mathlib.Core.Bool.{Bool, true, false, _&&_}
-use mathlib.Core.List.{List, [], _∷_, _++_, map}
-use mathlib.Core.Option.{Option, none, some}
+use mathlib.Core.Bool.{Bool, true}
+use mathlib.Core.List.{List, [], _∷_, _++_}
+use mathlib.Core.Option.{none, some}
 use native.Mathlib.Omega.{arith}
 use lib.Dec.{leb}
 use lib.ListN.{length, drop, length-append, length-drop, length-map}
@@ -18,15 +18,15 @@ use Rattle.words.specs.Word.{parsed, wordIn}
 use Rattle.words.specs.declared.Word.{Word}
 use Rattle.policy.specs.Limits.{isForm, mostWords}
 use Rattle.policy.specs.Policy.{Policy, blank}
-use Rattle.policy.specs.Line.{Line, allowed, countFits, lineOf}
-use Rattle.policy.specs.Checks.{inRange, extended, withLineOf}
+use Rattle.policy.specs.Line.{allowed, countFits, lineOf}
+use Rattle.policy.specs.Checks.{inRange, extended}
 use Rattle.policy.specs.Read.{State, start, after, lineRefusal, lineAfter}
 use Rattle.policy.proofs.Sound.{widthsSound, linesSound, entriesSound, rulesSound, sideSound, listsSound, sound, Within}
 use Rattle.policy.proofs.Parts.{Parts, parts, lists-sound, is-sound}
 use Rattle.policy.proofs.Bounds.{sound-within}
 use Rattle.policy.proofs.Order.{reached, May, allowed-order, cut, cut-more}
 use Rattle.policy.proofs.Growth.{Fits, parts-more}
-use Rattle.policy.proofs.Passed.{Passed, Taken, taken}
+use Rattle.policy.proofs.Passed.{Passed, taken}
 
 -- what is due where the kinds before place i were reached: a known form, and widths of each side
 pub record DueOf (i f : ℕ) (us os : List ℕ) : Type 0 where
@@ -87,13 +87,13 @@ cut-extended Object n m ws p = refl
 cut-extended RuleKind n m ws p = refl
 cut-extended End n m ws p = refl
 
-module _ (k : Kind) (n m : ℕ) (ws : List Word) (s : State) (r : Reading s) (a : allowed (s .before) k ≡ true) where
+module _ (k : Kind) (s : State) (r : Reading s) (a : allowed (s .before) k ≡ true) where
   -- no line of a kind after this one was read
   pub none-later : cut (suc (placeOf k)) (s .policy) ≡ s .policy
   none-later = cut-more (reached (s .before)) (suc (placeOf k)) (s .policy) (omega (arith, allowed-order (s .before) k a .high)) (r .later)
 
-  pub reading-more : Fits k (s .policy) n m ws → Reading (record { before = some k; policy = extended k n m ws (s .policy) })
-  reading-more f =
+  pub reading-more : (n m : ℕ) (ws : List Word) → Fits k (s .policy) n m ws → Reading (record { before = some k; policy = extended k n m ws (s .policy) })
+  reading-more n m ws f =
       record {
         lists = lists-sound (extended k n m ws (s .policy))
             (subst (λ (q : Policy). Parts q → Fits k q n m ws → Parts (extended k n m ws q)) none-later (parts-more k n m ws (s .policy)) (parts (s .policy) (r .lists)) f);
@@ -104,7 +104,7 @@ module _ (k : Kind) (n m : ℕ) (ws : List Word) (s : State) (r : Reading s) (a 
 -- ---- the lines of a text
 
 -- a line of a known kind has that kind and no more words than a rule may have
-line-kind : (k : Kind) (fs : List (List ℕ)) → lineOf k fs .kind ≡ k
+pub line-kind : (k : Kind) (fs : List (List ℕ)) → lineOf k fs .kind ≡ k
 unfolding lineOf
 line-kind PolicyKind fs = refl
 line-kind Uattr fs = refl
@@ -143,7 +143,7 @@ unfolding after
 reading-kind s e k fs r c =
     let l = lineOf k fs in
     subst (λ (j : Kind). Reading (record { before = some k; policy = extended j (l .first) (l .second) (l .words) (s .policy) })) (sym (line-kind k fs))
-    (reading-more k (l .first) (l .second) (l .words) s r (c .order) (line-fits s e k fs c))
+    (reading-more k s r (c .order) (l .first) (l .second) (l .words) (line-fits s e k fs c))
 
 pub reading-next : (s : State) (l : TextLine) → Reading s → lineRefusal s l ≡ none → Reading (lineAfter s l)
 reading-next s l r e =

@@ -1,37 +1,20 @@
 -- Lists of which each element passes a test and stands above the one before it: one element more, each element, and how many there are at most.
-use Prim.Native.Nat.{ℕ, zero, suc, _+_, _≤_, _<_}
-use mathlib.Core.Path.{_≡_, refl, sym, _∙_}
-use mathlib.Core.Bool.{Bool, true, false, _&&_}
+use Prim.Native.Nat.{ℕ, _+_, _≤_, _<_}
+use mathlib.Core.Path.{_≡_, refl}
+use mathlib.Core.Bool.{Bool, true, _&&_}
 use mathlib.Core.List.{List, [], _∷_, _++_, List·Memᴰ, List·Memᴰ·head, List·Memᴰ·tail, List·Memᴰ·not-nil}
 use mathlib.Core.Option.{Option, none, some}
 use native.Mathlib.Omega.{arith}
 use lib.ListN.{length}
 use Rattle.basis.specs.Choice.{given}
 use Rattle.basis.specs.Lists.{last}
-use Rattle.basis.proofs.Bools.{and-left, and-right, and-both}
+use Rattle.basis.proofs.Snoc.{lastAfter, last-after}
+use Rattle.basis.proofs.Bools.{and-left, and-right}
 
 -- elements after another: the lists of a policy but its widths
 unfoldable pub rising : {A : Type 0} → (A → Bool) → (A → A → Bool) → Option A → List A → Bool
 rising fits above b [] = true
 rising fits above b (x ∷ xs) = fits x && (given b true (λ y. above y x) && rising fits above (some x) xs)
-
--- the last element, after another
-abbrev lastAfter : {A : Type 0} → Option A → List A → Option A
-lastAfter b [] = b
-lastAfter b (x ∷ xs) = lastAfter (some x) xs
-
-last-after : {A : Type 0} (xs : List A) → last xs ≡ lastAfter none xs
-unfolding last
-last-after [] = refl
-last-after (x ∷ []) = refl
-last-after (x ∷ y ∷ ys) = last-after (y ∷ ys)
-
-after-snoc : {A : Type 0} (b : Option A) (xs : List A) (x : A) → lastAfter b (xs ++ (x ∷ [])) ≡ some x
-after-snoc b [] x = refl
-after-snoc b (y ∷ xs) x = after-snoc (some y) xs x
-
-pub last-snoc : {A : Type 0} (xs : List A) (x : A) → last (xs ++ (x ∷ [])) ≡ some x
-last-snoc xs x = last-after (xs ++ (x ∷ [])) ∙ after-snoc none xs x
 
 module _ {A : Type 0} (fits : A → Bool) (above : A → A → Bool) where
   -- the parts of the test at a list's first element

@@ -1,19 +1,15 @@
 -- The policy value gives its policy back, and what one line more does to it, list by list.
-use Prim.Native.Nat.{ℕ, _+_, _≤_, _<_}
-use mathlib.Core.Path.{_≡_, refl, sym, ap, _∙_}
+use Prim.Native.Nat.{ℕ, _+_, _<_}
+use mathlib.Core.Path.{_≡_, refl, ap}
 use mathlib.Core.List.{List, [], _∷_, _++_, map}
-use native.Mathlib.Omega.{arith}
-use lib.ListN.{length, set, take, length-append}
-use Rattle.basis.specs.Lists.{padded}
+use lib.ListN.{length, set}
+use Rattle.basis.proofs.Snoc.{length-snoc}
 use Rattle.basis.proofs.Padded.{take-padded, take-padded-map, padded-more, padded-more-map}
 use Rattle.seniority.specs.Seniority.{direct}
-use Rattle.seniority.specs.declared.Direct.{Direct}
-use Rattle.text.specs.declared.kind.Kind.{Kind}
-use Rattle.text.specs.declared.kind.Kind.the-variants.{Policy as PolicyKind, Uattr, Oattr, Usen, Osen, User, Object, Rule as RuleKind, End}
 use Rattle.words.specs.declared.Word.{Word}
 use Rattle.words.specs.declared.Word.the-variants.{True}
 use Rattle.policy.specs.Policy.{Side, Rule, Policy}
-use Rattle.policy.specs.Checks.{withWidth, withLine, withEntry, extended}
+use Rattle.policy.specs.Checks.{withWidth, withLine, withEntry}
 use Rattle.policy.specs.Value.{widthPlaces, linePlaces, entryPlaces, wordPlaces, rulePlaces, slot, noEntry, noRule, sideValue, register, ruleValue, rulesValue, valueOf, sideOf, entriesOf, ruleOf, rulesOf, policyOf}
 use Rattle.policy.specs.declared.value.Entry.{Entry}
 use Rattle.policy.specs.declared.value.Slot.{Slot}
@@ -21,8 +17,6 @@ use Rattle.policy.specs.declared.value.SideValue.{SideValue}
 use Rattle.policy.specs.declared.value.Register.{Register}
 use Rattle.policy.specs.declared.value.RuleValue.{RuleValue}
 use Rattle.policy.specs.declared.value.Rules.{Rules}
-use Rattle.policy.specs.declared.value.PolicyValue.{PolicyValue}
-use Rattle.policy.proofs.Sound.{WithinSide, Within}
 
 -- ---- the value gives the policy back
 
@@ -67,9 +61,6 @@ moreEntry n s x = record { count = x .count + 1; entries = set (x .entries) (x .
 
 abbrev pub moreRule : RuleValue → Rules → Rules
 moreRule r x = record { count = x .count + 1; entries = set (x .entries) (x .count) r }
-
-length-snoc : {A : Type 0} (xs : List A) (x : A) → length (xs ++ (x ∷ [])) ≡ length xs + 1
-length-snoc xs x = omega (arith, length-append xs (x ∷ []))
 
 pub more-width : (w : ℕ) (s : Side) → length (s .widths) < widthPlaces → sideValue (withWidth w s) ≡ moreWidth w (sideValue s)
 unfolding sideValue

@@ -60,7 +60,8 @@ few (suc k) n ds =
       | no l ↦
           let m : n % 10 < 10 = omega arith in
           let s = few k (n / 10) ((byte "0" + n % 10) ∷ ds) in
-          rw (more-digits k n ds (omega (arith, l))) (record { most = omega (arith, s .most); digits = λ h. s .digits (rw (digit-is (n % 10) m, h)) })
+          rw (more-digits k n ds (omega (arith, l)))
+          (record { most = omega (arith, s .most); digits = λ h. s .digits (rw (digit-is (n % 10) m, h)) })
     ]
 
 pub decimal-short : (n : ℕ) → length (decimal n) ≤ mostDigits
@@ -119,7 +120,8 @@ pub decimal-number : (n : ℕ) → n < 10 ^ mostDigits → isNumber (decimal n) 
 unfolding isNumber
 decimal-number n h =
     let w = whole-decimal n h in
-    rw (le-leb 1 (length (decimal n)) (omega (arith, w .some)), le-leb (length (decimal n)) mostDigits (decimal-short n), decimal-digits n, no-lead n (decimal n) w)
+    let l : 1 ≤ length (decimal n) = omega (arith, w .some) in
+    rw (le-leb 1 (length (decimal n)) l, le-leb (length (decimal n)) mostDigits (decimal-short n), decimal-digits n, no-lead n (decimal n) w)
 
 pub numeral-decimal : (n : ℕ) → n < 10 ^ mostDigits → numeral (decimal n) ≡ Value n
 unfolding numeral
@@ -144,7 +146,8 @@ value-lt v k (d ∷ ds) e h =
     rw z (value-lt (v * 10 + digitOf d) (suc k) ds (and-right (isDigit d) (all isDigit ds) e) (omega (arith, pow-suc 10 k)))
 
 -- n is v and then the digits ds: its digits are those of v and then ds
-digits-after : (k v : ℕ) (ds es : List ℕ) → 0 < v → all isDigit ds ≡ true → digitsBefore (k + length ds) (valueFrom v ds) es ≡ digitsBefore k v (ds ++ es)
+digits-after : (k v : ℕ) (ds es : List ℕ) → 0 < v → all isDigit ds ≡ true
+    → digitsBefore (k + length ds) (valueFrom v ds) es ≡ digitsBefore k v (ds ++ es)
 unfolding all valueFrom
 digits-after k v [] es h e =
     let z : k + 0 ≡ k = omega arith in
@@ -155,9 +158,11 @@ digits-after k v (d ∷ ds) es h e =
     let w = v * 10 + digitOf d in
     let q : w / 10 ≡ v = omega arith in
     let m : byte "0" + w % 10 ≡ d = omega arith in
-    rw z (digits-after (suc k) w ds es (omega arith) (and-right (isDigit d) (all isDigit ds) e) ∙ more-digits k w (ds ++ es) (omega arith) ∙ rw (q, m))
+    let t = and-right (isDigit d) (all isDigit ds) e in
+    rw z (digits-after (suc k) w ds es (omega arith) t ∙ more-digits k w (ds ++ es) (omega arith) ∙ rw (q, m))
 
-digits-of : (d : ℕ) (ds : List ℕ) → length ds ≤ 4 → isDigit d ≡ true → all isDigit ds ≡ true → (0 < length ds → d ≡ byte "0" → ⊥) → decimal (valueOf (d ∷ ds)) ≡ d ∷ ds
+digits-of : (d : ℕ) (ds : List ℕ) → length ds ≤ 4 → isDigit d ≡ true → all isDigit ds ≡ true → (0 < length ds → d ≡ byte "0" → ⊥)
+    → decimal (valueOf (d ∷ ds)) ≡ d ∷ ds
 unfolding decimal valueFrom
 digits-of d [] l e f z =
     let b = digit-bounds d e in
@@ -196,7 +201,9 @@ number-is f e =
       some = leb-true 1 (length f) (and-left a (b && (c && d)) e);
       most = leb-true (length f) mostDigits (and-left b (c && d) r);
       digits = and-left c d s;
-      lead = ⊎-elim (λ p. inl (eqb-true (length f) 1 p)) (λ p. inr (eqb-false (getD f 0 0) (byte "0") (not-true z p))) (or-cases (eqb (length f) 1) (not z) (and-right c d s));
+      lead =
+          ⊎-elim (λ p. inl (eqb-true (length f) 1 p)) (λ p. inr (eqb-false (getD f 0 0) (byte "0") (not-true z p)))
+          (or-cases (eqb (length f) 1) (not z) (and-right c d s));
     }
 
 pub value-decimal : (f : List ℕ) → isNumber f ≡ true → decimal (valueOf f) ≡ f
@@ -204,7 +211,9 @@ unfolding all
 value-decimal [] e = absurd (omega (arith, number-is [] e .some))
 value-decimal (d ∷ ds) e =
     let n = number-is (d ∷ ds) e in
-    digits-of d ds (omega (arith, n .most)) (and-left (isDigit d) (all isDigit ds) (n .digits)) (and-right (isDigit d) (all isDigit ds) (n .digits))
+    let h = and-left (isDigit d) (all isDigit ds) (n .digits) in
+    let t = and-right (isDigit d) (all isDigit ds) (n .digits) in
+    digits-of d ds (omega (arith, n .most)) h t
     (λ h. ⊎-elim (λ p. absurd (omega arith)) (λ p. p) (n .lead))
 
 pub value-small : (f : List ℕ) → isNumber f ≡ true → valueOf f < 10 ^ mostDigits
@@ -266,7 +275,9 @@ unfolding join all
 split-join b [] l h = absurd (omega arith)
 split-join b (p ∷ []) l h = split-free b p (and-left (lacks b p) true h)
 split-join b (p ∷ q ∷ ps) l h =
-    rw (split-part b p (join b (q ∷ ps)) (and-left (lacks b p) (all (lacks b) (q ∷ ps)) h), split-join b (q ∷ ps) (omega arith) (and-right (lacks b p) (all (lacks b) (q ∷ ps)) h))
+    let f = and-left (lacks b p) (all (lacks b) (q ∷ ps)) h in
+    let r = and-right (lacks b p) (all (lacks b) (q ∷ ps)) h in
+    rw (split-part b p (join b (q ∷ ps)) f, split-join b (q ∷ ps) (omega arith) r)
 
 -- joining undoes parting
 join-onto : (t : Bool) (b x : ℕ) (ps : List (List ℕ)) → eqb x b ≡ t → 0 < length ps → join b (onto t x ps) ≡ x ∷ join b ps
@@ -303,7 +314,8 @@ lines-text (l ∷ ls) h =
     lines-next l (textOf ls) (and-left (lacks lineFeed l) (all (lacks lineFeed) ls) h)
     ∙ rw (lines-text ls (and-right (lacks lineFeed l) (all (lacks lineFeed) ls) h))
 
-text-join : (ps : List (List ℕ)) → 0 < length ps → all (λ l. l .ended) (linesOf ps) ≡ true → textOf (map (λ l. l .bytes) (linesOf ps)) ≡ join lineFeed ps
+text-join : (ps : List (List ℕ)) → 0 < length ps → all (λ l. l .ended) (linesOf ps) ≡ true
+    → textOf (map (λ l. l .bytes) (linesOf ps)) ≡ join lineFeed ps
 unfolding textOf join all linesOf
 text-join [] l h = absurd (omega arith)
 text-join ([] ∷ []) l h = refl
@@ -336,7 +348,8 @@ word-in : (f : List ℕ) (ks : List Kind) (k : Kind) → namedIn ks f ≡ Is k �
 unfolding namedIn
 word-in f [] k e = let z : _≡_ {A = ℕ} 0 1 = cc in absurd (omega arith)
 word-in f (j ∷ ks) k e =
-    ⊎-elim (λ p. subst (λ (i : Kind). same eqb f (wordOf i) ≡ true) (p .1) (p .0)) (λ q. word-in f ks k q) (is-first (same eqb f (wordOf j)) j k (namedIn ks f) e)
+    ⊎-elim (λ p. subst (λ (i : Kind). same eqb f (wordOf i) ≡ true) (p .1) (p .0)) (λ q. word-in f ks k q)
+    (is-first (same eqb f (wordOf j)) j k (namedIn ks f) e)
 
 pub word-named : (f : List ℕ) (k : Kind) → named f ≡ Is k → f ≡ wordOf k
 word-named f k e = same-eq eqb eqb-true f (wordOf k) (word-in f kinds k e)

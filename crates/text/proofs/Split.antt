@@ -43,14 +43,17 @@ onto-length x [] h = absurd (not-suc-le-zero h)
 onto-length x (p ∷ ps) h = refl
 
 -- a separator makes a part more, any other byte none
-pub split-hit : (s : List ℕ) (i b : ℕ) → i < length s → getD s i 0 ≡ b → length (split b (drop i s)) ≡ suc (length (split b (drop (i + 1) s)))
+pub split-hit : (s : List ℕ) (i b : ℕ) → i < length s → getD s i 0 ≡ b
+    → length (split b (drop i s)) ≡ suc (length (split b (drop (i + 1) s)))
 unfolding split
 split-hit s i b h e = rw (drop-cons s i 0, add-one) (simp (eq-eqb _ _ e))
 
-pub split-miss : (s : List ℕ) (i b : ℕ) → i < length s → (getD s i 0 ≡ b → ⊥) → length (split b (drop i s)) ≡ length (split b (drop (i + 1) s))
+pub split-miss : (s : List ℕ) (i b : ℕ) → i < length s → (getD s i 0 ≡ b → ⊥)
+    → length (split b (drop i s)) ≡ length (split b (drop (i + 1) s))
 unfolding split
 split-miss s i b h e =
-    rw (drop-cons s i 0, add-one) (simp (ne-eqb _ _ e) (onto-length (getD s i 0) (split b (drop (suc i) s)) (split-pos b (drop (suc i) s))))
+    rw (drop-cons s i 0, add-one)
+    (simp (ne-eqb _ _ e) (onto-length (getD s i 0) (split b (drop (suc i) s)) (split-pos b (drop (suc i) s))))
 
 pub split-end : (s : List ℕ) (i b : ℕ) → length s ≤ i → length (split b (drop i s)) ≡ 1
 unfolding split
@@ -82,7 +85,8 @@ split-one b (x ∷ xs) h = one-go (eqb x b) b x xs h (split-one b xs)
 -- ---- by positions: what `find` tells of the parts from i
 
 -- a separator was found at r: a part ends there and the others start after it
-pub part-next : (s : List ℕ) (i b r : ℕ) → Found s i b r → r < length s → split b (drop i s) ≡ take (r - i) (drop i s) ∷ split b (drop (r + 1) s)
+pub part-next : (s : List ℕ) (i b r : ℕ) → Found s i b r → r < length s
+    → split b (drop i s) ≡ take (r - i) (drop i s) ∷ split b (drop (r + 1) s)
 part-next s i b r f h =
     let k : indexOf b (drop i s) ≡ r - i = omega (arith, f .at) in
     let h′ : indexOf b (drop i s) < length (drop i s) = rw length-drop (omega (arith, f .at)) in

@@ -113,17 +113,7 @@ const FOLLOWS: [[bool; 9]; 9] = [
     [false, false, false, false, false, true, true, true, true],
     [false, false, false, false, false, false, true, true, true],
     [false, false, false, false, false, false, false, true, true],
-    [
-        false,
-        false,
-        false,
-        false,
-        false,
-        false,
-        false,
-        false,
-        false,
-    ],
+    [false; 9],
 ];
 
 // Whether a line of kind k may follow one of kind j.

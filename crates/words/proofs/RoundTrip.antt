@@ -1,6 +1,6 @@
 -- A word is read back from what it is written as, and is written as what it was read from.
-use Prim.Native.Nat.{ℕ, _+_, _-_, _≤_, _<_}
-use mathlib.Core.Path.{_≡_, refl, subst}
+use Prim.Native.Nat.{ℕ, _+_, _≤_}
+use mathlib.Core.Path.{_≡_, refl}
 use mathlib.Core.Bool.{Bool, true, false, cond, _&&_}
 use mathlib.Core.List.{List, [], _∷_}
 use native.Mathlib.Omega.{arith}
@@ -42,21 +42,20 @@ module _ (v : ℕ) (h : ltb v 10 ≡ true) where
   byte-of : digitOf (byte "0" + v) ≡ v
   byte-of = omega arith
 
-module _ (i j : ℕ) (h : (ltb i 10 && ltb j 10) ≡ true) where
-  first : ltb i 10 ≡ true
-  first = and-left (ltb i 10) (ltb j 10) h
-
-  second : ltb j 10 ≡ true
-  second = and-right (ltb i 10) (ltb j 10) h
-
 pub parsed-written : (w : Word) → inDigits w ≡ true → parsed (written w) ≡ Is w
 unfolding inDigits parsed written letter holding comparison
 parsed-written True h = refl
 parsed-written False h = refl
 parsed-written (Holds (User v)) h = rw (byte-is v h, byte-of v h)
 parsed-written (Holds (Object v)) h = rw (byte-is v h, byte-of v h)
-parsed-written (Compares (Dominates i j)) h = rw (byte-is i (first i j h), byte-is j (second i j h), byte-of i (first i j h), byte-of j (second i j h))
-parsed-written (Compares (Equals i j)) h = rw (byte-is i (first i j h), byte-is j (second i j h), byte-of i (first i j h), byte-of j (second i j h))
+parsed-written (Compares (Dominates i j)) h =
+    let p = and-left (ltb i 10) (ltb j 10) h in
+    let q = and-right (ltb i 10) (ltb j 10) h in
+    rw (byte-is i p, byte-is j q, byte-of i p, byte-of j q)
+parsed-written (Compares (Equals i j)) h =
+    let p = and-left (ltb i 10) (ltb j 10) h in
+    let q = and-right (ltb i 10) (ltb j 10) h in
+    rw (byte-is i p, byte-is j q, byte-of i p, byte-of j q)
 parsed-written Not h = refl
 parsed-written And h = refl
 parsed-written Or h = refl
@@ -68,7 +67,8 @@ pub record From (w : Word) (f : List ℕ) : Type 0 where
   pub digits : inDigits w ≡ true
 
 -- a case of the reading: it is taken and its word writes the field, or a later one is
-choose : (f : List ℕ) (b : Bool) (v : Word) (x : Parsed) → (b ≡ true → From v f) → ((w : Word) → x ≡ Is w → From w f) → (w : Word) → cond b (Is v) x ≡ Is w → From w f
+choose : (f : List ℕ) (b : Bool) (v : Word) (x : Parsed) → (b ≡ true → From v f) → ((w : Word) → x ≡ Is w → From w f)
+    → (w : Word) → cond b (Is v) x ≡ Is w → From w f
 choose f true v x h g w e =
     let q : v ≡ w = cc in
     rw q at (h refl)
@@ -126,8 +126,9 @@ comparison-from c i j w e =
     let p = passed (isDigit i && isDigit j) _ w e in
     let h = and-left (isDigit i) (isDigit j) (p .0) in
     let g = and-right (isDigit i) (isDigit j) (p .0) in
-    choose f (eqb c (byte "d")) (Compares (Dominates m n)) _ (made (Compares (Dominates m n)) (byte "d") (i ∷ j ∷ []) (rw (of-byte i h, of-byte j g)) (rw (of-digit i h, of-digit j g)) c)
-    (choose f (eqb c (byte "q")) (Compares (Equals m n)) _ (made (Compares (Equals m n)) (byte "q") (i ∷ j ∷ []) (rw (of-byte i h, of-byte j g)) (rw (of-digit i h, of-digit j g)) c)
+    let s : (ltb m 10 && ltb n 10) ≡ true = rw (of-digit i h, of-digit j g) in
+    choose f (eqb c (byte "d")) (Compares (Dominates m n)) _ (made (Compares (Dominates m n)) (byte "d") (i ∷ j ∷ []) (rw (of-byte i h, of-byte j g)) s c)
+    (choose f (eqb c (byte "q")) (Compares (Equals m n)) _ (made (Compares (Equals m n)) (byte "q") (i ∷ j ∷ []) (rw (of-byte i h, of-byte j g)) s c)
     (none f)) w (p .1)
   where
     f : List ℕ

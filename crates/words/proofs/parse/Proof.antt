@@ -1,11 +1,10 @@
 -- `words::parse` meets its contract: the length picks the shape.
 use Prim.Native.Nat.{ℕ}
-use mathlib.Core.Path.{_≡_, refl, _∙_}
+use mathlib.Core.Path.{_≡_, refl}
 use mathlib.Core.List.{List, [], _∷_}
 use native.Mathlib.Omega.{arith}
 use lib.ListN.{length, getD}
 use Rattle.words.specs.Word.{letter, holding, comparison, parsed}
-use Rattle.words.specs.declared.Parsed.{Parsed}
 use Rattle.words.specs.declared.Parsed.the-variants.{Malformed}
 use borrow.Author.Needs.{needs}
 use Rattle.words.proofs.parse.Statement.{statement}

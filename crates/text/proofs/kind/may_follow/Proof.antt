@@ -1,4 +1,4 @@
--- `text::kind::may_follow` meets its contract: one test over the whole table, which antt computes, and the law that gives it at each entry.
+-- `text::kind::may_follow` meets its contract: one computed test over the whole table, and the law that gives it at each entry.
 use Prim.Native.Nat.{ℕ, _<_}
 use mathlib.Core.Path.{_≡_, refl, _∙_}
 use mathlib.Core.Bool.{Bool, true, false, _&&_}
@@ -67,7 +67,8 @@ unfolding table
 returns c =
     let j = c .before .before .before .args .j in
     let k = c .before .before .before .args .k in
-    rw (c .before .before .place .ensures, c .before .place2 .ensures) (rule (placeOf j) (placeOf k) (place-lt j) (place-lt k) ∙ rw (kind-at j, kind-at k))
+    rw (c .before .before .place .ensures, c .before .place2 .ensures)
+    (rule (placeOf j) (placeOf k) (place-lt j) (place-lt k) ∙ rw (kind-at j, kind-at k))
 
 pub may-follow-spec : {M : Type 1} → statement M
 may-follow-spec =

@@ -1,3 +1,4 @@
+-- `text::kind::parse` meets its contract: each test settles one word, and then the later words decide.
 use borrow.Author.Needs.{needs}
 use Rattle.text.proofs.Naming.{hit, miss}
 use Rattle.text.proofs.kind.parse.Statement.{statement}

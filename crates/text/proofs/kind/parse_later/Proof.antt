@@ -1,3 +1,4 @@
+-- `text::kind::parse_later` meets its contract: each test settles one word.
 use borrow.Author.Needs.{needs}
 use Rattle.text.proofs.Naming.{hit, miss, none}
 use Rattle.text.proofs.kind.parse_later.Statement.{statement}

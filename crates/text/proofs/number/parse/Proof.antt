@@ -39,7 +39,9 @@ module _ (f : List ℕ) where
       unfolding numeral isNumber
       several h e =
           let g : 1 ≤ length f = omega (arith, l) in
-          is ∙ rw (le-leb 1 (length f) g, le-leb (length f) mostDigits m, ne-eqb (length f) 1 h, ne-eqb (getD f 0 0) (byte "0") e) (simp and-true)
+          is
+          ∙ rw (le-leb 1 (length f) g, le-leb (length f) mostDigits m, ne-eqb (length f) 1 h, ne-eqb (getD f 0 0) (byte "0") e)
+          (simp and-true)
 
 returns : tie.Need-returns
 returns c = search none
