@@ -3,3 +3,6 @@ pub mod Stored
 pub mod Admitted
 pub mod Rules
 pub mod Faults
+pub mod Places
+pub mod Rising
+pub mod States

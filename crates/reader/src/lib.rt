@@ -74,7 +74,7 @@ pub fn read(text: &[u8]) -> Reading
     let mut rules = blank.rules;
     let mut u = value::shape(user);
     let mut o = u;
-    let mut before = Before::Start;
+    let mut last = Before::Start;
     let mut at = 0;
     let mut n = 0;
     while at < text.len() {
@@ -83,7 +83,7 @@ pub fn read(text: &[u8]) -> Reading
             return refused(Refusal::LineFeedMissing, n);
         }
         let line = &text[at..e];
-        let x = checked(before, line, form, u, o);
+        let x = checked(last, line, form, u, o);
         let f = x.fault;
         if let Fault::Is(r) = f {
             return refused(r, n);
@@ -91,9 +91,9 @@ pub fn read(text: &[u8]) -> Reading
         let k = x.kind;
         let a = x.first;
         let b = x.second;
-        let last = before;
+        let prior = last;
         let here = n;
-        before = Before::After(k, a, b);
+        last = Before::After(k, a, b);
         at = e + 1;
         n += 1;
         match k {
@@ -111,7 +111,7 @@ pub fn read(text: &[u8]) -> Reading
             Kind::User => users = value::with_entry(users, a, b),
             Kind::Object => objects = value::with_entry(objects, a, b),
             Kind::Rule => {
-                let y = rule::admit(a, line, last, form, u, o);
+                let y = rule::admit(a, line, prior, form, u, o);
                 let g = y.fault;
                 if let Fault::Is(r) = g {
                     return refused(r, here);
@@ -122,7 +122,7 @@ pub fn read(text: &[u8]) -> Reading
             Kind::End => {}
         }
     }
-    if ended(before) {
+    if ended(last) {
         let policy = PolicyValue { form, user, object, users, objects, rules };
         return Reading { verdict: Verdict::Accepted, policy };
     }

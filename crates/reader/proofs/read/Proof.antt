@@ -16,11 +16,11 @@ use Rattle.reader.proofs.value.with_width.Reads as with-width-reads
 use Rattle.text.proofs.parts.find.Reads as find-reads
 
 abbrev Inv-loop : tie.InvT-loop
-Inv-loop text form₀ user₀ object₀ users₀ objects₀ rules₀ u₀ o₀ before₀ at₀ n₀ form user object users objects rules u o before at n =
+Inv-loop text form₀ user₀ object₀ users₀ objects₀ rules₀ u₀ o₀ last₀ at₀ n₀ form user object users objects rules u o last at n =
     ?
 
 abbrev μ-loop : tie.MeasureT-loop
-μ-loop text form₀ user₀ object₀ users₀ objects₀ rules₀ u₀ o₀ before₀ at₀ n₀ form user object users objects rules u o before at n =
+μ-loop text form₀ user₀ object₀ users₀ objects₀ rules₀ u₀ o₀ last₀ at₀ n₀ form user object users objects rules u o last at n =
     ?
 
 -- src/lib.rt:66:9

@@ -1,0 +1,159 @@
+-- What the loop over the lines holds stands for the state of reading at its place, and each line keeps it so.
+use Prim.Native.Nat.{ℕ, suc, _+_, _^_, _≤_, _<_}
+use mathlib.Core.Path.{_≡_, refl, sym, ap, _∙_}
+use mathlib.Core.Bool.{Bool, true, false}
+use mathlib.Core.List.{List, [], _∷_, _++_}
+use mathlib.Core.Option.{Option, none, some}
+use native.Mathlib.Numerals.{add-one}
+use native.Mathlib.Omega.{arith}
+use borrow.Author.Tests.{le-ltb, lt-ltb}
+use lib.ListN.{length, take, drop}
+use Rattle.basis.specs.Choice.{given}
+use Rattle.basis.specs.Lists.{last, sum}
+use Rattle.basis.proofs.Snoc.{length-snoc}
+use Rattle.seniority.specs.Seniority.{direct}
+use Rattle.text.specs.Kind.{isKind}
+use Rattle.text.specs.Parts.{Line as TextLine, lineFeed, fields, lines, Found}
+use Rattle.text.specs.declared.kind.Kind.{Kind}
+use Rattle.text.specs.declared.kind.Kind.the-variants.{Policy as PolicyKind, Uattr, Oattr, Usen, Osen, User, Object, Rule as RuleKind, End}
+use Rattle.text.proofs.RoundTrip.{endedLine}
+use Rattle.words.specs.declared.Word.{Word}
+use Rattle.policy.specs.Limits.{textBytes, values}
+use Rattle.policy.specs.Policy.{Side, Rule, Policy, blank, total}
+use Rattle.policy.specs.Line.{lineOf, plain}
+use Rattle.policy.specs.Checks.{rises, pairRises, entryRises, ruleRises, withWidth, withLine, withEntry, extended}
+use Rattle.policy.specs.Read.{Accepted, Refused, kindOf, State, start, after, lineRefusal, lineAfter, ending, readLines, readText}
+use Rattle.policy.specs.Value.{widthPlaces, linePlaces, entryPlaces, rulePlaces, sideValue, register, ruleValue, rulesValue, valueOf}
+use Rattle.policy.specs.Answers.{numberOf, valueIn, ReadAs}
+use Rattle.policy.specs.declared.refusal.Refusal.{Refusal}
+use Rattle.policy.specs.declared.value.Entry.{Entry}
+use Rattle.policy.specs.declared.value.SideValue.{SideValue}
+use Rattle.policy.specs.declared.value.Register.{Register}
+use Rattle.policy.specs.declared.value.Rules.{Rules}
+use Rattle.policy.specs.declared.value.PolicyValue.{PolicyValue}
+use Rattle.policy.proofs.Parts.{SideParts, parts}
+use Rattle.policy.proofs.Bounds.{total-most, attributes-few}
+use Rattle.policy.proofs.Reading.{Reading, reading-start, reading-next, reading-within}
+use Rattle.checks.specs.Sides.{Shaped}
+use Rattle.checks.specs.declared.side.Shape.{Shape}
+use Rattle.reader.specs.Line.{beforeOf, parsedAs}
+use Rattle.reader.specs.Admit.{Sized, Sides, risesAfter, checkedAs, ruleOf, admittedRule}
+use Rattle.reader.specs.declared.fault.Fault.the-variants.{None, Is}
+use Rattle.reader.specs.declared.line.Before.{Before}
+use Rattle.reader.specs.declared.line.Before.the-variants.{Start, After}
+use Rattle.reader.specs.declared.line.Line.{Line}
+use Rattle.reader.specs.declared.rule.RuleLine.{RuleLine}
+use Rattle.reader.proofs.Fields.{between}
+use Rattle.reader.proofs.Stored.{side-widths}
+use Rattle.reader.proofs.Faults.{Rises, Known, line-known, line-refused, line-taken, rule-answer}
+use Rattle.reader.proofs.Places.{next-line, open-line, no-line, reads-refused, reads-on, reads-open}
+use Rattle.reader.proofs.Rising.{rises-after}
+
+-- what the loop holds
+pub record Held : Type 0 where
+  pub form : ℕ
+  pub user : SideValue
+  pub object : SideValue
+  pub users : Register
+  pub objects : Register
+  pub rules : Rules
+  pub userShape : Shape
+  pub objectShape : Shape
+  pub last : Before
+
+-- it holds the value of a policy
+pub record Values (h : Held) (p : Policy) : Type 0 where
+  pub form : h .form ≡ p .form
+  pub user : h .user ≡ sideValue (p .user)
+  pub object : h .object ≡ sideValue (p .object)
+  pub users : h .users ≡ register (p .users)
+  pub objects : h .objects ≡ register (p .objects)
+  pub rules : h .rules ≡ rulesValue (p .rules)
+  pub userShape : Shaped (h .userShape) (p .user)
+  pub objectShape : Shaped (h .objectShape) (p .object)
+
+-- at place `at`, on line n
+pub record At (t : List ℕ) (h : Held) (at n : ℕ) : Type 0 where
+  pub state : State
+  pub reading : Reading state
+  pub values : Values h (state .policy)
+  pub last : beforeOf (h .last) ≡ state .before
+  pub rising : (k : Kind) → Rises (h .last) (state .policy) k
+  pub within : at ≤ length t
+  pub few : n ≤ at
+  pub rest : readText t ≡ readLines state n (lines (drop at t))
+
+-- ---- sides
+
+module _ (f : ℕ) (s : Side) (q : SideParts (values f) s) where
+  pub shaped-sized : (x : Shape) → Shaped x s → Sized x
+  shaped-sized x z =
+      let a = attributes-few (values f) s q in
+      let b = total-most (values f) s q in
+      record { attributes = omega (arith, z .attributes); total = omega (arith, z .total) }
+
+  pub value-sized : (x : SideValue) → x ≡ sideValue s → (x .attributes ≤ widthPlaces) × (sum (take (x .attributes) (x .widths)) < 2 ^ 32)
+  unfolding sideValue total
+  value-sized x e =
+      let a = attributes-few (values f) s q in
+      let b = total-most (values f) s q in
+      (omega (arith, ap (λ (y : SideValue). y .attributes) e), rw (← side-widths x s e) (omega arith))
+
+module _ {t : List ℕ} {h : Held} {at n : ℕ} (i : At t h at n) where
+  pub at-sides : Sides (h .form) (h .userShape) (h .objectShape) (i .state .policy)
+  at-sides = record { form = i .values .form; user = i .values .userShape; object = i .values .objectShape }
+
+  pub at-sized : Sized (h .userShape) × Sized (h .objectShape)
+  at-sized =
+      let p = i .state .policy in
+      let q = parts p (i .reading .lists) in
+      (shaped-sized (p .form) (p .user) (q .user) (h .userShape) (i .values .userShape),
+        shaped-sized (p .form) (p .object) (q .object) (h .objectShape) (i .values .objectShape))
+
+-- ---- the first line
+
+rises-blank : (k : Kind) → Rises Start blank k
+unfolding risesAfter rises pairRises entryRises ruleRises last blank
+rises-blank PolicyKind m n a = refl
+rises-blank Uattr m n a = refl
+rises-blank Oattr m n a = refl
+rises-blank Usen m n a = refl
+rises-blank Osen m n a = refl
+rises-blank User m n a = refl
+rises-blank Object m n a = refl
+rises-blank RuleKind m n a = refl
+rises-blank End m n a = refl
+
+module _ (v : PolicyValue) (e : v ≡ valueOf blank) where
+  pub blank-user : v .user ≡ sideValue (blank .user)
+  unfolding valueOf
+  blank-user = ap (λ (x : PolicyValue). x .user) e
+
+  pub blank-sized : (v .user .attributes ≤ widthPlaces) × (sum (take (v .user .attributes) (v .user .widths)) < 2 ^ 32)
+  blank-sized = value-sized 0 (blank .user) (parts blank (reading-start .lists) .user) (v .user) blank-user
+
+  pub at-start : (t : List ℕ) → length t ≤ textBytes → (u : Shape) → ((s : Side) → v .user ≡ sideValue s → Shaped u s)
+      → At t
+        (record { form = v .form; user = v .user; object = v .object; users = v .users; objects = v .objects; rules = v .rules; userShape = u; objectShape = u; last = Start })
+        0 0
+  unfolding valueOf blank readText
+  at-start t h u f =
+      record {
+        state = start;
+        reading = reading-start;
+        values = record {
+          form = ap (λ (x : PolicyValue). x .form) e;
+          user = blank-user;
+          object = ap (λ (x : PolicyValue). x .object) e;
+          users = ap (λ (x : PolicyValue). x .users) e;
+          objects = ap (λ (x : PolicyValue). x .objects) e;
+          rules = ap (λ (x : PolicyValue). x .rules) e;
+          userShape = f (blank .user) blank-user;
+          objectShape = f (blank .object) blank-user;
+        };
+        last = refl;
+        rising = rises-blank;
+        within = omega arith;
+        few = omega arith;
+        rest = rw (le-ltb textBytes (length t) h);
+      }
