@@ -6,3 +6,4 @@ pub mod Faults
 pub mod Places
 pub mod Rising
 pub mod States
+pub mod Turns

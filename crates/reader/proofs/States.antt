@@ -13,14 +13,17 @@ use Rattle.basis.specs.Lists.{last, sum}
 use Rattle.basis.proofs.Snoc.{length-snoc}
 use Rattle.seniority.specs.Seniority.{direct}
 use Rattle.text.specs.Kind.{isKind}
+use Rattle.text.specs.Number.{valueOf as numberOfField}
 use Rattle.text.specs.Parts.{Line as TextLine, lineFeed, fields, lines, Found}
 use Rattle.text.specs.declared.kind.Kind.{Kind}
 use Rattle.text.specs.declared.kind.Kind.the-variants.{Policy as PolicyKind, Uattr, Oattr, Usen, Osen, User, Object, Rule as RuleKind, End}
+use Rattle.text.specs.declared.kind.Named.{Named}
+use Rattle.text.specs.declared.kind.Named.the-variants.{Is as IsKind}
 use Rattle.text.proofs.RoundTrip.{endedLine}
 use Rattle.words.specs.declared.Word.{Word}
 use Rattle.policy.specs.Limits.{textBytes, values}
 use Rattle.policy.specs.Policy.{Side, Rule, Policy, blank, total}
-use Rattle.policy.specs.Line.{lineOf, plain}
+use Rattle.policy.specs.Line.{fieldAt, lineOf, plain}
 use Rattle.policy.specs.Checks.{rises, pairRises, entryRises, ruleRises, withWidth, withLine, withEntry, extended}
 use Rattle.policy.specs.Read.{Accepted, Refused, kindOf, State, start, after, lineRefusal, lineAfter, ending, readLines, readText}
 use Rattle.policy.specs.Value.{widthPlaces, linePlaces, entryPlaces, rulePlaces, sideValue, register, ruleValue, rulesValue, valueOf}
@@ -36,7 +39,7 @@ use Rattle.policy.proofs.Bounds.{total-most, attributes-few}
 use Rattle.policy.proofs.Reading.{Reading, reading-start, reading-next, reading-within}
 use Rattle.checks.specs.Sides.{Shaped}
 use Rattle.checks.specs.declared.side.Shape.{Shape}
-use Rattle.reader.specs.Line.{beforeOf, parsedAs}
+use Rattle.reader.specs.Line.{numberIn, beforeOf, parsedAs}
 use Rattle.reader.specs.Admit.{Sized, Sides, risesAfter, checkedAs, ruleOf, admittedRule}
 use Rattle.reader.specs.declared.fault.Fault.the-variants.{None, Is}
 use Rattle.reader.specs.declared.line.Before.{Before}
@@ -157,3 +160,85 @@ module _ (v : PolicyValue) (e : v ≡ valueOf blank) where
         few = omega arith;
         rest = rw (le-ltb textBytes (length t) h);
       }
+
+-- ---- an ended line, in which the code has found nothing broken so far
+
+pub record Step (t : List ℕ) (h : Held) (at n e : ℕ) (x : Line) : Type 0 where
+  pub here : At t h at n
+  pub found : Found t at lineFeed e
+  pub ended : e ≡ length t → ⊥
+  pub checked : x ≡ checkedAs (h .last) (here .state .policy) (parsedAs (beforeOf (h .last)) (kindOf (between t at e)) (fields (between t at e)))
+
+-- one line more: the state after it, and what is left to read
+pub record Next (t : List ℕ) (s : State) (n e : ℕ) (k : Kind) (a b : ℕ) (ws : List Word) : Type 0 where
+  pub reading : Reading (record { before = some k; policy = extended k a b ws (s .policy) })
+  pub rest : readText t ≡ readLines (record { before = some k; policy = extended k a b ws (s .policy) }) (n + 1) (lines (drop (e + 1) t))
+
+module _ (s : State) (m : Named) (fs : List (List ℕ)) (j k : Kind) (a b : ℕ) (e : m ≡ IsKind j) (q : j ≡ k) where
+  after-plain : lineOf j fs ≡ plain j a b → after m fs s ≡ record { before = some k; policy = extended k a b [] (s .policy) }
+  unfolding after
+  after-plain f = rw (e, f, q)
+
+  after-rule : k ≡ RuleKind → a ≡ numberOfField (fieldAt fs 1) → b ≡ 0
+      → after m fs s ≡ record { before = some k; policy = extended k a b (ruleOf a (drop 2 fs) .words) (s .policy) }
+  unfolding after lineOf
+  after-rule f g h = rw (e, q, f, g, h)
+
+module _ {t : List ℕ} {h : Held} {at n e : ℕ} {x : Line} (i : Step t h at n e x) where
+  abbrev state : State
+  state = i .here .state
+
+  abbrev line : TextLine
+  line = endedLine (between t at e)
+
+  abbrev parts-of : List (List ℕ)
+  parts-of = fields (between t at e)
+
+  refused-at : (q : ℕ) → lineRefusal state line ≡ some q → readText t ≡ Refused q n
+  refused-at q r =
+      i .here .rest ∙ ap (readLines state n) (next-line t at e (i .found) (i .ended)) ∙ reads-refused state n line (lines (drop (e + 1) t)) q r
+
+  -- what is broken is the line's refusal
+  pub step-refused : (r : Refusal) → x .fault ≡ Is r → readText t ≡ Refused (numberOf r) n
+  step-refused r z =
+      refused-at (numberOf r)
+      (rw (i .here .last) at (line-refused (h .last) (state .policy) parts-of (kindOf (between t at e)) x (i .checked) (i .here .rising) r z))
+
+  next-at : (k : Kind) (a b : ℕ) (ws : List Word) → lineRefusal state line ≡ none
+      → lineAfter state line ≡ record { before = some k; policy = extended k a b ws (state .policy) } → Next t state n e k a b ws
+  next-at k a b ws r f =
+      record {
+        reading = rw f at (reading-next state line (i .here .reading) r);
+        rest =
+            i .here .rest
+            ∙ ap (readLines state n) (next-line t at e (i .found) (i .ended))
+            ∙ reads-on state n line (lines (drop (e + 1) t)) r
+            ∙ (rw (f, add-one n));
+      }
+
+  module _ (z : x .fault ≡ None) where
+    pub known : Known (h .last) (kindOf (between t at e)) parts-of x
+    known = line-known (h .last) (state .policy) parts-of (kindOf (between t at e)) x (i .checked) z
+
+    -- a line without words
+    pub plain-next : (k : Kind) → x .kind ≡ k → (k ≡ RuleKind → ⊥) → Next t state n e k (x .first) (x .second) []
+    plain-next k q d =
+        let m = known in
+        next-at k (x .first) (x .second) []
+        (rw (i .here .last) at (line-taken (h .last) (state .policy) parts-of (kindOf (between t at e)) x (i .checked) (i .here .rising) z (λ r. d (sym q ∙ r))))
+        (after-plain state (kindOf (between t at e)) parts-of (x .kind) k (x .first) (x .second) (m .named) q (m .line (λ r. d (sym q ∙ r))))
+
+    -- a rule, whose words decide
+    module _ (q : x .kind ≡ RuleKind) (y : RuleLine) (f : y ≡ admittedRule (h .last) (state .policy) (x .first) (drop 2 parts-of)) where
+      rule-by : numberIn (y .fault) ≡ lineRefusal state line
+      rule-by = rw (i .here .last) at (rule-answer (h .last) (state .policy) parts-of (kindOf (between t at e)) x (i .checked) (i .here .rising) z q y f)
+
+      pub rule-refused : (r : Refusal) → y .fault ≡ Is r → readText t ≡ Refused (numberOf r) n
+      rule-refused r g = refused-at (numberOf r) (sym rule-by ∙ ap numberIn g)
+
+      pub rule-next : y .fault ≡ None → Next t state n e RuleKind (x .first) (x .second) (ruleOf (x .first) (drop 2 parts-of) .words)
+      rule-next g =
+          let m = known in
+          let a = m .action q in
+          next-at RuleKind (x .first) (x .second) (ruleOf (x .first) (drop 2 parts-of) .words) (sym rule-by ∙ ap numberIn g)
+          (after-rule state (kindOf (between t at e)) parts-of (x .kind) RuleKind (x .first) (x .second) (m .named) q refl (a .0) (a .1))
