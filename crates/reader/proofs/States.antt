@@ -23,7 +23,7 @@ use Rattle.text.proofs.RoundTrip.{endedLine}
 use Rattle.words.specs.declared.Word.{Word}
 use Rattle.policy.specs.Limits.{textBytes, values}
 use Rattle.policy.specs.Policy.{Side, Rule, Policy, blank, total}
-use Rattle.policy.specs.Line.{fieldAt, lineOf, plain}
+use Rattle.policy.specs.Line.{countFits, fieldAt, lineOf, plain}
 use Rattle.policy.specs.Checks.{rises, pairRises, entryRises, ruleRises, withWidth, withLine, withEntry, extended}
 use Rattle.policy.specs.Read.{Accepted, Refused, kindOf, State, start, after, lineRefusal, lineAfter, ending, readLines, readText}
 use Rattle.policy.specs.Value.{widthPlaces, linePlaces, entryPlaces, rulePlaces, sideValue, register, ruleValue, rulesValue, valueOf}
@@ -161,6 +161,35 @@ module _ (v : PolicyValue) (e : v ≡ valueOf blank) where
         rest = rw (le-ltb textBytes (length t) h);
       }
 
+-- ---- outside the lines
+
+pub too-long : (t : List ℕ) → textBytes < length t → readText t ≡ Refused 1 0
+unfolding readText
+too-long t h = rw (lt-ltb textBytes (length t) h)
+
+module _ {t : List ℕ} {h : Held} {at n : ℕ} (i : At t h at n) where
+  -- a line without its line feed
+  pub at-open : (e : ℕ) → Found t at lineFeed e → e ≡ length t → at < length t → readText t ≡ Refused 2 n
+  at-open e f q g = i .rest ∙ ap (readLines (i .state) n) (open-line t at e f q g) ∙ reads-open (i .state) n (drop at t) []
+
+  module _ (g : length t ≤ at) (r : Bool) (q : r ≡ given (beforeOf (h .last)) false (isKind End)) where
+    over : readText t ≡ ending (i .state) n
+    unfolding readLines
+    over = i .rest ∙ (rw (no-line t at g))
+
+    -- behind the end line, and without one
+    pub at-ended : r ≡ true → readText t ≡ Accepted (i .state .policy)
+    unfolding ending
+    at-ended e = over ∙ (rw (← i .last, sym q ∙ e))
+
+    pub at-unended : r ≡ false → readText t ≡ Refused 10 n
+    unfolding ending
+    at-unended e = over ∙ (rw (← i .last, sym q ∙ e))
+
+  pub at-value : record { form = h .form; user = h .user; object = h .object; users = h .users; objects = h .objects; rules = h .rules } ≡ valueOf (i .state .policy)
+  unfolding valueOf
+  at-value = let v = i .values in rw (v .form, v .user, v .object, v .users, v .objects, v .rules)
+
 -- ---- an ended line, in which the code has found nothing broken so far
 
 pub record Step (t : List ℕ) (h : Held) (at n e : ℕ) (x : Line) : Type 0 where
@@ -219,6 +248,10 @@ module _ {t : List ℕ} {h : Held} {at n e : ℕ} {x : Line} (i : Step t h at n 
   module _ (z : x .fault ≡ None) where
     pub known : Known (h .last) (kindOf (between t at e)) parts-of x
     known = line-known (h .last) (state .policy) parts-of (kindOf (between t at e)) x (i .checked) z
+
+    -- a rule has fields enough
+    pub rule-counted : x .kind ≡ RuleKind → countFits RuleKind (length parts-of) ≡ true
+    rule-counted q = ap (λ (k : Kind). countFits k (length parts-of)) (sym q) ∙ known .count
 
     -- a line without words
     pub plain-next : (k : Kind) → x .kind ≡ k → (k ≡ RuleKind → ⊥) → Next t state n e k (x .first) (x .second) []
