@@ -53,7 +53,7 @@ module _ (before : Before) (p : Policy) (l : TextLine) where
   -- of a rule
   tried-rule : (a c f w i r s e b : Bool) → (a ≡ true → r ≡ s) → admitted (l .kind) before p (l .first) (l .second) ≡ None → (x : Rule)
       → numberIn (orElse (tried a c f) (orElse (cond w (heldRule x) (faultyRule MalformedField) .fault)
-          (cond i (cond r (cond e (cond b None (Is UnbalancedFormula)) (Is UnequalWidths)) (Is NotRising)) (Is OutOfRange))))
+      (cond i (cond r (cond e (cond b None (Is UnbalancedFormula)) (Is UnequalWidths)) (Is NotRising)) (Is OutOfRange))))
       ≡ lowest (check 2 false ∷ check 3 (not a) ∷ check 4 (not c) ∷ check 5 (not (f && w)) ∷ check 6 (not i) ∷ check 7 (not s) ∷ check 8 (not e) ∷ check 9 (not b) ∷ [])
   unfolding lowest checkedAs
   tried-rule false c f w i r s e b h q x = refl
@@ -161,7 +161,7 @@ module _ (before : Before) (p : Policy) (fs : List (List ℕ)) where
   known-plain k d e =
       let q = plain-kind k fs d in
       let z : Formed (allowed (beforeOf before) k) (countFits k (length fs)) (formFits k fs) (lineOf k fs) (checkedLine before p fs (IsKind k)) =
-          rw (q .form) (formed-is before p (lineOf k fs) (allowed (beforeOf before) k) (countFits k (length fs)) (formFits k fs) (rw (q .form) at e)) in
+      rw (q .form) (formed-is before p (lineOf k fs) (allowed (beforeOf before) k) (countFits k (length fs)) (formFits k fs) (rw (q .form) at e)) in
       let i = z .kind ∙ ap (λ (l : TextLine). l .kind) (q .line) in
       record {
         named = ap IsKind (sym i);

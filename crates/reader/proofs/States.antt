@@ -109,9 +109,10 @@ module _ {t : List ℕ} {h : Held} {at n : ℕ} (i : At t h at n) where
   pub at-sized : Sized (h .userShape) × Sized (h .objectShape)
   at-sized =
       let p = i .state .policy in
-      let q = parts p (i .reading .lists) in
-      (shaped-sized (p .form) (p .user) (q .user) (h .userShape) (i .values .userShape),
-        shaped-sized (p .form) (p .object) (q .object) (h .objectShape) (i .values .objectShape))
+      let q = parts p (i .reading .lists) in (
+        shaped-sized (p .form) (p .user) (q .user) (h .userShape) (i .values .userShape),
+        shaped-sized (p .form) (p .object) (q .object) (h .objectShape) (i .values .objectShape),
+      )
 
 -- ---- the first line
 
@@ -137,8 +138,8 @@ module _ (v : PolicyValue) (e : v ≡ valueOf blank) where
 
   pub at-start : (t : List ℕ) → length t ≤ textBytes → (u : Shape) → ((s : Side) → v .user ≡ sideValue s → Shaped u s)
       → At t
-        (record { form = v .form; user = v .user; object = v .object; users = v .users; objects = v .objects; rules = v .rules; userShape = u; objectShape = u; last = Start })
-        0 0
+      (record { form = v .form; user = v .user; object = v .object; users = v .users; objects = v .objects; rules = v .rules; userShape = u; objectShape = u; last = Start })
+      0 0
   unfolding valueOf blank readText
   at-start t h u f =
       record {

@@ -42,45 +42,113 @@ use Rattle.reader.proofs.States.{Held, Values, At, Step, Next, value-si
 module _ (h : Held) (x : Line) where
   abbrev pub formHeld : ℕ → Held
   formHeld f =
-      record { form = f; user = h .user; object = h .object; users = h .users; objects = h .objects; rules = h .rules;
-        userShape = h .userShape; objectShape = h .objectShape; last = After (x .kind) (x .first) (x .second) }
+      record {
+        form = f;
+        user = h .user;
+        object = h .object;
+        users = h .users;
+        objects = h .objects;
+        rules = h .rules;
+        userShape = h .userShape;
+        objectShape = h .objectShape;
+        last = After (x .kind) (x .first) (x .second);
+      }
 
   abbrev pub userHeld : SideValue → Shape → Held
   userHeld s u =
-      record { form = h .form; user = s; object = h .object; users = h .users; objects = h .objects; rules = h .rules;
-        userShape = u; objectShape = h .objectShape; last = After (x .kind) (x .first) (x .second) }
+      record {
+        form = h .form;
+        user = s;
+        object = h .object;
+        users = h .users;
+        objects = h .objects;
+        rules = h .rules;
+        userShape = u;
+        objectShape = h .objectShape;
+        last = After (x .kind) (x .first) (x .second);
+      }
 
   abbrev pub objectHeld : SideValue → Shape → Held
   objectHeld s u =
-      record { form = h .form; user = h .user; object = s; users = h .users; objects = h .objects; rules = h .rules;
-        userShape = h .userShape; objectShape = u; last = After (x .kind) (x .first) (x .second) }
+      record {
+        form = h .form;
+        user = h .user;
+        object = s;
+        users = h .users;
+        objects = h .objects;
+        rules = h .rules;
+        userShape = h .userShape;
+        objectShape = u;
+        last = After (x .kind) (x .first) (x .second);
+      }
 
   abbrev pub listsHeld : Register → Register → Rules → Held
   listsHeld us os rs =
-      record { form = h .form; user = h .user; object = h .object; users = us; objects = os; rules = rs;
-        userShape = h .userShape; objectShape = h .objectShape; last = After (x .kind) (x .first) (x .second) }
+      record {
+        form = h .form;
+        user = h .user;
+        object = h .object;
+        users = us;
+        objects = os;
+        rules = rs;
+        userShape = h .userShape;
+        objectShape = h .objectShape;
+        last = After (x .kind) (x .first) (x .second);
+      }
 
 module _ {h : Held} {p : Policy} (v : Values h p) (x : Line) where
   form-values : (f : ℕ) → Values (formHeld h x f) (withForm f p)
   form-values f =
-      record { form = refl; user = v .user; object = v .object; users = v .users; objects = v .objects; rules = v .rules;
-        userShape = v .userShape; objectShape = v .objectShape }
+      record {
+        form = refl;
+        user = v .user;
+        object = v .object;
+        users = v .users;
+        objects = v .objects;
+        rules = v .rules;
+        userShape = v .userShape;
+        objectShape = v .objectShape;
+      }
 
   user-values : (y : SideValue) (u : Shape) (s : Side) → y ≡ sideValue s → Shaped u s → Values (userHeld h x y u) (withUser s p)
   user-values y u s e z =
-      record { form = v .form; user = e; object = v .object; users = v .users; objects = v .objects; rules = v .rules;
-        userShape = z; objectShape = v .objectShape }
+      record {
+        form = v .form;
+        user = e;
+        object = v .object;
+        users = v .users;
+        objects = v .objects;
+        rules = v .rules;
+        userShape = z;
+        objectShape = v .objectShape;
+      }
 
   object-values : (y : SideValue) (u : Shape) (s : Side) → y ≡ sideValue s → Shaped u s → Values (objectHeld h x y u) (withObject s p)
   object-values y u s e z =
-      record { form = v .form; user = v .user; object = e; users = v .users; objects = v .objects; rules = v .rules;
-        userShape = v .userShape; objectShape = z }
+      record {
+        form = v .form;
+        user = v .user;
+        object = e;
+        users = v .users;
+        objects = v .objects;
+        rules = v .rules;
+        userShape = v .userShape;
+        objectShape = z;
+      }
 
   list-values : (us os : Register) (rs : Rules) (q : Policy) → q .form ≡ p .form → q .user ≡ p .user → q .object ≡ p .object
       → us ≡ register (q .users) → os ≡ register (q .objects) → rs ≡ rulesValue (q .rules) → Values (listsHeld h x us os rs) q
   list-values us os rs q f a b c d e =
-      record { form = rw f (v .form); user = rw a (v .user); object = rw b (v .object); users = c; objects = d; rules = e;
-        userShape = rw a (v .userShape); objectShape = rw b (v .objectShape) }
+      record {
+        form = rw f (v .form);
+        user = rw a (v .user);
+        object = rw b (v .object);
+        users = c;
+        objects = d;
+        rules = e;
+        userShape = rw a (v .userShape);
+        objectShape = rw b (v .objectShape);
+      }
 
 -- seniorities leave the shape
 more-shaped : (x : Shape) (s : Side) (v j : ℕ) → Shaped x s → Shaped x (withLine v j s)

@@ -2,7 +2,6 @@
 ghost use mathlib.Core.Path.{_≡_};
 ghost use Rattle.policy.specs.Policy as policy;
 ghost use Rattle.reader.specs.Admit.{Sized, Sides, firstAfter, pairAfter, placed, admitted};
-
 use crate::fault::Fault;
 use crate::line::Before;
 use checks::side::Shape;
@@ -43,24 +42,57 @@ fn pair_rises(before: Before, k: Kind, v: u32, j: u32) -> bool
         return true;
     };
     if text::kind::same(i, k) {
-        return checks::side::pair_above(Direct { senior: a, junior: b }, v, j);
+        return checks::side::pair_above(
+            Direct {
+                senior: a,
+                junior: b,
+            },
+            v,
+            j,
+        );
     }
     true
 }
 
 // What a line of kind k with numbers m and n breaks.
-pub fn admit(k: Kind, m: u32, n: u32, before: Before, form: u32, user: Shape, object: Shape) -> Fault
+pub fn admit(
+    k: Kind,
+    m: u32,
+    n: u32,
+    before: Before,
+    form: u32,
+    user: Shape,
+    object: Shape,
+) -> Fault
     requires { ⌜ Sized user × Sized object ⌝ }
     ensures { λ r. ⌜ ((p : policy.Policy) → Sides form user object p → r ≡ admitted k before p m n) ⌝ }
 {
     match k {
         Kind::Policy => place(checks::limits::is_form(m), true),
-        Kind::Uattr => place(checks::side::width_fits(checks::limits::values(form), user.total, m), true),
-        Kind::Oattr => place(checks::side::width_fits(checks::limits::values(form), object.total, m), true),
-        Kind::Usen => place(checks::side::pair_fits(user, m, n), pair_rises(before, k, m, n)),
-        Kind::Osen => place(checks::side::pair_fits(object, m, n), pair_rises(before, k, m, n)),
-        Kind::User => place(checks::side::entry_fits(checks::limits::USER_NUMBERS, user.total, m, n), rises(before, k, m)),
-        Kind::Object => place(checks::side::entry_fits(checks::limits::OBJECT_NUMBERS, object.total, m, n), rises(before, k, m)),
+        Kind::Uattr => place(
+            checks::side::width_fits(checks::limits::values(form), user.total, m),
+            true,
+        ),
+        Kind::Oattr => place(
+            checks::side::width_fits(checks::limits::values(form), object.total, m),
+            true,
+        ),
+        Kind::Usen => place(
+            checks::side::pair_fits(user, m, n),
+            pair_rises(before, k, m, n),
+        ),
+        Kind::Osen => place(
+            checks::side::pair_fits(object, m, n),
+            pair_rises(before, k, m, n),
+        ),
+        Kind::User => place(
+            checks::side::entry_fits(checks::limits::USER_NUMBERS, user.total, m, n),
+            rises(before, k, m),
+        ),
+        Kind::Object => place(
+            checks::side::entry_fits(checks::limits::OBJECT_NUMBERS, object.total, m, n),
+            rises(before, k, m),
+        ),
         Kind::Rule => Fault::None,
         Kind::End => Fault::None,
     }

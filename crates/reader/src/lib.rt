@@ -31,7 +31,10 @@ fn refused(r: Refusal, line: usize) -> Reading
     ensures { λ x. ⌜ ReadAs (Refused (numberOf r) line) x ⌝ }
 {
     let policy = value::blank();
-    Reading { verdict: Verdict::Refused(r, line), policy }
+    Reading {
+        verdict: Verdict::Refused(r, line),
+        policy,
+    }
 }
 
 fn checked(before: Before, line: &[u8], form: u32, user: Shape, object: Shape) -> Line
@@ -45,7 +48,12 @@ fn checked(before: Before, line: &[u8], form: u32, user: Shape, object: Shape) -
     };
     let kind = x.kind;
     let fault = admit::admit(kind, x.first, x.second, before, form, user, object);
-    Line { fault, kind, first: x.first, second: x.second }
+    Line {
+        fault,
+        kind,
+        first: x.first,
+        second: x.second,
+    }
 }
 
 // Whether the line before is the end line.
@@ -123,8 +131,18 @@ pub fn read(text: &[u8]) -> Reading
         }
     }
     if ended(last) {
-        let policy = PolicyValue { form, user, object, users, objects, rules };
-        return Reading { verdict: Verdict::Accepted, policy };
+        let policy = PolicyValue {
+            form,
+            user,
+            object,
+            users,
+            objects,
+            rules,
+        };
+        return Reading {
+            verdict: Verdict::Accepted,
+            policy,
+        };
     }
     refused(Refusal::EndMissing, n)
 }

@@ -4,7 +4,6 @@ ghost use Rattle.text.specs.Parts.{fields, comma, Found};
 ghost use Rattle.policy.specs.Line.{allowed, plain};
 ghost use Rattle.policy.specs.Read.{kindOf};
 ghost use Rattle.reader.specs.Line.{beforeOf, held, faulty, noneIn, oneIn, bothIn, twoIn, actionIn, numbersIn, parsedAs};
-
 use crate::fault::Fault;
 use policy::refusal::Refusal;
 use text::kind::Kind;
@@ -28,13 +27,23 @@ pub struct Line {
 fn refused(r: Refusal) -> Line
     ensures { λ x. ⌜ x ≡ faulty r ⌝ }
 {
-    Line { fault: Fault::Is(r), kind: Kind::End, first: 0, second: 0 }
+    Line {
+        fault: Fault::Is(r),
+        kind: Kind::End,
+        first: 0,
+        second: 0,
+    }
 }
 
 fn taken(k: Kind, m: u32, n: u32) -> Line
     ensures { λ x. ⌜ x ≡ held (plain k m n) ⌝ }
 {
-    Line { fault: Fault::None, kind: k, first: m, second: n }
+    Line {
+        fault: Fault::None,
+        kind: k,
+        first: m,
+        second: n,
+    }
 }
 
 // A line with no number, whose first comma is at c.

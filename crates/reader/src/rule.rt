@@ -10,7 +10,6 @@ ghost use Rattle.policy.specs.Policy as policy;
 ghost use Rattle.policy.specs.Checks.{inRange};
 ghost use Rattle.policy.specs.Value.{wordPlaces, ruleValue};
 ghost use Rattle.reader.specs.Admit.{Sized, Sides, faultyRule, ruleIn, ruleOf, formulaFault, ruleFault, admittedRule};
-
 use crate::fault::Fault;
 use crate::line::Before;
 use checks::side::Shape;
@@ -31,7 +30,14 @@ fn refused(r: Refusal) -> RuleLine
     ensures { λ x. ⌜ x ≡ faultyRule r ⌝ }
 {
     let words = [Slot { word: Word::True }; 32];
-    RuleLine { fault: Fault::Is(r), rule: RuleValue { action: 0, count: 0, words } }
+    RuleLine {
+        fault: Fault::Is(r),
+        rule: RuleValue {
+            action: 0,
+            count: 0,
+            words,
+        },
+    }
 }
 
 // The words from `from` to the line's end.
@@ -51,7 +57,14 @@ fn words(action: u32, line: &[u8], from: usize) -> RuleLine
         words[n] = Slot { word: w };
         n += 1;
         if e == line.len() {
-            return RuleLine { fault: Fault::None, rule: RuleValue { action, count: n, words } };
+            return RuleLine {
+                fault: Fault::None,
+                rule: RuleValue {
+                    action,
+                    count: n,
+                    words,
+                },
+            };
         }
         at = e + 1;
     }
@@ -107,7 +120,14 @@ fn check(before: Before, form: u32, user: Shape, object: Shape, rule: RuleValue)
 }
 
 // The rule of a line, or what the line breaks.
-pub fn admit(action: u32, line: &[u8], before: Before, form: u32, user: Shape, object: Shape) -> RuleLine
+pub fn admit(
+    action: u32,
+    line: &[u8],
+    before: Before,
+    form: u32,
+    user: Shape,
+    object: Shape,
+) -> RuleLine
     requires { ⌜ (countFits kind.Rule (length (fields (now line))) ≡ true) × Sized user × Sized object ⌝ }
     ensures { λ r. ⌜ ((p : policy.Policy) → Sides form user object p → r ≡ admittedRule before p action (drop 2 (fields (now (line .entry))))) ⌝ }
 {

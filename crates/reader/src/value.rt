@@ -9,7 +9,6 @@ ghost use Rattle.policy.specs.Policy as policy;
 ghost use Rattle.policy.specs.Checks.{withWidth, withLine, withEntry};
 ghost use Rattle.policy.specs.declared.value.Entry.{Entry};
 ghost use Rattle.policy.specs.Value.{widthPlaces, linePlaces, entryPlaces, rulePlaces, sideValue, register, ruleValue, rulesValue, valueOf};
-
 use checks::side::Shape;
 use policy::value::Entry;
 use policy::value::PolicyValue;
@@ -25,9 +24,21 @@ pub fn blank() -> PolicyValue
     ensures { λ r. ⌜ r ≡ valueOf policy.blank ⌝ }
 {
     let words = [Slot { word: Word::True }; 32];
-    let rules = [RuleValue { action: 0, count: 0, words }; 8];
-    let seniority = [Direct { senior: 0, junior: 0 }; 21];
-    let side = SideValue { attributes: 0, widths: [0; 7], lines: 0, seniority };
+    let rules = [RuleValue {
+        action: 0,
+        count: 0,
+        words,
+    }; 8];
+    let seniority = [Direct {
+        senior: 0,
+        junior: 0,
+    }; 21];
+    let side = SideValue {
+        attributes: 0,
+        widths: [0; 7],
+        lines: 0,
+        seniority,
+    };
     let entries = [Entry { number: 0, set: 0 }; 64];
     let register = Register { count: 0, entries };
     PolicyValue {
@@ -36,7 +47,10 @@ pub fn blank() -> PolicyValue
         object: side,
         users: register,
         objects: register,
-        rules: Rules { count: 0, entries: rules },
+        rules: Rules {
+            count: 0,
+            entries: rules,
+        },
     }
 }
 
@@ -57,7 +71,10 @@ pub fn with_line(side: SideValue, v: u32, j: u32) -> SideValue
 {
     let mut more = side;
     let i = side.lines;
-    more.seniority[i] = Direct { senior: v, junior: j };
+    more.seniority[i] = Direct {
+        senior: v,
+        junior: j,
+    };
     more.lines = i + 1;
     more
 }

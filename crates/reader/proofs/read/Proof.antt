@@ -12,10 +12,18 @@ use Rattle.reader.proofs.read.Statement.{statement}
 use Rattle.reader.proofs.read.Tie as tie
 
 abbrev Inv-loop : tie.InvT-loop
-Inv-loop text form₀ user₀ object₀ users₀ objects₀ rules₀ u₀ o₀ last₀ at₀ n₀ form user object users objects rules u o last at n = 
+Inv-loop text form₀ user₀ object₀ users₀ objects₀ rules₀ u₀ o₀ last₀ at₀ n₀ form user object users objects rules u o last at n =
     At text
     (record {
-      form = form; user = user; object = object; users = users; objects = objects; rules = rules; userShape = u; objectShape = o; last = last;
+      form = form;
+      user = user;
+      object = object;
+      users = users;
+      objects = objects;
+      rules = rules;
+      userShape = u;
+      objectShape = o;
+      last = last;
     })
     at n
 
@@ -35,7 +43,7 @@ shape-requires : tie.Need-shape-requires Inv-loop μ-loop
 shape-requires c κs = blank-sized (c .before .before .before .before .before .blank .result) (c .before .before .before .before .before .blank .ensures)
 
 loop-holds : tie.Need-loop-holds Inv-loop μ-loop
-loop-holds c = 
+loop-holds c =
     let v = c .before .before .before .before .before .before .blank in
     at-start (v .result) (v .ensures) (now (c .before .before .before .before .before .before .before .before .before .args .text)) (c .before .before .before .before .before .before .before .if1 .left) (c .shape .result) (c .shape .ensures)
 
@@ -65,7 +73,15 @@ abbrev held : tie.After-checked Inv-loop μ-loop → Held
 held c =
     let l = c .before .before .before .before .before .loop in
     record {
-      form = l .form; user = l .user; object = l .object; users = l .users; objects = l .objects; rules = l .rules; userShape = l .u; objectShape = l .o; last = l .last;
+      form = l .form;
+      user = l .user;
+      object = l .object;
+      users = l .users;
+      objects = l .objects;
+      rules = l .rules;
+      userShape = l .u;
+      objectShape = l .o;
+      last = l .last;
     }
 
 step : (c : tie.After-checked Inv-loop μ-loop)
@@ -188,7 +204,7 @@ enum-told-9 : tie.Need-enum-told-9 Inv-loop μ-loop
 enum-told-9 c = search needs
 
 admit-requires : tie.Need-admit-requires Inv-loop μ-loop
-admit-requires c κs = 
+admit-requires c κs =
     let i = step (c .before .before .before .before) in
     let s = at-sized (i .here) in
     (rule-counted i (c .before .before .enum-told .given .1) (c .enum-told9 .given .1), s .0, s .1)
@@ -200,7 +216,7 @@ refused-requires-4 : tie.Need-refused-requires-4 Inv-loop μ-loop
 refused-requires-4 c κs = search needs
 
 returns-4 : tie.Need-returns-4 Inv-loop μ-loop
-returns-4 c = 
+returns-4 c =
     let i = step (c .before .before .before .before .before .before .before .before .before) in
     rw (rule-refused i (c .before .before .before .before .before .before .before .enum-told .given .1) (c .before .before .before .before .before .enum-told9 .given .1) _ (c .before .before .before .before .admit .ensures (i .here .state .policy) (at-sides (i .here))) _ (c .before .before .g .given .1)) (c .refused4 .ensures)
 
@@ -208,7 +224,7 @@ enum-told-10 : tie.Need-enum-told-10 Inv-loop μ-loop
 enum-told-10 c = search needs
 
 with-rule-requires : tie.Need-with-rule-requires Inv-loop μ-loop
-with-rule-requires c κs = 
+with-rule-requires c κs =
     let i = step (c .before .before .before .before .before .before .before .before) in
     rule-room i (c .before .before .before .before .before .before .enum-told .given .1) (c .before .before .before .before .enum-told9 .given .1) _ (c .before .before .before .admit .ensures (i .here .state .policy) (at-sides (i .here))) (c .before .enum-told10 .given .1)
 
@@ -216,7 +232,7 @@ loop-less-8 : tie.Need-loop-less-8 Inv-loop μ-loop
 loop-less-8 c = search needs
 
 loop-again-8 : tie.Need-loop-again-8 Inv-loop μ-loop
-loop-again-8 c = 
+loop-again-8 c =
     let i = step (c .before .before .before .before .before .before .before .before .before) in
     at-rule i (c .before .before .before .before .before .before .before .enum-told .given .1) (c .before .before .before .before .before .enum-told9 .given .1) _ (c .before .before .before .before .admit .ensures (i .here .state .policy) (at-sides (i .here))) (c .before .before .enum-told10 .given .1) (c .with-rule .result) (c .with-rule .ensures)
 

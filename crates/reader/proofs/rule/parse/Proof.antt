@@ -24,7 +24,7 @@ add-words : tie.Need-add-words
 add-words c = search needs
 
 words-requires : tie.Need-words-requires
-words-requires c κs = 
+words-requires c κs =
     let l = now (c .before .before .before .args .line) in
     let p = c .before .before .before .pre in
     let f = c .before .find .ensures in
@@ -32,7 +32,7 @@ words-requires c κs =
     (words-there l _ _ f (c .find2 .ensures) h, rw (words-are l _ _ f (c .find2 .ensures) h) (words-few l p))
 
 returns : tie.Need-returns
-returns c = 
+returns c =
     let l = now (c .before .before .before .before .args .line) in
     let h = rule-count (length (fields l)) (c .before .before .before .before .pre) .0 in
     c .words .ensures ∙ ap (ruleIn (c .before .before .before .before .args .action)) (words-are l _ _ (c .before .before .find .ensures) (c .before .find2 .ensures) h)
