@@ -5,3 +5,6 @@ pub mod Numbers
 pub mod Over
 pub mod Same
 pub mod Table
+pub mod Padded
+pub mod Walk
+pub mod Places

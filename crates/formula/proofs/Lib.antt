@@ -1,1 +1,5 @@
 pub mod Examples
+pub mod Attributes
+pub mod Vectors
+pub mod Stack
+pub mod Rows
