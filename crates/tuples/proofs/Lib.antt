@@ -1,2 +1,3 @@
 pub mod Tuples
+pub mod Marked
 pub mod Examples

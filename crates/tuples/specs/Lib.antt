@@ -1,1 +1,2 @@
 pub mod Tuples
+pub mod Marks
