@@ -1,7 +1,7 @@
--- Places of a list: what is stored place by place holds of each place passed, and what stands at one of the first n places is one of them.
+-- Places of a list: what is stored place by place holds of each place passed, and what stands at one of the first n places is one of them; elements of a mapped list.
 use Prim.Native.Nat.{ℕ, _+_, _≤_, _<_}
-use mathlib.Core.Path.{sym, subst}
-use mathlib.Core.List.{List, List·Memᴰ}
+use mathlib.Core.Path.{refl, sym, subst}
+use mathlib.Core.List.{List, [], _∷_, map, List·Memᴰ, List·Memᴰ·head, List·Memᴰ·tail, List·Memᴰ·not-nil}
 use native.Mathlib.Decide.{ℕ-discrete}
 use native.Mathlib.Omega.{arith}
 use lib.ListN.{length, getD, set, take}
@@ -20,3 +20,10 @@ pub taken-in : {A : Type 0} (d : A) (xs : List A) (n i : ℕ) → i < n → n �
 taken-in d xs n i h l =
     let k : i < length (take n xs) = rw (length-take-le n xs l) h in
     rw (getD-take n xs i d h) at (getD-in (take n xs) i d k)
+
+-- what holds of f at each element holds of each element of the mapped list
+pub mapped-each : {A B : Type 0} (f : A → B) (P : B → Type 0) (xs : List A) → ((x : A) → List·Memᴰ x xs → P (f x))
+    → (y : B) → List·Memᴰ y (map f xs) → P y
+mapped-each f P [] h y m = absurd (List·Memᴰ·not-nil m)
+mapped-each f P (x ∷ xs) h y (List·Memᴰ·head e) = subst P (sym e) (h x (List·Memᴰ·head refl))
+mapped-each f P (x ∷ xs) h y (List·Memᴰ·tail m) = mapped-each f P xs (λ z n. h z (List·Memᴰ·tail n)) y m

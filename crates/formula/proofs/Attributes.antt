@@ -1,6 +1,6 @@
 -- The first values of attributes are sums of widths: each lies a width above the one before, and none above the number of values.
 use Prim.Native.Nat.{ℕ, zero, suc, _+_, _≤_, _<_}
-use mathlib.Core.Path.{_≡_, refl, sym, ap, _∙_}
+use mathlib.Core.Path.{_≡_, sym, ap, _∙_}
 use mathlib.Core.List.{List, [], _∷_}
 use native.Mathlib.Omega.{arith}
 use lib.ListN.{length, getD, take, length-take, List·getD-eq-default}
@@ -49,3 +49,7 @@ pub start-past : (s : Side) (xs : List ℕ) → Starts s xs → (i : ℕ) → mo
 unfolding start
 start-past s xs x i h =
     x .at mostValues (omega arith) ∙ ap sum (take-all mostValues (s .widths) (x .few) ∙ sym (take-all i (s .widths) (omega (arith, x .few))))
+
+pub values-at : (s : Side) (xs : List ℕ) → Starts s xs → getD xs mostValues 0 ≡ total s
+unfolding start total
+values-at s xs x = x .at mostValues (omega arith) ∙ ap sum (take-all mostValues (s .widths) (x .few))

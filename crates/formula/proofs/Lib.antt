@@ -3,3 +3,4 @@ pub mod Attributes
 pub mod Vectors
 pub mod Stack
 pub mod Rows
+pub mod Checked

@@ -9,20 +9,22 @@ use native.Mathlib.Nat.{one-mul, pow-suc}
 use native.Mathlib.Numerals.{add-one}
 use native.Mathlib.Omega.{arith}
 use lib.Dec.{eqb, lit<}
-use lib.ListN.{length, getD, take, set, replicate, getD-replicate}
+use lib.ListN.{length, getD, take, drop, set, replicate, getD-replicate}
 use lib.Pow.{pow-mono, shl-exact}
 use lib.Seq.{getD-set-same, getD-set-other}
 use borrow.Author.Tests.{eq-eqb, ne-eqb}
 use Rattle.basis.specs.Choice.{given}
 use Rattle.basis.proofs.Places.{taken-in}
+use Rattle.basis.proofs.Walk.{part-next}
 use Rattle.sets.specs.Set.{has, setOf}
 use Rattle.sets.proofs.Laws.{setOf-lt, has-zero}
 use Rattle.words.specs.declared.Word.{Word}
+use Rattle.words.specs.declared.Word.the-variants.{False}
 use Rattle.policy.specs.Policy.{Rule, Policy, formulaIn}
 use Rattle.policy.specs.Value.{ruleOf, rulesOf}
 use Rattle.policy.specs.declared.value.RuleValue.{RuleValue}
 use Rattle.policy.specs.declared.value.Rules.{Rules}
-use Rattle.formula.specs.Truth.{truth, grants}
+use Rattle.formula.specs.Truth.{step, run, truth, grants}
 use Rattle.formula.specs.Lane.{mostActions, wordsOf, RuleFits, RulesFit}
 
 -- ---- rules
@@ -54,6 +56,22 @@ module _ (p : Policy) (u o : ℕ) where
   pub outcome-none : (k a : ℕ) → a < mostActions → has (getD (replicate mostActions 0) a 0) k ≡ outcome p u o [] a
   unfolding outcome formulaIn
   outcome-none k a h = rw (getD-replicate {A = ℕ} mostActions a 0 0 h) (has-zero k)
+
+  -- the rule at place i is the action's, or is not
+  module _ (rs : List RuleValue) (n i a : ℕ) (h : i < n) (l : n ≤ length rs) where
+    pub outcome-found : getD rs i noWords .action ≡ a
+        → truth p u o (wordsOf (getD rs i noWords .count) (getD rs i noWords .words)) ≡ outcome p u o (drop i (take n rs)) a
+    outcome-found e =
+        rw (part-next noWords rs i n h l, outcome-first (getD rs i noWords) (drop (i + 1) (take n rs)) a, eq-eqb (getD rs i noWords .action) a e)
+
+    pub outcome-passed : (getD rs i noWords .action ≡ a → ⊥) → outcome p u o (drop (i + 1) (take n rs)) a ≡ outcome p u o (drop i (take n rs)) a
+    outcome-passed e =
+        rw (part-next noWords rs i n h l, outcome-first (getD rs i noWords) (drop (i + 1) (take n rs)) a, ne-eqb (getD rs i noWords .action) a e)
+
+  -- the formula `f`
+  pub outcome-false : (a : ℕ) → truth p u o (False ∷ []) ≡ outcome p u o [] a
+  unfolding outcome formulaIn truth run step
+  outcome-false a = refl
 
   -- one rule more, stored at its action
   pub outcome-stored : (xs : List ℕ) (r : RuleValue) (rs : List RuleValue) (x k a : ℕ) → r .action < length xs

@@ -1,5 +1,5 @@
 -- Vectors of 64 lanes: what each operation on them does in a lane, which of 64 consecutive sets hold a value, and a line of seniority in every lane at once.
-use Prim.Native.Nat.{ℕ, zero, suc, _+_, _-_, _*_, _^_, _≤_, _<_}
+use Prim.Native.Nat.{ℕ, _+_, _-_, _*_, _^_, _≤_, _<_}
 use mathlib.Core.Path.{_≡_, refl, sym, ap, ap₂, _∙_}
 use mathlib.Core.Bool.{Bool, true, false, not, _&&_, _||_, and-true, and-false, or-false}
 use mathlib.Core.List.{List, [], _∷_}
@@ -7,16 +7,15 @@ use native.Mathlib.Decide.{ℕ-discrete}
 use native.Mathlib.Numerals.{add-one}
 use native.Mathlib.Omega.{arith}
 use lib.Bits.{bitOr, bitAnd, bitXor}
-use lib.Dec.{eqb, lit<}
 use lib.ListN.{length, getD, set, length-set}
 use lib.Seq.{getD-set-same, getD-set-other}
 use borrow.Author.Tests.{eq-eqb, ne-eqb}
 use Rattle.basis.specs.Numbers.{every, agree, implies}
 use Rattle.basis.proofs.Numbers.{every-at}
 use Rattle.basis.proofs.Same.{agree-eq}
-use Rattle.basis.proofs.Table.{everyEntry, at}
+use Rattle.basis.proofs.Table.{at}
 use Rattle.sets.specs.Set.{has}
-use Rattle.sets.proofs.Laws.{differs, has-xor, has-meet, has-union, has-zero, has-low, has-high}
+use Rattle.sets.proofs.Laws.{differs, has-xor, has-meet, has-union, has-low, has-high}
 use Rattle.seniority.specs.Seniority.{extended}
 use Rattle.seniority.proofs.Laws.{has-extended}
 use Rattle.formula.specs.Lane.{lanes, mostValues, Plain, Stands, extendedLanes}

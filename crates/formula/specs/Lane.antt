@@ -7,13 +7,15 @@ use lib.Bits.{bitOr}
 use lib.ListN.{length, getD, take, set}
 use Rattle.basis.specs.Numbers.{agree, implies}
 use Rattle.sets.specs.Set.{has}
-use Rattle.seniority.specs.Seniority.{heldOrSenior, heldOrJunior}
+use Rattle.seniority.specs.Seniority.{heldOrSenior, heldOrJunior, Ordered}
 use Rattle.words.specs.declared.Word.{Word}
 use Rattle.policy.specs.Policy.{Side, Policy, total, start}
-use Rattle.policy.specs.Value.{wordPlaces, rulePlaces}
+use Rattle.policy.specs.Value.{linePlaces, wordPlaces, rulePlaces, sideOf}
 use Rattle.policy.specs.declared.value.Slot.{Slot}
 use Rattle.policy.specs.declared.value.RuleValue.{RuleValue}
 use Rattle.policy.specs.declared.value.Rules.{Rules}
+use Rattle.policy.specs.declared.value.SideValue.{SideValue}
+use Rattle.policy.specs.declared.value.PolicyValue.{PolicyValue}
 use Rattle.formula.specs.declared.shape.Shape.{Shape}
 
 -- how many pairs there are
@@ -81,7 +83,12 @@ unfoldable pub column : List ℕ → ℕ → ℕ → List Bool
 column stack zero k = []
 column stack (suc d) k = has (getD stack d 0) k ∷ column stack d k
 
--- ---- rules
+-- ---- what the evaluator asks of a policy value, and check 11 gives
+
+pub record SideFits (s : SideValue) : Type 0 where
+  pub most : total (sideOf s) ≤ mostValues
+  pub lines : s .lines ≤ linePlaces
+  pub ordered : Ordered mostValues (take (s .lines) (s .seniority))
 
 pub record RuleFits (r : RuleValue) : Type 0 where
   pub action : r .action < mostActions
@@ -91,3 +98,8 @@ pub record RuleFits (r : RuleValue) : Type 0 where
 pub record RulesFit (rs : Rules) : Type 0 where
   pub count : rs .count ≤ rulePlaces
   pub each : (r : RuleValue) → List·Memᴰ r (take (rs .count) (rs .entries)) → RuleFits r
+
+pub record ValueFits (v : PolicyValue) : Type 0 where
+  pub user : SideFits (v .user)
+  pub object : SideFits (v .object)
+  pub rules : RulesFit (v .rules)

@@ -3,7 +3,6 @@
 use crate::shape::VALUES;
 use seniority::Direct;
 ghost use mathlib.Core.Path.{_≡_};
-ghost use mathlib.Core.Bool.{Bool};
 ghost use Prim.Native.Nat.{ℕ, _+_, _*_, _^_, _≤_, _<_};
 ghost use lib.ListN.{take};
 ghost use Rattle.sets.specs.Set.{has};

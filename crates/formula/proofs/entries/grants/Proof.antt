@@ -1,16 +1,12 @@
 -- `formula::entries::grants` meets its contract: r has in every lane what the rules from i on grant.
 use Prim.Native.Nat.{ℕ, _+_, _-_, _≤_, _<_}
-use mathlib.Core.Path.{_≡_, refl, sym, _∙_}
+use mathlib.Core.Path.{_≡_, refl, _∙_}
 use native.Mathlib.Omega.{arith}
 use lib.ListN.{length, getD, take, drop, length-set}
 use Rattle.basis.proofs.Lists.{long}
-use Rattle.basis.proofs.Places.{taken-in}
 use Rattle.basis.proofs.Walk.{part-next, part-end}
 use Rattle.sets.specs.Set.{has}
-use Rattle.sets.proofs.Laws.{has-zero}
-use Rattle.policy.specs.Policy.{Policy, formulaIn}
-use Rattle.policy.specs.Value.{rulesOf}
-use Rattle.formula.specs.Truth.{grants}
+use Rattle.policy.specs.Policy.{Policy}
 use Rattle.formula.specs.Lane.{ShapeOf, Pair}
 use Rattle.formula.proofs.Rows.{outcome, outcome-none, outcome-stored, outcome-all, noWords, rule-at}
 use borrow.Author.Needs.{needs}

@@ -1,6 +1,6 @@
 -- `formula::shape::starts` meets its contract: after i turns the first i + 1 entries are sums of widths, and `next` is the last of them.
 use Prim.Native.Nat.{ℕ, _+_, _-_, _≤_, _<_}
-use mathlib.Core.Path.{_≡_, refl, sym, ap, _∙_}
+use mathlib.Core.Path.{_≡_, refl}
 use mathlib.Core.Logic.{⊎-elim}
 use native.Mathlib.Omega.{arith}
 use lib.ListN.{length, getD, take, length-set, length-take}
