@@ -1,3 +1,5 @@
 pub mod Tuples
 pub mod Marked
+pub mod Numbering
+pub mod Pairs
 pub mod Examples

@@ -1,2 +1,3 @@
 pub mod Tuples
 pub mod Marks
+pub mod Grid
