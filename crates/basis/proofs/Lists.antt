@@ -3,9 +3,10 @@ use mathlib.Core.Path.{_≡_, refl, sym, _∙_}
 use mathlib.Core.Bool.{Bool, true, false≢true}
 use mathlib.Core.Logic.{⊎-elim}
 use mathlib.Core.List.{List, [], _∷_, map, List·Memᴰ, List·Memᴰ·head, List·Memᴰ·tail, List·Memᴰ·not-nil}
-use Prim.Native.Nat.{ℕ, zero, suc, _<_}
+use Prim.Native.Nat.{ℕ, zero, suc, _≤_, _<_}
 use native.Mathlib.Nat.{le-of-suc-le-suc, not-suc-le-zero}
-use lib.ListN.{length, getD, set, replicate, length-map}
+use lib.ListN.{length, getD, take, set, replicate, length-map}
+use lib.Seq.{length-take-le, getD-take}
 use Rattle.basis.specs.Lists.{all, any}
 use Rattle.basis.proofs.Bools.{and-left, and-right, and-both, or-cases, or-left, or-right}
 
@@ -67,3 +68,15 @@ getD-blank (suc n) (suc k) d = getD-blank n k d
 -- the length of an array of structs, from what the check knows of it: `search (needs, long)`
 pub long : {A B : Type 0} (f : A → B) (xs : List A) (n : ℕ) → length (map f xs) ≡ n → length xs ≡ n
 long f xs n e = sym (length-map xs f) ∙ e
+
+-- a test of a list's images
+pub all-map : {A B : Type 0} (f : B → Bool) (g : A → B) (xs : List A) → all f (map g xs) ≡ all (λ x. f (g x)) xs
+unfolding all
+all-map f g [] = refl
+all-map f g (x ∷ xs) = rw (all-map f g xs)
+
+-- what passes at each of the first n places passes at place i
+pub all-taken : {A : Type 0} (f : A → Bool) (d : A) (xs : List A) (n i : ℕ) → i < n → n ≤ length xs → all f (take n xs) ≡ true → f (getD xs i d) ≡ true
+all-taken f d xs n i h l e =
+    let k : i < length (take n xs) = rw (length-take-le n xs l) h in
+    rw (getD-take n xs i d h) at (all-at f (take n xs) e (getD (take n xs) i d) (getD-in (take n xs) i d k))

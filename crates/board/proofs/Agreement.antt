@@ -1,35 +1,34 @@
 -- Demand 3's list of calls: where the labels decide as the formulas do, the board answers as the plain machine and holds its sessions.
 -- The two share each call's checks and what becomes of its session's entry, so one law of a call and one induction serve all five.
-use Prim.Native.Nat.{ℕ, _<_, _^_}
-use mathlib.Core.Path.{_≡_, refl, sym, ap, subst, _∙_}
-use mathlib.Core.Bool.{Bool, true, false, cond, not, _&&_}
-use mathlib.Core.List.{List, [], _∷_, _++_}
+use Prim.Native.Nat.{ℕ, _<_}
+use mathlib.Core.Path.{_≡_, refl, ap, _∙_}
+use mathlib.Core.Bool.{Bool, true, false, cond}
+use mathlib.Core.List.{List}
 use mathlib.Core.Option.{Option, none, some}
 use native.Mathlib.Nat.{lt-of-le-of-lt}
 use native.Mathlib.Omega.{arith}
-use lib.Dec.{eqb, leb}
-use lib.ListN.{length, getD, set, replicate, length-set, length-replicate}
+use lib.Dec.{eqb}
+use lib.ListN.{length, getD, set, length-set, length-replicate}
 use lib.Pow.{pow-pos}
 use lib.Seq.{getD-set-same, getD-set-other}
 use borrow.Author.Tests.{eqb-true, eqb-false, leb-false, not-false}
-use Rattle.basis.specs.Choice.{given, there, Check, check, lowest}
+use Rattle.basis.specs.Choice.{given, there, lowest}
 use Rattle.basis.proofs.Bools.{and-left, and-right, and-both}
-use Rattle.basis.proofs.Choice.{lowest-append, unbroken}
+use Rattle.basis.proofs.Choice.{unbroken}
 use Rattle.basis.proofs.Lists.{all-getD, all-set, all-replicate, getD-blank}
-use Rattle.sets.specs.Set.{within, union, minus}
+use Rattle.sets.specs.Set.{within}
 use Rattle.sets.proofs.Laws.{setOf-lt, within-union, within-minus, within-le}
 use Rattle.seniority.specs.Seniority.{reach, heldOrSenior}
 use Rattle.policy.specs.Limits.{actions}
 use Rattle.policy.specs.Policy.{Policy, total, sets, setOfNumber}
 use Rattle.policy.specs.Value.{policyOf}
 use Rattle.policy.specs.Valid.{valid}
-use Rattle.policy.specs.Answers.{Reply, refused, decided}
+use Rattle.policy.specs.Answers.{refused, decided}
 use Rattle.policy.specs.declared.value.PolicyValue.{PolicyValue}
 use Rattle.formula.specs.Truth.{grants}
-use Rattle.board.specs.declared.Session.{Session}
 use Rattle.board.specs.declared.Board.{Board}
-use Rattle.board.specs.Machine.{Entry, Map, empty, put, Call, opens, adds, drops, closes, requests, sessionNumbers, sessionOf, reachOf, objectSet, noSession, checks, entryAfter, heldIn, reply, Out, step, run}
-use Rattle.board.specs.Board.{closed, entryOf, sessionFor, entryAt, store, fresh, entryFits, boardFits, fits, Labels, pastEnd, grantsByLabels, lookUp, boardReply, boardChecks, boardAfter, boardStep}
+use Rattle.board.specs.Machine.{Entry, Map, empty, put, Call, opens, adds, drops, closes, requests, sessionNumbers, sessionOf, reachOf, objectSet, checks, entryAfter, heldIn, reply, step, run}
+use Rattle.board.specs.Board.{closed, entryOf, sessionFor, entryAt, store, fresh, entryFits, boardFits, fits, Labels, pastEnd, grantsByLabels, lookUp, boardReply, boardAfter, boardStep}
 use Rattle.board.proofs.Refusals.{allowed, step-is, lower-good}
 use Rattle.board.proofs.Run.{Alike, RanAlike, run-alike}
 

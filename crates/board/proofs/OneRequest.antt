@@ -2,23 +2,22 @@
 -- bit at the labels is set, and a place past its buffer's end gets 20. By cases on the lower refusals and on the places.
 use Prim.Native.Nat.{ℕ, _≤_}
 use mathlib.Core.Path.{_≡_, refl, sym, ap, _∙_}
-use mathlib.Core.Bool.{Bool, true, false, cond, not, _||_}
-use mathlib.Core.List.{List, [], _∷_, _++_}
+use mathlib.Core.Bool.{Bool, true, false, cond, _||_}
 use mathlib.Core.Logic.{_⊎_, inl, inr, ⊎-elim, _↔_}
 use mathlib.Core.Option.{Option, none, some}
-use native.Mathlib.Omega.{arith}
 use lib.Dec.{leb}
 use lib.ListN.{length}
 use borrow.Author.Tests.{le-leb, leb-true}
-use Rattle.basis.specs.Choice.{given, Check, check, lowest}
+use Rattle.basis.specs.Choice.{given, lowest}
 use Rattle.basis.proofs.Bools.{or-cases, or-left, or-right}
 use Rattle.policy.specs.Value.{policyOf}
-use Rattle.policy.specs.Answers.{Reply, granted, denied, refused, decided}
+use Rattle.policy.specs.Answers.{Reply, granted, refused, decided}
 use Rattle.policy.specs.declared.value.PolicyValue.{PolicyValue}
 use Rattle.board.specs.declared.Board.{Board}
-use Rattle.board.proofs.Refusals.{lower, allowed, step-is}
-use Rattle.board.specs.Machine.{Entry, Call, requests, objectSet, heldIn, checks, Out}
-use Rattle.board.specs.Board.{entryAt, fits, Labels, placeAt, pastEnd, grantsByLabels, lookUp, boardReply, boardChecks, boardAfter, boardStep}
+use Rattle.board.proofs.Refusals.{allowed, step-is}
+use Rattle.board.specs.Inner.{lower, lookedUp}
+use Rattle.board.specs.Machine.{requests, objectSet, heldIn, Out}
+use Rattle.board.specs.Board.{entryAt, Labels, placeAt, pastEnd, grantsByLabels, lookUp, boardReply, boardStep}
 
 -- the answer to a request, the sets that it is about
 abbrev pub answer : PolicyValue → Labels → Board → ℕ → ℕ → ℕ → Reply
@@ -76,19 +75,19 @@ module _ (v : PolicyValue) (l : Labels) (b : Board) (s a n : ℕ) where
   looked-up false e = rw e
 
   -- the whole answer
-  pub answer-is : answer v l b s a n
-      ≡ given (lower v (requests s a n) b)
-      (cond (pastEnd l (held b s) (object v n)) (refused 20) (decided (grantsByLabels l a (held b s) (object v n)))) refused
+  pub answer-is : answer v l b s a n ≡ given (lower v (requests s a n) b) (lookedUp l a (held b s) (object v n)) refused
+  unfolding lookedUp
   answer-is = ap (λ (o : Out Board). o .reply) (step-is v l (requests s a n) b) ∙ go (lower v (requests s a n) b)
     where
       go : (r : Option ℕ)
           → given {B = Out Board} r (allowed v l (requests s a n) b) (λ k. record { reply = refused k; state = b }) .reply
-          ≡ given r (cond (pastEnd l (held b s) (object v n)) (refused 20) (decided (grantsByLabels l a (held b s) (object v n)))) refused
+          ≡ given r (lookedUp l a (held b s) (object v n)) refused
       go none = looked-up (pastEnd l (held b s) (object v n)) refl
       go (some k) = refl
 
   -- where no lower refusal applies, 20 is the answer exactly where some place lies past its buffer's end
   pub refused-iff : lower v (requests s a n) b ≡ none → (answer v l b s a n ≡ refused 20) ↔ Past l (held b s) (object v n)
+  unfolding lookedUp
   refused-iff e =
       let t = pastEnd l (held b s) (object v n) in
       let g = grantsByLabels l a (held b s) (object v n) in
@@ -98,6 +97,7 @@ module _ (v : PolicyValue) (l : Labels) (b : Board) (s a n : ℕ) where
   -- "It grants action a exactly when bit a there is set."
   pub granted-iff : ((k : ℕ) → answer v l b s a n ≡ refused k → ⊥)
       → (answer v l b s a n ≡ granted) ↔ (grantsByLabels l a (held b s) (object v n) ≡ true)
+  unfolding lookedUp
   granted-iff h =
       let t = pastEnd l (held b s) (object v n) in
       let g = grantsByLabels l a (held b s) (object v n) in

@@ -1,21 +1,18 @@
 -- One call on a board: its refusals are 11, the machine's and 20, in this order.
-use mathlib.Core.Path.{_≡_, refl, sym, ap, _∙_}
-use mathlib.Core.Bool.{Bool, true, false, not}
-use mathlib.Core.List.{List, [], _∷_, _++_}
+use mathlib.Core.Path.{_≡_, refl, ap, _∙_}
+use mathlib.Core.Bool.{true, false, not}
+use mathlib.Core.List.{_∷_}
 use mathlib.Core.Option.{Option, none, some}
 use Prim.Native.Nat.{ℕ}
-use Rattle.basis.specs.Choice.{given, Check, check, lowest}
+use Rattle.basis.specs.Choice.{given, check, lowest}
 use Rattle.basis.proofs.Choice.{lowest-append}
 use Rattle.policy.specs.Value.{policyOf}
 use Rattle.policy.specs.Answers.{refused}
 use Rattle.policy.specs.declared.value.PolicyValue.{PolicyValue}
 use Rattle.board.specs.declared.Board.{Board}
-use Rattle.board.specs.Machine.{Entry, Call, sessionOf, checks, Out}
+use Rattle.board.specs.Machine.{Call, sessionOf, checks, Out}
+use Rattle.board.specs.Inner.{lower}
 use Rattle.board.specs.Board.{entryAt, fits, Labels, lookUp, boardReply, boardChecks, boardAfter, boardStep}
-
--- the lowest refusal below 20
-unfoldable pub lower : PolicyValue → Call → Board → Option ℕ
-lower v c b = lowest (check 11 (not (fits v b)) ∷ checks (policyOf v) c (entryAt b (sessionOf c)))
 
 module _ (v : PolicyValue) (c : Call) (b : Board) where
   pub lower-bad : fits v b ≡ false → lower v c b ≡ some 11

@@ -9,7 +9,7 @@ use Rattle.policy.specs.declared.value.PolicyValue.{PolicyValue}
 use Rattle.board.specs.Machine.{requests, Out}
 use Rattle.board.specs.Board.{Labels, boardStep, boardChecks, boardAfter, pastEnd}
 use Rattle.board.specs.declared.Board.{Board}
-use Rattle.board.proofs.Refusals.{lower}
+use Rattle.board.specs.Inner.{lower}
 use Rattle.board.proofs.OneRequest.{past-iff, refused-iff, granted-iff}
 use Rattle.claims.specs.Demand3.{heldAt, objectAt, answered, OneRequest, RequestClaim}
 

@@ -1,0 +1,67 @@
+-- A value that passes check 11 can be written: its counts are within their arrays, its words can be spelt and its text is not too long.
+use Prim.Native.Nat.{_≤_}
+use mathlib.Core.Path.{_≡_}
+use mathlib.Core.Bool.{true}
+use mathlib.Core.List.{List}
+use borrow.Author.Tests.{le-leb}
+use lib.ListN.{length, take}
+use Rattle.basis.specs.Lists.{all}
+use Rattle.basis.proofs.Lists.{all-of, all-map}
+use Rattle.basis.proofs.Padded.{take-padded-map}
+use Rattle.words.specs.declared.Word.the-variants.{True}
+use Rattle.words.proofs.RoundTrip.{inDigits}
+use Rattle.policy.specs.Limits.{textBytes}
+use Rattle.policy.specs.Policy.{Side, Rule, Policy}
+use Rattle.policy.specs.Text.{textOf}
+use Rattle.policy.specs.Valid.{valid}
+use Rattle.policy.specs.Value.{wordPlaces, rulePlaces, slot, noRule, sideValue, register, ruleValue, rulesValue, valueOf, policyOf}
+use Rattle.policy.specs.declared.value.PolicyValue.{PolicyValue}
+use Rattle.policy.proofs.Sound.{WithinSide, Within}
+use Rattle.policy.proofs.Parts.{RuleParts, Parts, parts, whole}
+use Rattle.policy.proofs.Bounds.{rule-bounds, rule-digits, parts-within}
+use Rattle.policy.proofs.RoundTrip.{text-short}
+use Rattle.policy.proofs.Valid.{valid-stored}
+use Rattle.writer.specs.Put.{ruleWritable}
+use Rattle.writer.specs.Whole.{SideWithin, RulesWithin, Writable}
+
+side-within : (s : Side) → WithinSide s → SideWithin (sideValue s)
+unfolding sideValue
+side-within s h = record { widths = h .widths; lines = h .lines }
+
+module _ (p : Policy) (t : Parts p) where
+  rule-writable : (r : Rule) → RuleParts p r → ruleWritable (ruleValue r) ≡ true
+  unfolding ruleWritable ruleValue
+  rule-writable r q =
+      rw (le-leb (length (r .words)) wordPlaces (q .few), take-padded-map slot wordPlaces (slot True) (r .words), all-map (λ s. inDigits (s .word)) slot (r .words))
+      (rule-digits p t r q)
+
+  rules-within : length (p .rules) ≤ rulePlaces → RulesWithin (rulesValue (p .rules))
+  unfolding rulesValue
+  rules-within h =
+      record {
+        entries = h;
+        words =
+            rw (take-padded-map ruleValue rulePlaces noRule (p .rules), all-map ruleWritable ruleValue (p .rules))
+            (all-of (λ r. ruleWritable (ruleValue r)) (p .rules) (λ r m. rule-writable r (rule-bounds p (p .rules) (t .rules) r m)));
+      }
+
+  value-writable : Writable (valueOf p)
+  unfolding valueOf register
+  value-writable =
+      let w = parts-within p t in
+      record {
+        user = side-within (p .user) (w .user);
+        object = side-within (p .object) (w .object);
+        users = record { entries = w .users };
+        objects = record { entries = w .objects };
+        rules = rules-within (w .rules);
+      }
+
+module _ (v : PolicyValue) (e : valid v ≡ true) where
+  pub valid-writable : Writable v
+  valid-writable =
+      let s = valid-stored v e in
+      rw (s .0) at (value-writable (policyOf v) (parts (policyOf v) (whole (policyOf v) (s .1) .lists)))
+
+  pub valid-short : length (textOf (policyOf v)) ≤ textBytes
+  valid-short = text-short (policyOf v) (valid-stored v e .1)
