@@ -1,3 +1,3 @@
 pub mod Tuples
 pub mod Marks
-pub mod Grid
+pub mod Blocks
