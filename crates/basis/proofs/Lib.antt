@@ -1,5 +1,6 @@
 pub mod Bools
 pub mod Counting
+pub mod Filled
 pub mod Lists
 pub mod Numbers
 pub mod Same

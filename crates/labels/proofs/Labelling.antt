@@ -27,7 +27,7 @@ eq-agree a b q = rw q (self b)
     self false = refl
 
 -- what is granted, with the two sides changed over
-abbrev turned : (ℕ → ℕ → ℕ → Bool) → ℕ → ℕ → ℕ → Bool
+abbrev pub turned : (ℕ → ℕ → ℕ → Bool) → ℕ → ℕ → ℕ → Bool
 turned g a o u = g a u o
 
 -- ---- user sets
@@ -64,7 +64,7 @@ module _ (g : ℕ → ℕ → ℕ → Bool) (k n : ℕ) where
 -- ---- object sets
 
 module _ (g : ℕ → ℕ → ℕ → Bool) (k m : ℕ) where
-  objectsAlike-turned : objectsAlike g k m ≡ usersAlike (turned g) k m
+  pub objectsAlike-turned : objectsAlike g k m ≡ usersAlike (turned g) k m
   unfolding objectsAlike usersAlike
   objectsAlike-turned = refl
 

@@ -1,5 +1,7 @@
 pub mod Labels
 pub mod Labelling
+pub mod Alike
+pub mod Turn
 pub mod Compile
 pub mod Apart
 pub mod Examples

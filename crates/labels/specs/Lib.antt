@@ -1,4 +1,5 @@
 pub mod Labels
 pub mod Labelling
+pub mod Rows
 pub mod Compile
 pub mod Apart

@@ -162,6 +162,10 @@ has-setOf-none f n v h = has-none n (setOf f n) v (setOf-lt f n) h
 pub setOf-is : (f : ℕ → Bool) (n s : ℕ) → s < 2 ^ n → ((v : ℕ) → v < n → has s v ≡ f v) → setOf f n ≡ s
 setOf-is f n s h e = same-below n (setOf f n) s (setOf-lt f n) h (λ v l. has-setOf f n v l ∙ sym (e v l))
 
+-- two tests that agree below n have the same set
+pub setOf-same : (f g : ℕ → Bool) (n : ℕ) → ((v : ℕ) → v < n → f v ≡ g v) → setOf f n ≡ setOf g n
+setOf-same f g n h = setOf-is f n (setOf g n) (setOf-lt g n) (λ v l. has-setOf g n v l ∙ sym (h v l))
+
 pub setOf-has : (n s : ℕ) → s < 2 ^ n → setOf (has s) n ≡ s
 setOf-has n s h = setOf-is (has s) n s h (λ v l. refl)
 
