@@ -1,9 +1,10 @@
 -- A buffer that is filled from its start, one place a turn, with f 0, f 1, ..: after k turns it has the first k of these at its start, and
 -- what lies past them stays.
-use Prim.Native.Nat.{ℕ, _+_, _-_, _≤_, _<_}
+use Prim.Native.Nat.{ℕ, zero, suc, _+_, _-_, _*_, _/_, _%_, _≤_, _<_}
 use mathlib.Core.Path.{_≡_, refl, sym, ap, _∙_}
 use mathlib.Core.List.{List}
 use native.Mathlib.Decide.{decLt}
+use native.Mathlib.Nat.{mul-zero, mod-lt, div-lt-iff-lt-mul}
 use native.Mathlib.Omega.{arith}
 use lib.ListN.{length, getD, drop, set, length-set, length-append, length-drop, List·getD-append}
 use lib.Seq.{getD-set-same, getD-set-other, getD-append-add, getD-drop, ext-getD}
@@ -57,3 +58,28 @@ filled-over {f} {k} {old} {xs} F h =
           ∙ sym (ap (λ (j : ℕ). getD (over (upTo f k) old) j 0) e
           ∙ getD-append-add (upTo f k) _ (i - k) 0 ∙ getD-drop _ old (i - k) 0 ∙ ap (λ (j : ℕ). getD old j 0) t)
     ])
+
+-- ---- rows of n
+
+-- a place of m rows is in one of them
+pub in-row : (m n i : ℕ) → i < m * n → (i / n < m) × (i % n < n)
+in-row m zero i h = let z = mul-zero m in absurd (omega arith)
+in-row m (suc n) i h = let p : 0 < suc n = omega arith in (div-lt-iff-lt-mul p .1 h, mod-lt i p)
+
+-- ---- from one place to another: what was filled up to a before is filled up to b now
+
+pub record Further (f : ℕ → ℕ) (a b : ℕ) (before xs : List ℕ) : Type 0 where
+  pub size : length xs ≡ length before
+  pub filled : (old : List ℕ) → Filled f a old before → Filled f b old xs
+
+pub further-none : (f : ℕ → ℕ) (a : ℕ) (xs : List ℕ) → Further f a a xs xs
+further-none f a xs = record { size = refl; filled = λ old F. F }
+
+pub further-more : {f : ℕ → ℕ} {a b k x : ℕ} {before xs : List ℕ} → Further f a b before xs → k ≡ b → b < length xs → x ≡ f b
+    → Further f a (b + 1) before (set xs k x)
+further-more {xs = xs} R q h e =
+    let s = R .size in
+    rw q (record { size = simp length-set s; filled = λ old F. let G = R .filled old F in let t = G .size in filled-more G (omega arith) e })
+
+pub further-count : {f : ℕ → ℕ} {a b n : ℕ} {before xs : List ℕ} → Further f a b before xs → b ≡ n → Further f a n before xs
+further-count R q = rw (← q) R

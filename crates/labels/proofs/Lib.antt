@@ -3,5 +3,6 @@ pub mod Labelling
 pub mod Alike
 pub mod Turn
 pub mod Compile
-pub mod Apart
+pub mod Storing
+pub mod Separation
 pub mod Examples

@@ -3,6 +3,7 @@ use policy::refusal::Refusal;
 
 pub mod rows;
 pub mod classify;
+pub mod compiler;
 
 // The label of a user set, and that of an object set: two sorts, so that neither stands where the other is due.
 pub struct UserLabel(pub u8);
