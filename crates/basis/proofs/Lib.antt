@@ -3,5 +3,8 @@ pub mod Counting
 pub mod Filled
 pub mod Lists
 pub mod Numbers
+pub mod Over
+pub mod Padded
 pub mod Same
+pub mod Snoc
 pub mod Table

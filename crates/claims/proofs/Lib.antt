@@ -1,1 +1,3 @@
+pub mod Demand1
+pub mod Serving
 pub mod Examples

@@ -6,7 +6,7 @@ use mathlib.Core.Bool.{Bool, true, false, not}
 use mathlib.Core.List.{List, [], _∷_}
 use mathlib.Core.Logic.{_↔_}
 use mathlib.Core.Option.{Option, none}
-use lib.ListN.{length}
+use lib.ListN.{length, getD}
 use Rattle.basis.specs.Choice.{gives, Check, check, lowest}
 use Rattle.basis.specs.Lists.{any, over}
 use Rattle.policy.specs.Limits.{actions}
@@ -23,11 +23,9 @@ use Rattle.board.specs.Machine.{Call, requests, run, machine, checks, heldIn, o
 use Rattle.board.specs.Board.{Labels, boardStep, fresh, entryAt, fits, pastEnd, grantsByLabels}
 use Rattle.board.specs.declared.Board.{Board}
 
--- "rising, each once": each number is above the one before it
+-- "rising, each once": each number is above those before it
 abbrev pub Rising : List ℕ → Type 0
-Rising [] = Unit {0}
-Rising (n ∷ []) = Unit {0}
-Rising (n ∷ m ∷ ms) = (n < m) × Rising (m ∷ ms)
+Rising ns = (i j : ℕ) → i < j → j < length ns → getD ns i 0 < getD ns j 0
 
 -- ---- tuples: "for every action the tuples listed are document 01's, rising, each once, with their count, and grant exactly when the formula
 -- is true", in a buffer long enough and not written to since

@@ -1,10 +1,10 @@
 -- Policies whose lines pass checks 6 to 9 one after the other, by a test for each list. Reading yields exactly these, and check 11 tests for
 -- them; nothing here is needed to say what reading or check 11 means.
 use Prim.Native.Nat.{ℕ, _+_, _≤_}
-use mathlib.Core.Bool.{Bool, true, false, _&&_}
+use mathlib.Core.Bool.{Bool, true, _&&_}
 use mathlib.Core.List.{List, [], _∷_}
 use mathlib.Core.Option.{Option, none, some}
-use lib.Dec.{eqb, leb, ltb}
+use lib.Dec.{leb, ltb}
 use lib.ListN.{length}
 use Rattle.basis.specs.Choice.{given}
 use Rattle.basis.specs.Lists.{all}
@@ -12,7 +12,7 @@ use Rattle.seniority.specs.declared.Direct.{Direct}
 use Rattle.policy.specs.Limits.{isForm, values, actions, userNumbers, objectNumbers, mostWords}
 use Rattle.policy.specs.Policy.{Side, Rule, Policy}
 use Rattle.policy.specs.Checks.{pairFits, pairAbove, entryFits, wordFits, widthsEqual, balanced}
-use Rattle.policy.specs.Value.{widthPlaces, linePlaces, entryPlaces, wordPlaces, rulePlaces}
+use Rattle.policy.specs.Value.{widthPlaces, linePlaces, entryPlaces, rulePlaces}
 use Rattle.policy.specs.declared.value.Entry.{Entry}
 
 -- widths after others that sum to n

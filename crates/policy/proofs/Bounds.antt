@@ -1,0 +1,262 @@
+-- What the tests of a sound policy bound: widths and their sum, seniorities, numbers and sets, words; and so that its lists fit their arrays.
+use Prim.Native.Nat.{ℕ, zero, suc, _+_, _≤_, _<_}
+use mathlib.Core.Path.{_≡_, refl, ap}
+use mathlib.Core.Bool.{true, _&&_}
+use mathlib.Core.List.{List, [], _∷_, _++_, List·Memᴰ, List·Memᴰ·head, List·Memᴰ·tail, List·Memᴰ·not-nil}
+use mathlib.Core.Logic.{⊎-elim}
+use mathlib.Core.Option.{Option, none, some}
+use native.Mathlib.Nat.{add-assoc, add-zero, zero-add, le-trans}
+use native.Mathlib.Omega.{arith}
+use native.Mathlib.Decide.{decLt}
+use lib.Dec.{eqb, leb, ltb, lit≤}
+use lib.ListN.{length}
+use borrow.Author.Tests.{leb-true, ltb-true, eqb-true, lt-ltb}
+use Rattle.basis.specs.Lists.{all, sum}
+use Rattle.basis.proofs.Bools.{and-left, and-right, or-cases}
+use Rattle.basis.proofs.Lists.{all-at, all-of}
+use Rattle.seniority.specs.Seniority.{From, Ordered}
+use Rattle.seniority.specs.declared.Direct.{Direct}
+use Rattle.words.specs.declared.Word.{Word}
+use Rattle.words.specs.declared.Word.the-variants.{True, False, Holds, Compares, Not, And, Or}
+use Rattle.words.specs.declared.Holding.the-variants.{User as UserValue, Object as ObjectValue}
+use Rattle.words.specs.declared.Comparison.the-variants.{Dominates, Equals}
+use Rattle.words.proofs.RoundTrip.{inDigits}
+use Rattle.policy.specs.Limits.{values, actions, userNumbers, objectNumbers}
+use Rattle.policy.specs.Policy.{Side, Rule, Policy, total, sets, attributeOf}
+use Rattle.policy.specs.Checks.{widthFits, pairFits, entryFits, bothThere, wordFits}
+use Rattle.policy.specs.Value.{widthPlaces}
+use Rattle.policy.specs.declared.value.Entry.{Entry}
+use Rattle.policy.proofs.Sound.{widthsSound, ruleSound, listsSound, WithinSide, Within}
+use Rattle.policy.proofs.Rising.{rising, head, rising-at, rising-few}
+use Rattle.policy.proofs.Parts.{lineFits, lineAbove, numberFits, numberAbove, actionAbove, SideParts, RuleParts, rule-parts, Parts, parts}
+
+-- ---- widths
+
+-- a width after others that sum to n
+pub record Width (most n w : ℕ) : Type 0 where
+  pub some : 1 ≤ w
+  pub small : w ≤ most
+  pub fits : n + w ≤ most
+
+width-test : (most n w : ℕ) → (leb 1 w && (leb w most && leb (n + w) most)) ≡ true → Width most n w
+width-test most n w e =
+    let e₁ = and-right (leb 1 w) _ e in
+    record { some = leb-true 1 w (and-left _ _ e); small = leb-true w most (and-left _ _ e₁); fits = leb-true (n + w) most (and-right (leb w most) _ e₁) }
+
+pub width-fits : (most : ℕ) (s : Side) (w : ℕ) → widthFits most s w ≡ true → Width most (total s) w
+unfolding widthFits
+width-fits most s w e = width-test most (total s) w e
+
+module _ (most : ℕ) where
+  pub width-head : (n w : ℕ) (ws : List ℕ) → widthsSound most n (w ∷ ws) ≡ true → Width most n w
+  unfolding widthsSound
+  width-head n w ws e = width-test most n w (and-left _ _ e)
+
+  pub width-tail : (n w : ℕ) (ws : List ℕ) → widthsSound most n (w ∷ ws) ≡ true → widthsSound most (n + w) ws ≡ true
+  unfolding widthsSound
+  width-tail n w ws e = and-right (leb 1 w && (leb w most && leb (n + w) most)) _ e
+
+  -- one width more
+  widths-after : (n : ℕ) (ws : List ℕ) (w : ℕ) → widthsSound most n ws ≡ true → (leb 1 w && (leb w most && leb (n + sum ws + w) most)) ≡ true
+      → widthsSound most n (ws ++ (w ∷ [])) ≡ true
+  unfolding widthsSound sum
+  widths-after n [] w e f = rw (rw add-zero at f)
+  widths-after n (v ∷ ws) w e f =
+      rw (and-left (leb 1 v && (leb v most && leb (n + v) most)) _ e)
+      (widths-after (n + v) ws w (width-tail n v ws e) (rw (← add-assoc n v (sum ws)) at f))
+
+  pub widths-more : (s : Side) (w : ℕ) → widthsSound most 0 (s .widths) ≡ true → widthFits most s w ≡ true → widthsSound most 0 (s .widths ++ (w ∷ [])) ≡ true
+  unfolding widthFits total
+  widths-more s w e f = widths-after 0 (s .widths) w e (rw (zero-add (sum (s .widths))) f)
+
+  widths-total : (n : ℕ) (ws : List ℕ) → n ≤ most → widthsSound most n ws ≡ true → n + sum ws ≤ most
+  unfolding sum
+  widths-total n [] h e = omega arith
+  widths-total n (w ∷ ws) h e = omega (arith, widths-total (n + w) ws (width-head n w ws e .fits) (width-tail n w ws e))
+
+  widths-few : (n : ℕ) (ws : List ℕ) → widthsSound most n ws ≡ true → length ws ≤ sum ws
+  unfolding sum
+  widths-few n [] e = omega arith
+  widths-few n (w ∷ ws) e = omega (arith, width-head n w ws e .some, widths-few (n + w) ws (width-tail n w ws e))
+
+  widths-at : (n : ℕ) (ws : List ℕ) → widthsSound most n ws ≡ true → (w : ℕ) → List·Memᴰ w ws → (1 ≤ w) × (w ≤ most)
+  widths-at n [] e w m = absurd (List·Memᴰ·not-nil m)
+  widths-at n (v ∷ ws) e w (List·Memᴰ·head p) = let h = width-head n v ws e in rw p (h .some, h .small)
+  widths-at n (v ∷ ws) e w (List·Memᴰ·tail m) = widths-at (n + v) ws (width-tail n v ws e) w m
+
+-- ---- seniorities
+
+-- V and J of a line that passes check 6
+pub record Pair (s : Side) (v j : ℕ) : Type 0 where
+  pub value : v < total s
+  pub same : attributeOf (s .widths) v ≡ attributeOf (s .widths) j
+  pub above : j < v
+
+pub pair-fits : (s : Side) (v j : ℕ) → pairFits s v j ≡ true → Pair s v j
+unfolding pairFits
+pair-fits s v j e =
+    let e₁ = and-right (ltb v (total s)) _ e in
+    let e₂ = and-right (ltb j (total s)) _ e₁ in
+    record {
+      value = ltb-true v (total s) (and-left _ _ e);
+      same = eqb-true _ _ (and-left (eqb (attributeOf (s .widths) v) (attributeOf (s .widths) j)) _ e₂);
+      above = ltb-true j v (and-right (eqb (attributeOf (s .widths) v) (attributeOf (s .widths) j)) _ e₂);
+    }
+
+-- the pairs below V: 0 + 1 + .. + (V - 1)
+triangle : ℕ → ℕ
+triangle zero = 0
+triangle (suc n) = triangle n + n
+
+triangle-up : (m n : ℕ) → m ≤ n → triangle m ≤ triangle n
+unfolding triangle
+triangle-up m zero h = let e : m ≡ 0 = omega arith in rw e (omega arith)
+triangle-up m (suc n) h = elim (decLt m (suc n)) [ yes l ↦ omega (arith, triangle-up m n (omega arith)) | no l ↦ let e : m ≡ suc n = omega arith in rw e (omega arith) ]
+
+-- a pair's place among all pairs that go down
+rank : Direct → ℕ
+rank l = triangle (l .senior) + l .junior
+
+rank-low : (s : Side) (l : Direct) → lineFits s l ≡ true → rank l < triangle (total s)
+unfolding rank triangle
+rank-low s l e = let f = pair-fits s (l .senior) (l .junior) e in omega (arith, triangle-up (suc (l .senior)) (total s) (f .value), f .above)
+
+rank-up : (s : Side) (m l : Direct) → lineFits s m ≡ true → lineAbove m l ≡ true → rank m < rank l
+unfolding rank triangle
+rank-up s m l e a =
+    let f = pair-fits s (m .senior) (m .junior) e in
+    ⊎-elim
+    (λ h. omega (arith, triangle-up (suc (m .senior)) (l .senior) (ltb-true (m .senior) (l .senior) h), f .above))
+    (λ h. let q = eqb-true (m .senior) (l .senior) (and-left _ _ h) in
+    omega (arith, ap triangle q, ltb-true (m .junior) (l .junior) (and-right (eqb (m .senior) (l .senior)) _ h)))
+    (or-cases (ltb (m .senior) (l .senior)) _ a)
+
+-- no upper value falls
+from-lower : (v w : ℕ) (ls : List Direct) → v ≤ w → From w ls → From v ls
+from-lower v w [] h f = f
+from-lower v w (l ∷ ls) h f = (omega (arith, f .0), from-lower v w ls h (f .1))
+
+above-from : (m l : Direct) → lineAbove m l ≡ true → m .senior ≤ l .senior
+above-from m l a =
+    ⊎-elim
+    (λ h. omega (arith, ltb-true (m .senior) (l .senior) h))
+    (λ h. omega (arith, eqb-true (m .senior) (l .senior) (and-left _ _ h)))
+    (or-cases (ltb (m .senior) (l .senior)) _ a)
+
+module _ (s : Side) where
+  lines-from : (m : Direct) (ls : List Direct) → rising (lineFits s) lineAbove (some m) ls ≡ true → From (m .senior) ls
+  lines-from m [] e = tt
+  lines-from m (l ∷ ls) e =
+      let h = head (lineFits s) lineAbove (some m) l ls e in
+      let a = above-from m l (h .above-it) in
+      (a, from-lower (m .senior) (l .senior) ls a (lines-from l ls (h .rest)))
+
+  ordered : (b : Option Direct) (ls : List Direct) → rising (lineFits s) lineAbove b ls ≡ true → Ordered (total s) ls
+  ordered b [] e = tt
+  ordered b (l ∷ ls) e =
+      let h = head (lineFits s) lineAbove b l ls e in
+      let f = pair-fits s (l .senior) (l .junior) (h .fits-it) in
+      (f .above, f .value, lines-from l ls (h .rest), ordered (some l) ls (h .rest))
+
+-- ---- a side
+
+module _ (most : ℕ) (s : Side) (h : SideParts most s) where
+  pub total-most : total s ≤ most
+  unfolding total
+  total-most = omega (arith, widths-total most 0 (s .widths) (omega arith) (h .widths))
+
+  pub attributes-few : length (s .widths) ≤ total s
+  unfolding total
+  attributes-few = widths-few most 0 (s .widths) (h .widths)
+
+  pub width-bounds : (w : ℕ) → List·Memᴰ w (s .widths) → (1 ≤ w) × (w ≤ most)
+  width-bounds = widths-at most 0 (s .widths) (h .widths)
+
+  pub line-bounds : (l : Direct) → List·Memᴰ l (s .lines) → Pair s (l .senior) (l .junior)
+  line-bounds l m = pair-fits s (l .senior) (l .junior) (rising-at (lineFits s) lineAbove none (s .lines) (h .lines) l m)
+
+  pub lines-ordered : Ordered (total s) (s .lines)
+  lines-ordered = ordered s none (s .lines) (h .lines)
+
+  -- a pair for each two values at most
+  lines-few : length (s .lines) ≤ triangle most
+  lines-few =
+      le-trans (rising-few (lineFits s) lineAbove rank (triangle (total s)) (rank-low s) (rank-up s) (s .lines) (h .lines))
+      (triangle-up (total s) most total-most)
+
+-- ---- users and objects
+
+module _ (most : ℕ) (s : Side) where
+  pub entry-fits : (e : Entry) → numberFits most s e ≡ true → (e .number < most) × (e .set < sets s)
+  unfolding entryFits
+  entry-fits e h = (ltb-true (e .number) most (and-left _ _ h), ltb-true (e .set) (sets s) (and-right (ltb (e .number) most) _ h))
+
+  module _ (es : List Entry) (h : rising (numberFits most s) numberAbove none es ≡ true) where
+    pub entry-bounds : (e : Entry) → List·Memᴰ e es → (e .number < most) × (e .set < sets s)
+    entry-bounds e m = entry-fits e (rising-at (numberFits most s) numberAbove none es h e m)
+
+    pub entries-few : length es ≤ most
+    entries-few =
+        rising-few (numberFits most s) numberAbove (λ e. e .number) most (λ e f. entry-fits e f .0) (λ b e f a. ltb-true (b .number) (e .number) a) es h
+
+-- ---- rules
+
+module _ (p : Policy) (rs : List Rule) (h : rising (ruleSound p) actionAbove none rs ≡ true) where
+  pub rule-bounds : (r : Rule) → List·Memᴰ r rs → RuleParts p r
+  rule-bounds r m = rule-parts p r (rising-at (ruleSound p) actionAbove none rs h r m)
+
+  pub rules-few : length rs ≤ actions (p .form)
+  rules-few =
+      rising-few (ruleSound p) actionAbove (λ r. r .action) (actions (p .form)) (λ r f. rule-parts p r f .action)
+      (λ b r f a. ltb-true (b .action) (r .action) a) rs h
+
+-- the numbers of a word of a rule are digits
+module _ (p : Policy) (t : Parts p) where
+  digit-user : (v : ℕ) → ltb v (total (p .user)) ≡ true → ltb v 10 ≡ true
+  digit-user v e = lt-ltb v 10 (omega (arith, total-most (values (p .form)) (p .user) (t .user), ltb-true v (total (p .user)) e))
+
+  digit-object : (v : ℕ) → ltb v (total (p .object)) ≡ true → ltb v 10 ≡ true
+  digit-object v e = lt-ltb v 10 (omega (arith, total-most (values (p .form)) (p .object) (t .object), ltb-true v (total (p .object)) e))
+
+  digits-both : (i j : ℕ) → bothThere p i j ≡ true → (ltb i 10 && ltb j 10) ≡ true
+  digits-both i j e =
+      let u = attributes-few (values (p .form)) (p .user) (t .user) in
+      let o = attributes-few (values (p .form)) (p .object) (t .object) in
+      let a = ltb-true i (length (p .user .widths)) (and-left _ _ e) in
+      let b = ltb-true j (length (p .object .widths)) (and-right (ltb i (length (p .user .widths))) _ e) in
+      rw (digit-user i (lt-ltb i (total (p .user)) (omega arith)), digit-object j (lt-ltb j (total (p .object)) (omega arith)))
+
+  pub word-digits : (w : Word) → wordFits p w ≡ true → inDigits w ≡ true
+  unfolding inDigits
+  word-digits True e = refl
+  word-digits False e = refl
+  word-digits (Holds (UserValue v)) e = digit-user v e
+  word-digits (Holds (ObjectValue v)) e = digit-object v e
+  word-digits (Compares (Dominates i j)) e = digits-both i j e
+  word-digits (Compares (Equals i j)) e = digits-both i j e
+  word-digits Not e = refl
+  word-digits And e = refl
+  word-digits Or e = refl
+
+  pub rule-digits : (r : Rule) → RuleParts p r → all inDigits (r .words) ≡ true
+  rule-digits r q = all-of inDigits (r .words) (λ w m. word-digits w (all-at (wordFits p) (r .words) (q .fit) w m))
+
+-- ---- the lists fit their arrays
+
+pub side-within : (s : Side) → SideParts widthPlaces s → WithinSide s
+unfolding triangle
+side-within s h =
+    record { widths = le-trans (attributes-few widthPlaces s h) (total-most widthPlaces s h); lines = lines-few widthPlaces s h }
+
+pub parts-within : (p : Policy) → Parts p → Within p
+parts-within p t =
+    record {
+      user = side-within (p .user) (t .user);
+      object = side-within (p .object) (t .object);
+      users = le-trans (entries-few userNumbers (p .user) (p .users) (t .users)) (lit≤ tt);
+      objects = entries-few objectNumbers (p .object) (p .objects) (t .objects);
+      rules = rules-few p (p .rules) (t .rules);
+    }
+
+pub sound-within : (p : Policy) → listsSound p ≡ true → Within p
+sound-within p e = parts-within p (parts p e)

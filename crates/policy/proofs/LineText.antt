@@ -1,0 +1,86 @@
+-- The text of a line: it is parted into the line's fields, holds no line feed and is short.
+use Prim.Native.Nat.{ℕ, _*_, _≤_}
+use mathlib.Core.Path.{_≡_, refl}
+use mathlib.Core.Bool.{Bool, true, false, not}
+use mathlib.Core.List.{List, [], _∷_, _++_, map}
+use native.Mathlib.Omega.{arith}
+use lib.Dec.{eqb, leb}
+use lib.ListN.{length, length-append}
+use borrow.Author.Tests.{leb-true, le-leb}
+use Rattle.basis.specs.Lists.{all}
+use Rattle.basis.proofs.Bools.{and-left, and-right}
+use Rattle.text.specs.Number.{decimal}
+use Rattle.text.specs.Parts.{comma, lineFeed, join, fields}
+use Rattle.text.specs.Kind.{wordOf}
+use Rattle.text.specs.declared.kind.Kind.{Kind}
+use Rattle.text.specs.declared.kind.Kind.the-variants.{Policy as PolicyKind, Uattr, Oattr, Usen, Osen, User, Object, Rule as RuleKind, End}
+use Rattle.text.proofs.RoundTrip.{decimal-short, decimal-lacks-comma, decimal-lacks-feed, lacks, split-join, word-lacks-comma, word-lacks-feed, word-short}
+use Rattle.words.specs.Word.{written}
+use Rattle.words.specs.declared.Word.{Word}
+use Rattle.words.proofs.RoundTrip.{written-short, written-lacks-comma, written-lacks-feed}
+use Rattle.policy.specs.Line.{Line}
+use Rattle.policy.specs.Text.{laterFields, lineText}
+use Rattle.policy.proofs.Fields.{fieldsOf}
+
+-- a test that kind words, numbers and words pass is passed by each field
+module _ (f : List ℕ → Bool) (hk : (k : Kind) → f (wordOf k) ≡ true) (hn : (n : ℕ) → f (decimal n) ≡ true) (hw : (w : Word) → f (written w) ≡ true) where
+  each-word : (ws : List Word) → all f (map written ws) ≡ true
+  unfolding all
+  each-word [] = refl
+  each-word (w ∷ ws) = rw (hw w) (each-word ws)
+
+  each-later : (k : Kind) (l : Line) → all f (laterFields k l) ≡ true
+  unfolding all laterFields
+  each-later PolicyKind l = rw (hn (l .first))
+  each-later Uattr l = rw (hn (l .first))
+  each-later Oattr l = rw (hn (l .first))
+  each-later Usen l = rw (hn (l .first), hn (l .second))
+  each-later Osen l = rw (hn (l .first), hn (l .second))
+  each-later User l = rw (hn (l .first), hn (l .second))
+  each-later Object l = rw (hn (l .first), hn (l .second))
+  each-later RuleKind l = rw (hn (l .first)) (each-word (l .words))
+  each-later End l = refl
+
+  each-field : (l : Line) → all f (fieldsOf l) ≡ true
+  unfolding all
+  each-field l = rw (hk (l .kind)) (each-later (l .kind) l)
+
+-- the text is parted into the fields
+pub fields-text : (l : Line) → fields (lineText l) ≡ fieldsOf l
+unfolding lineText
+fields-text l = split-join comma (fieldsOf l) (omega arith) (each-field (lacks comma) word-lacks-comma decimal-lacks-comma written-lacks-comma l)
+
+-- it holds no line feed
+lacks-append : (b : ℕ) (xs ys : List ℕ) → lacks b xs ≡ true → lacks b ys ≡ true → lacks b (xs ++ ys) ≡ true
+unfolding all
+lacks-append b [] ys h g = g
+lacks-append b (x ∷ xs) ys h g = rw (and-left (not (eqb x b)) _ h) (lacks-append b xs ys (and-right (not (eqb x b)) _ h) g)
+
+lacks-join : (b c : ℕ) (fs : List (List ℕ)) → eqb c b ≡ false → all (lacks b) fs ≡ true → lacks b (join c fs) ≡ true
+unfolding all join
+lacks-join b c [] e h = refl
+lacks-join b c (f ∷ []) e h = and-left _ _ h
+lacks-join b c (f ∷ g ∷ fs) e h =
+    lacks-append b f (c ∷ join c (g ∷ fs)) (and-left _ _ h) (rw e (lacks-join b c (g ∷ fs) e (and-right (lacks b f) _ h)))
+
+pub text-lacks-feed : (l : Line) → lacks lineFeed (lineText l) ≡ true
+unfolding lineText
+text-lacks-feed l = lacks-join lineFeed comma (fieldsOf l) refl (each-field (lacks lineFeed) word-lacks-feed decimal-lacks-feed written-lacks-feed l)
+
+-- each field has at most six bytes, so with its separator at most seven
+shortField : List ℕ → Bool
+shortField f = leb (length f) 6
+
+join-short : (c : ℕ) (fs : List (List ℕ)) → all shortField fs ≡ true → length (join c fs) ≤ 7 * length fs
+unfolding all join shortField
+join-short c [] h = omega arith
+join-short c (f ∷ []) h = omega (arith, leb-true (length f) 6 (and-left _ _ h))
+join-short c (f ∷ g ∷ fs) h =
+    omega (arith, leb-true (length f) 6 (and-left _ _ h), length-append f (c ∷ join c (g ∷ fs)), join-short c (g ∷ fs) (and-right (leb (length f) 6) _ h))
+
+pub line-short : (l : Line) → length (lineText l) ≤ 7 * length (fieldsOf l)
+unfolding lineText shortField
+line-short l =
+    join-short comma (fieldsOf l)
+    (each-field shortField (λ k. le-leb (length (wordOf k)) 6 (word-short k)) (λ n. le-leb (length (decimal n)) 6 (omega (arith, decimal-short n)))
+    (λ w. le-leb (length (written w)) 6 (omega (arith, written-short w))) l)

@@ -1,0 +1,144 @@
+-- The tests of a sound policy taken apart: each list's, the lists but the widths as rising lists, and both ways.
+use Prim.Native.Nat.{ℕ, _≤_, _<_}
+use mathlib.Core.Path.{_≡_, refl}
+use mathlib.Core.Bool.{Bool, true}
+use mathlib.Core.List.{List, [], _∷_}
+use mathlib.Core.Option.{Option, none, some}
+use lib.Dec.{leb, ltb}
+use lib.ListN.{length}
+use borrow.Author.Tests.{leb-true, ltb-true, le-leb}
+use Rattle.basis.specs.Lists.{all}
+use Rattle.basis.proofs.Bools.{and-left, and-right}
+use Rattle.seniority.specs.declared.Direct.{Direct}
+use Rattle.policy.specs.Limits.{isForm, values, actions, userNumbers, objectNumbers, mostWords}
+use Rattle.policy.specs.Policy.{Side, Rule, Policy}
+use Rattle.policy.specs.Checks.{pairFits, pairAbove, entryFits, wordFits, widthsEqual, balanced}
+use Rattle.policy.specs.declared.value.Entry.{Entry}
+use Rattle.policy.proofs.Sound.{widthsSound, linesSound, entriesSound, ruleSound, rulesSound, sideSound, listsSound, sound}
+use Rattle.policy.proofs.Rising.{rising}
+
+-- ---- lists that rise
+
+abbrev pub lineFits : Side → Direct → Bool
+lineFits s l = pairFits s (l .senior) (l .junior)
+
+abbrev pub lineAbove : Direct → Direct → Bool
+lineAbove b l = pairAbove (l .senior) (l .junior) b
+
+abbrev pub numberFits : ℕ → Side → Entry → Bool
+numberFits most s e = entryFits most s (e .number) (e .set)
+
+abbrev pub numberAbove : Entry → Entry → Bool
+numberAbove b e = ltb (b .number) (e .number)
+
+abbrev pub actionAbove : Rule → Rule → Bool
+actionAbove b r = ltb (b .action) (r .action)
+
+pub lines-rising : (s : Side) (b : Option Direct) (ls : List Direct) → linesSound s b ls ≡ rising (lineFits s) lineAbove b ls
+unfolding linesSound rising
+lines-rising s b [] = refl
+lines-rising s b (l ∷ ls) = rw (lines-rising s (some l) ls)
+
+pub entries-rising : (most : ℕ) (s : Side) (b : Option Entry) (es : List Entry) → entriesSound most s b es ≡ rising (numberFits most s) numberAbove b es
+unfolding entriesSound rising
+entries-rising most s b [] = refl
+entries-rising most s b (e ∷ es) = rw (entries-rising most s (some e) es)
+
+pub rules-rising : (p : Policy) (b : Option Rule) (rs : List Rule) → rulesSound p b rs ≡ rising (ruleSound p) actionAbove b rs
+unfolding rulesSound rising
+rules-rising p b [] = refl
+rules-rising p b (r ∷ rs) = rw (rules-rising p (some r) rs)
+
+-- ---- the parts of a sound side, rule and policy
+
+pub record SideParts (most : ℕ) (s : Side) : Type 0 where
+  pub widths : widthsSound most 0 (s .widths) ≡ true
+  pub lines : rising (lineFits s) lineAbove none (s .lines) ≡ true
+
+pub side-parts : (most : ℕ) (s : Side) → sideSound most s ≡ true → SideParts most s
+unfolding sideSound
+side-parts most s e =
+    record { widths = and-left _ _ e; lines = rw (lines-rising s none (s .lines)) at (and-right (widthsSound most 0 (s .widths)) _ e) }
+
+pub side-sound : (most : ℕ) (s : Side) → SideParts most s → sideSound most s ≡ true
+unfolding sideSound
+side-sound most s p = rw (p .widths, lines-rising s none (s .lines), p .lines)
+
+pub record RuleParts (p : Policy) (r : Rule) : Type 0 where
+  pub few : length (r .words) ≤ mostWords
+  pub action : r .action < actions (p .form)
+  pub fit : all (wordFits p) (r .words) ≡ true
+  pub equal : all (widthsEqual p) (r .words) ≡ true
+  pub balance : balanced 0 (r .words) ≡ true
+
+pub rule-parts : (p : Policy) (r : Rule) → ruleSound p r ≡ true → RuleParts p r
+unfolding ruleSound
+rule-parts p r e =
+    let e₁ = and-right (leb (length (r .words)) mostWords) _ e in
+    let e₂ = and-right (ltb (r .action) (actions (p .form))) _ e₁ in
+    let e₃ = and-right (all (wordFits p) (r .words)) _ e₂ in
+    record {
+      few = leb-true _ _ (and-left (leb (length (r .words)) mostWords) _ e);
+      action = ltb-true _ _ (and-left (ltb (r .action) (actions (p .form))) _ e₁);
+      fit = and-left _ _ e₂;
+      equal = and-left _ _ e₃;
+      balance = and-right (all (widthsEqual p) (r .words)) _ e₃;
+    }
+
+pub record Parts (p : Policy) : Type 0 where
+  pub user : SideParts (values (p .form)) (p .user)
+  pub object : SideParts (values (p .form)) (p .object)
+  pub users : rising (numberFits userNumbers (p .user)) numberAbove none (p .users) ≡ true
+  pub objects : rising (numberFits objectNumbers (p .object)) numberAbove none (p .objects) ≡ true
+  pub rules : rising (ruleSound p) actionAbove none (p .rules) ≡ true
+
+pub parts : (p : Policy) → listsSound p ≡ true → Parts p
+unfolding listsSound
+parts p e =
+    let e₁ = and-right (sideSound (values (p .form)) (p .user)) _ e in
+    let e₂ = and-right (sideSound (values (p .form)) (p .object)) _ e₁ in
+    let e₃ = and-right (entriesSound userNumbers (p .user) none (p .users)) _ e₂ in
+    record {
+      user = side-parts (values (p .form)) (p .user) (and-left _ _ e);
+      object = side-parts (values (p .form)) (p .object) (and-left _ _ e₁);
+      users = rw (entries-rising userNumbers (p .user) none (p .users)) at (and-left (entriesSound userNumbers (p .user) none (p .users)) _ e₂);
+      objects = rw (entries-rising objectNumbers (p .object) none (p .objects)) at (and-left (entriesSound objectNumbers (p .object) none (p .objects)) _ e₃);
+      rules = rw (rules-rising p none (p .rules)) at (and-right (entriesSound objectNumbers (p .object) none (p .objects)) _ e₃);
+    }
+
+pub lists-sound : (p : Policy) → Parts p → listsSound p ≡ true
+unfolding listsSound
+lists-sound p t =
+    rw (
+      side-sound (values (p .form)) (p .user) (t .user),
+      side-sound (values (p .form)) (p .object) (t .object),
+      entries-rising userNumbers (p .user) none (p .users),
+      t .users,
+      entries-rising objectNumbers (p .object) none (p .objects),
+      t .objects,
+      rules-rising p none (p .rules),
+      t .rules,
+    )
+
+-- and of the policy of an accepted text
+pub record Whole (p : Policy) : Type 0 where
+  pub form : isForm (p .form) ≡ true
+  pub user : 1 ≤ length (p .user .widths)
+  pub object : 1 ≤ length (p .object .widths)
+  pub lists : listsSound p ≡ true
+
+pub whole : (p : Policy) → sound p ≡ true → Whole p
+unfolding sound
+whole p e =
+    let e₁ = and-right (isForm (p .form)) _ e in
+    let e₂ = and-right (leb 1 (length (p .user .widths))) _ e₁ in
+    record {
+      form = and-left _ _ e;
+      user = leb-true _ _ (and-left (leb 1 (length (p .user .widths))) _ e₁);
+      object = leb-true _ _ (and-left (leb 1 (length (p .object .widths))) _ e₂);
+      lists = and-right (leb 1 (length (p .object .widths))) _ e₂;
+    }
+
+pub is-sound : (p : Policy) → Whole p → sound p ≡ true
+unfolding sound
+is-sound p w = rw (w .form, le-leb 1 (length (p .user .widths)) (w .user), le-leb 1 (length (p .object .widths)) (w .object), w .lists)

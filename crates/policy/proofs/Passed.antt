@@ -1,0 +1,71 @@
+-- A line is not refused exactly where each of its checks passes.
+use Prim.Native.Nat.{ℕ}
+use mathlib.Core.Path.{_≡_, refl}
+use mathlib.Core.Bool.{Bool, true, false, not}
+use mathlib.Core.List.{List, [], _∷_}
+use mathlib.Core.Option.{Option, none}
+use native.Mathlib.Omega.{arith}
+use lib.ListN.{length}
+use Rattle.basis.specs.Choice.{Check, check, lowest}
+use Rattle.text.specs.Parts.{Line as TextLine, fields}
+use Rattle.text.specs.declared.kind.Kind.{Kind}
+use Rattle.text.specs.declared.kind.Named.{Named}
+use Rattle.text.specs.declared.kind.Named.the-variants.{Is, Unknown}
+use Rattle.policy.specs.Policy.{Policy}
+use Rattle.policy.specs.Line.{allowed, countFits, formFits, lineOf}
+use Rattle.policy.specs.Checks.{lineInRange, lineRises, lineWidthsEqual, lineBalances}
+use Rattle.policy.specs.Read.{checksOf, refusalOf, State, kindOf, lineRefusal}
+
+-- the first of some checks passes, and no other is broken
+pub lowest-next : (n : ℕ) (b : Bool) (cs : List Check) → lowest (check n (not b) ∷ cs) ≡ none → (b ≡ true) × (lowest cs ≡ none)
+unfolding lowest
+lowest-next n true cs e = (refl, e)
+lowest-next n false cs e = let z : _≡_ {A = ℕ} 0 1 = cc in absurd (omega arith)
+
+-- each check of a line of a known kind passes
+pub record Passed (before : Option Kind) (p : Policy) (ended : Bool) (k : Kind) (fs : List (List ℕ)) : Type 0 where
+  pub ends : ended ≡ true
+  pub order : allowed before k ≡ true
+  pub count : countFits k (length fs) ≡ true
+  pub form : formFits k fs ≡ true
+  pub range : lineInRange p (lineOf k fs) ≡ true
+  pub rise : lineRises p (lineOf k fs) ≡ true
+  pub equal : lineWidthsEqual p (lineOf k fs) ≡ true
+  pub balance : lineBalances (lineOf k fs) ≡ true
+
+module _ (before : Option Kind) (p : Policy) (ended : Bool) where
+  pub passed : (k : Kind) (fs : List (List ℕ)) → refusalOf before p ended (Is k) fs ≡ none → Passed before p ended k fs
+  unfolding refusalOf checksOf
+  passed k fs e =
+      let l = lineOf k fs in
+      let e₂ = lowest-next 2 ended _ e in
+      let e₃ = lowest-next 3 (allowed before k) _ (e₂ .1) in
+      let e₄ = lowest-next 4 (countFits k (length fs)) _ (e₃ .1) in
+      let e₅ = lowest-next 5 (formFits k fs) _ (e₄ .1) in
+      let e₆ = lowest-next 6 (lineInRange p l) _ (e₅ .1) in
+      let e₇ = lowest-next 7 (lineRises p l) _ (e₆ .1) in
+      let e₈ = lowest-next 8 (lineWidthsEqual p l) _ (e₇ .1) in
+      let e₉ = lowest-next 9 (lineBalances l) _ (e₈ .1) in
+      record { ends = e₂ .0; order = e₃ .0; count = e₄ .0; form = e₅ .0; range = e₆ .0; rise = e₇ .0; equal = e₈ .0; balance = e₉ .0 }
+
+  pub not-refused : (k : Kind) (fs : List (List ℕ)) → Passed before p ended k fs → refusalOf before p ended (Is k) fs ≡ none
+  unfolding refusalOf checksOf lowest
+  not-refused k fs c = rw (c .ends, c .order, c .count, c .form, c .range, c .rise, c .equal, c .balance)
+
+  -- a line of no known kind is refused
+  pub unknown-refused : (fs : List (List ℕ)) → refusalOf before p ended Unknown fs ≡ none → ⊥
+  unfolding refusalOf lowest
+  unknown-refused fs e = let r = lowest-next 2 ended (check 3 true ∷ []) e .1 in let z : _≡_ {A = ℕ} 0 1 = cc r in omega arith
+
+-- the kind of a line that is not refused, and its checks
+pub record Taken (s : State) (l : TextLine) : Type 0 where
+  pub kind : Kind
+  pub named : kindOf (l .bytes) ≡ Is kind
+  pub checks : Passed (s .before) (s .policy) (l .ended) kind (fields (l .bytes))
+
+pub taken : (s : State) (l : TextLine) → lineRefusal s l ≡ none → Taken s l
+taken s l e = go (kindOf (l .bytes)) refl
+  where
+    go : (n : Named) → kindOf (l .bytes) ≡ n → Taken s l
+    go Unknown q = absurd (unknown-refused (s .before) (s .policy) (l .ended) (fields (l .bytes)) (rw q at e))
+    go (Is k) q = record { kind = k; named = q; checks = passed (s .before) (s .policy) (l .ended) k (fields (l .bytes)) (rw q at e) }

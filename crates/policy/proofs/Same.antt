@@ -1,0 +1,137 @@
+-- `sameValue` passes exactly for equal values: each test of sameness is exact, from the numbers up.
+use Prim.Native.Nat.{ℕ, _+_}
+use mathlib.Core.Path.{_≡_, refl, sym, ap, _∙_}
+use mathlib.Core.Bool.{Bool, true, cond, _&&_}
+use mathlib.Core.List.{List, [], _∷_}
+use mathlib.Core.Logic.{_↔_}
+use native.Mathlib.Omega.{arith}
+use lib.Dec.{eqb}
+use borrow.Author.Tests.{eqb-true, eq-eqb}
+use Rattle.basis.specs.Bytes.{byte}
+use Rattle.basis.specs.Lists.{same}
+use Rattle.basis.proofs.Bools.{and-left, and-right}
+use Rattle.basis.proofs.Same.{same-self, same-eq}
+use Rattle.seniority.specs.Seniority.{direct}
+use Rattle.seniority.specs.declared.Direct.{Direct}
+use Rattle.text.specs.Number.{digitOf}
+use Rattle.words.specs.Word.{written}
+use Rattle.words.specs.declared.Word.{Word}
+use Rattle.words.specs.declared.Word.the-variants.{True, False, Holds, Compares, Not, And, Or}
+use Rattle.words.specs.declared.Holding.the-variants.{User as UserValue, Object as ObjectValue}
+use Rattle.words.specs.declared.Comparison.the-variants.{Dominates, Equals}
+use Rattle.policy.specs.Value.{slot}
+use Rattle.policy.specs.Valid.{sameLine, sameEntry, sameSlot, sameSide, sameRegister, sameRule, sameRules, sameValue}
+use Rattle.policy.specs.declared.value.Entry.{Entry}
+use Rattle.policy.specs.declared.value.SideValue.{SideValue}
+use Rattle.policy.specs.declared.value.Register.{Register}
+use Rattle.policy.specs.declared.value.RuleValue.{RuleValue}
+use Rattle.policy.specs.declared.value.Rules.{Rules}
+use Rattle.policy.specs.declared.value.PolicyValue.{PolicyValue}
+
+-- a test passes exactly for equal things
+pub record Exact {A : Type 0} (e : A → A → Bool) : Type 0 where
+  pub equal : (x y : A) → e x y ≡ true → x ≡ y
+  pub self : (x : A) → e x x ≡ true
+
+pub exact-number : Exact eqb
+exact-number = record { equal = eqb-true; self = λ n. eq-eqb n n refl }
+
+pub exact-list : {A : Type 0} (e : A → A → Bool) → Exact e → Exact (same e)
+exact-list e x = record { equal = same-eq e (x .equal); self = same-self e (x .self) }
+
+-- ---- words: the word that some bytes write
+
+wordFrom : List ℕ → Word
+wordFrom [] = True
+wordFrom (c ∷ []) = cond (eqb c (byte "t")) True (cond (eqb c (byte "f")) False (cond (eqb c (byte "n")) Not (cond (eqb c (byte "a")) And Or)))
+wordFrom (c ∷ v ∷ []) = Holds (cond (eqb c (byte "u")) (UserValue (digitOf v)) (ObjectValue (digitOf v)))
+wordFrom (c ∷ i ∷ j ∷ xs) = Compares (cond (eqb c (byte "d")) (Dominates (digitOf i) (digitOf j)) (Equals (digitOf i) (digitOf j)))
+
+digit-back : (v : ℕ) → digitOf (byte "0" + v) ≡ v
+digit-back v = omega arith
+
+word-back : (w : Word) → wordFrom (written w) ≡ w
+unfolding wordFrom written
+word-back True = refl
+word-back False = refl
+word-back (Holds (UserValue v)) = rw (digit-back v)
+word-back (Holds (ObjectValue v)) = rw (digit-back v)
+word-back (Compares (Dominates i j)) = rw (digit-back i, digit-back j)
+word-back (Compares (Equals i j)) = rw (digit-back i, digit-back j)
+word-back Not = refl
+word-back And = refl
+word-back Or = refl
+
+pub exact-slot : Exact sameSlot
+exact-slot =
+    record {
+      equal = λ x y e. ap slot (sym (word-back (x .word)) ∙ ap wordFrom (exact-list eqb exact-number .equal (written (x .word)) (written (y .word)) e) ∙ word-back (y .word));
+      self = λ x. exact-list eqb exact-number .self (written (x .word));
+    }
+
+-- ---- records, field by field
+
+-- a test passes only for things with equal parts, and for a thing and itself
+record Shows {A B : Type 0} (e : A → A → Bool) (f : A → B) : Type 0 where
+  equal : (x y : A) → e x y ≡ true → f x ≡ f y
+  self : (x : A) → e x x ≡ true
+
+part : {A B : Type 0} (f : A → B) {e : B → B → Bool} → Exact e → Shows (λ x y. e (f x) (f y)) f
+part f x = record { equal = λ a b. x .equal (f a) (f b); self = λ a. x .self (f a) }
+
+both : {A B C : Type 0} {e d : A → A → Bool} {f : A → B} {g : A → C} → Shows e f → Shows d g → Shows {B = B × C} (λ x y. e x y && d x y) (λ x. (f x, g x))
+both {e = e} {d = d} p q =
+    record {
+      equal = λ x y h. let a = p .equal x y (and-left _ _ h) in let b = q .equal x y (and-right (e x y) (d x y) h) in (λ i. (a i, b i));
+      self = λ x. rw (p .self x, q .self x);
+    }
+
+-- all parts are equal
+made : {A B : Type 0} {e : A → A → Bool} {f : A → B} (make : B → A) → ((x : A) → make (f x) ≡ x) → Shows e f → Exact e
+made make back p = record { equal = λ x y h. sym (back x) ∙ ap make (p .equal x y h) ∙ back y; self = p .self }
+
+pub exact-line : Exact sameLine
+exact-line = made (λ t. direct (t .0) (t .1)) (λ x. refl) (both (part (λ (x : Direct). x .senior) exact-number) (part (λ (x : Direct). x .junior) exact-number))
+
+pub exact-entry : Exact sameEntry
+exact-entry = made (λ t. record { number = t .0; set = t .1 }) (λ x. refl) (both (part (λ (x : Entry). x .number) exact-number) (part (λ (x : Entry). x .set) exact-number))
+
+pub exact-side : Exact sameSide
+unfolding sameSide
+exact-side =
+    made (λ t. record { attributes = t .0; widths = t .1 .0; lines = t .1 .1 .0; seniority = t .1 .1 .1 }) (λ x. refl)
+    (both (part (λ (x : SideValue). x .attributes) exact-number)
+    (both (part (λ (x : SideValue). x .widths) (exact-list eqb exact-number))
+    (both (part (λ (x : SideValue). x .lines) exact-number) (part (λ (x : SideValue). x .seniority) (exact-list sameLine exact-line)))))
+
+pub exact-register : Exact sameRegister
+unfolding sameRegister
+exact-register =
+    made (λ t. record { count = t .0; entries = t .1 }) (λ x. refl)
+    (both (part (λ (x : Register). x .count) exact-number) (part (λ (x : Register). x .entries) (exact-list sameEntry exact-entry)))
+
+pub exact-rule : Exact sameRule
+unfolding sameRule
+exact-rule =
+    made (λ t. record { action = t .0; count = t .1 .0; words = t .1 .1 }) (λ x. refl)
+    (both (part (λ (x : RuleValue). x .action) exact-number)
+    (both (part (λ (x : RuleValue). x .count) exact-number) (part (λ (x : RuleValue). x .words) (exact-list sameSlot exact-slot))))
+
+pub exact-rules : Exact sameRules
+unfolding sameRules
+exact-rules =
+    made (λ t. record { count = t .0; entries = t .1 }) (λ x. refl)
+    (both (part (λ (x : Rules). x .count) exact-number) (part (λ (x : Rules). x .entries) (exact-list sameRule exact-rule)))
+
+pub exact-value : Exact sameValue
+unfolding sameValue
+exact-value =
+    made (λ t. record { form = t .0; user = t .1 .0; object = t .1 .1 .0; users = t .1 .1 .1 .0; objects = t .1 .1 .1 .1 .0; rules = t .1 .1 .1 .1 .1 }) (λ x. refl)
+    (both (part (λ (x : PolicyValue). x .form) exact-number)
+    (both (part (λ (x : PolicyValue). x .user) exact-side)
+    (both (part (λ (x : PolicyValue). x .object) exact-side)
+    (both (part (λ (x : PolicyValue). x .users) exact-register)
+    (both (part (λ (x : PolicyValue). x .objects) exact-register) (part (λ (x : PolicyValue). x .rules) exact-rules))))))
+
+pub same-value : (x y : PolicyValue) → (sameValue x y ≡ true) ↔ (x ≡ y)
+same-value x y = (exact-value .equal x y, λ e. rw e (exact-value .self y))

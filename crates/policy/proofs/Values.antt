@@ -1,0 +1,79 @@
+-- The policy value gives its policy back, and what one line more does to it, list by list.
+use Prim.Native.Nat.{ℕ, _+_, _<_}
+use mathlib.Core.Path.{_≡_, refl, ap}
+use mathlib.Core.List.{List, [], _∷_, _++_, map}
+use lib.ListN.{length, set}
+use Rattle.basis.proofs.Snoc.{length-snoc}
+use Rattle.basis.proofs.Padded.{take-padded, take-padded-map, padded-more, padded-more-map}
+use Rattle.seniority.specs.Seniority.{direct}
+use Rattle.words.specs.declared.Word.{Word}
+use Rattle.words.specs.declared.Word.the-variants.{True}
+use Rattle.policy.specs.Policy.{Side, Rule, Policy}
+use Rattle.policy.specs.Checks.{withWidth, withLine, withEntry}
+use Rattle.policy.specs.Value.{widthPlaces, linePlaces, entryPlaces, wordPlaces, rulePlaces, slot, noEntry, noRule, sideValue, register, ruleValue, rulesValue, valueOf, sideOf, entriesOf, ruleOf, rulesOf, policyOf}
+use Rattle.policy.specs.declared.value.Entry.{Entry}
+use Rattle.policy.specs.declared.value.Slot.{Slot}
+use Rattle.policy.specs.declared.value.SideValue.{SideValue}
+use Rattle.policy.specs.declared.value.Register.{Register}
+use Rattle.policy.specs.declared.value.RuleValue.{RuleValue}
+use Rattle.policy.specs.declared.value.Rules.{Rules}
+
+-- ---- the value gives the policy back
+
+pub side-value : (s : Side) → sideOf (sideValue s) ≡ s
+unfolding sideOf sideValue
+side-value s = rw (take-padded widthPlaces 0 (s .widths), take-padded linePlaces (direct 0 0) (s .lines))
+
+pub register-value : (es : List Entry) → entriesOf (register es) ≡ es
+unfolding entriesOf register
+register-value es = take-padded entryPlaces noEntry es
+
+words-back : (ws : List Word) → map (λ (x : Slot). x .word) (map slot ws) ≡ ws
+words-back [] = refl
+words-back (w ∷ ws) = ap (λ (l : List Word). w ∷ l) (words-back ws)
+
+pub rule-value : (r : Rule) → ruleOf (ruleValue r) ≡ r
+unfolding ruleOf ruleValue
+rule-value r = rw (take-padded-map slot wordPlaces (slot True) (r .words), words-back (r .words))
+
+rules-back : (rs : List Rule) → map ruleOf (map ruleValue rs) ≡ rs
+rules-back [] = refl
+rules-back (r ∷ rs) = rw (rule-value r, rules-back rs)
+
+pub rules-value : (rs : List Rule) → rulesOf (rulesValue rs) ≡ rs
+unfolding rulesOf rulesValue
+rules-value rs = rw (take-padded-map ruleValue rulePlaces noRule rs) (rules-back rs)
+
+pub policy-value : (p : Policy) → policyOf (valueOf p) ≡ p
+unfolding policyOf valueOf
+policy-value p = rw (side-value (p .user), side-value (p .object), register-value (p .users), register-value (p .objects), rules-value (p .rules))
+
+-- ---- one line more is a store behind the last
+
+abbrev pub moreWidth : ℕ → SideValue → SideValue
+moreWidth w x = record { attributes = x .attributes + 1; widths = set (x .widths) (x .attributes) w; lines = x .lines; seniority = x .seniority }
+
+abbrev pub moreLine : ℕ → ℕ → SideValue → SideValue
+moreLine v j x = record { attributes = x .attributes; widths = x .widths; lines = x .lines + 1; seniority = set (x .seniority) (x .lines) (direct v j) }
+
+abbrev pub moreEntry : ℕ → ℕ → Register → Register
+moreEntry n s x = record { count = x .count + 1; entries = set (x .entries) (x .count) (record { number = n; set = s }) }
+
+abbrev pub moreRule : RuleValue → Rules → Rules
+moreRule r x = record { count = x .count + 1; entries = set (x .entries) (x .count) r }
+
+pub more-width : (w : ℕ) (s : Side) → length (s .widths) < widthPlaces → sideValue (withWidth w s) ≡ moreWidth w (sideValue s)
+unfolding sideValue
+more-width w s h = rw (length-snoc (s .widths) w, padded-more widthPlaces 0 (s .widths) w h)
+
+pub more-line : (v j : ℕ) (s : Side) → length (s .lines) < linePlaces → sideValue (withLine v j s) ≡ moreLine v j (sideValue s)
+unfolding sideValue
+more-line v j s h = rw (length-snoc (s .lines) (direct v j), padded-more linePlaces (direct 0 0) (s .lines) (direct v j) h)
+
+pub more-entry : (n s : ℕ) (es : List Entry) → length es < entryPlaces → register (withEntry n s es) ≡ moreEntry n s (register es)
+unfolding register
+more-entry n s es h = let e : Entry = record { number = n; set = s } in rw (length-snoc es e, padded-more entryPlaces noEntry es e h)
+
+pub more-rule : (r : Rule) (rs : List Rule) → length rs < rulePlaces → rulesValue (rs ++ (r ∷ [])) ≡ moreRule (ruleValue r) (rulesValue rs)
+unfolding rulesValue
+more-rule r rs h = rw (length-snoc rs r, padded-more-map ruleValue rulePlaces noRule rs r h)

@@ -1,0 +1,199 @@
+//! What words and formulas mean on a user set and an object set.
+
+use crate::policy::{first_value, Policy, Refusal, Set, Word, ACTIONS};
+
+/// Whether a set holds a value.
+pub fn holds(set: Set, value: u32) -> bool {
+    set >> value & 1 == 1
+}
+
+/// Whether a chain of one or more direct lines leads from `senior` to `junior`.
+/// A direct line always leads to a lower value, so every chain ends.
+pub fn is_senior(lines: &[(u32, u32)], senior: u32, junior: u32) -> bool {
+    lines
+        .iter()
+        .filter(|line| line.0 == senior)
+        .any(|line| line.1 == junior || is_senior(lines, line.1, junior))
+}
+
+/// The values below `count` that `wanted` is true of, as a set.
+fn set_of(count: u32, wanted: impl Fn(u32) -> bool) -> Set {
+    (0..count)
+        .filter(|&value| wanted(value))
+        .map(|value| 1 << value)
+        .sum()
+}
+
+/// The assigned values and all juniors of them.
+pub fn reach(policy: &Policy, assigned: Set) -> Set {
+    let lines = &policy.user_seniority;
+    set_of(policy.user_values(), |value| {
+        holds(assigned, value)
+            || (0..policy.user_values()).any(|v| holds(assigned, v) && is_senior(lines, v, value))
+    })
+}
+
+/// The formulas of a policy, with the chains of seniority followed once.
+pub struct Formulas<'a> {
+    policy: &'a Policy,
+    /// For each user value, it and its seniors: any of them makes `uV` true.
+    user_holders: Vec<Set>,
+    /// For each object value, it and its juniors: any of them makes `oV` true.
+    object_holders: Vec<Set>,
+}
+
+impl<'a> Formulas<'a> {
+    pub fn of(policy: &'a Policy) -> Self {
+        let (users, objects) = (policy.user_values(), policy.object_values());
+        let or_senior = |value, v| v == value || is_senior(&policy.user_seniority, v, value);
+        let or_junior = |value, v| v == value || is_senior(&policy.object_seniority, value, v);
+        Formulas {
+            policy,
+            user_holders: (0..users)
+                .map(|w| set_of(users, |v| or_senior(w, v)))
+                .collect(),
+            object_holders: (0..objects)
+                .map(|w| set_of(objects, |v| or_junior(w, v)))
+                .collect(),
+        }
+    }
+
+    /// Whether the action's formula is true on the two sets.
+    pub fn grants(&self, action: u32, user_set: Set, object_set: Set) -> bool {
+        let mut stack = Vec::new();
+        for word in self.policy.formula(action) {
+            let truth = match *word {
+                Word::Not => !pop(&mut stack),
+                // Both are popped before they are joined: `&&` alone might skip one.
+                Word::And => {
+                    let (top, next) = (pop(&mut stack), pop(&mut stack));
+                    top && next
+                }
+                Word::Or => {
+                    let (top, next) = (pop(&mut stack), pop(&mut stack));
+                    top || next
+                }
+                _ => self.pushes(word, user_set, object_set),
+            };
+            stack.push(truth);
+        }
+        pop(&mut stack)
+    }
+
+    /// The truth value that a word other than a connective pushes.
+    fn pushes(&self, word: &Word, user_set: Set, object_set: Set) -> bool {
+        match *word {
+            Word::True => true,
+            Word::User(value) => user_set & self.user_holders[value as usize] != 0,
+            Word::Object(value) => object_set & self.object_holders[value as usize] != 0,
+            Word::Within(i, j) => {
+                let held = places(&self.policy.user_widths, i, user_set);
+                let due = places(&self.policy.object_widths, j, object_set);
+                self.equal_width(i, j) && due & !held == 0
+            }
+            Word::Same(i, j) => {
+                let held = places(&self.policy.user_widths, i, user_set);
+                let due = places(&self.policy.object_widths, j, object_set);
+                self.equal_width(i, j) && due == held
+            }
+            _ => false,
+        }
+    }
+
+    fn equal_width(&self, i: u32, j: u32) -> bool {
+        self.policy.user_widths[i as usize] == self.policy.object_widths[j as usize]
+    }
+}
+
+/// The reader saw to it that no word finds the stack too short.
+fn pop(stack: &mut Vec<bool>) -> bool {
+    stack.pop().expect("a truth value")
+}
+
+/// The places of an attribute that a set holds, counted from its first value.
+fn places(widths: &[u32], attribute: u32, set: Set) -> Set {
+    let width = widths[attribute as usize];
+    (set >> first_value(widths, attribute)) % (1 << width)
+}
+
+/// Decide by the formula on two given sets; refusals 12 and 19.
+pub fn decide(
+    policy: &Policy,
+    action: u32,
+    user_set: Set,
+    object_set: Set,
+) -> Result<bool, Refusal> {
+    if action >= ACTIONS {
+        return Err(12);
+    }
+    if user_set >= policy.user_sets() || object_set >= policy.object_sets() {
+        return Err(19);
+    }
+    Ok(Formulas::of(policy).grants(action, user_set, object_set))
+}
+
+#[cfg(test)]
+mod tests {
+    use super::*;
+    use crate::text::read;
+
+    fn policy(lines: &str) -> Policy {
+        let text = format!("policy,1\nuattr,3\nuattr,2\noattr,2\noattr,3\n{lines}end\n");
+        read(text.as_bytes()).expect("accepted")
+    }
+
+    fn granted(words: &str, user_set: Set, object_set: Set) -> bool {
+        let lines = format!("usen,1,0\nusen,2,1\nosen,3,2\nosen,4,3\nrule,0,{words}\n");
+        decide(&policy(&lines), 0, user_set, object_set).expect("decided")
+    }
+
+    #[test]
+    fn seniority_is_by_chains() {
+        let lines = [(1, 0), (2, 1), (4, 3)];
+        assert!(is_senior(&lines, 1, 0) && is_senior(&lines, 2, 0) && is_senior(&lines, 4, 3));
+        assert!(!is_senior(&lines, 0, 0) && !is_senior(&lines, 0, 2) && !is_senior(&lines, 4, 0));
+    }
+
+    #[test]
+    fn user_holdings_look_up_and_object_holdings_down() {
+        assert!(granted("u0", 0b00001, 0) && granted("u0", 0b00100, 0));
+        assert!(!granted("u2", 0b00011, 0) && !granted("u0", 0b11000, 0));
+        assert!(granted("o4", 0, 0b10000) && granted("o4", 0, 0b00100));
+        assert!(!granted("o2", 0, 0b11000) && !granted("o4", 0, 0b00011));
+    }
+
+    #[test]
+    fn comparisons_look_at_places_alone() {
+        // User attribute 1 has values 3 and 4, object attribute 0 has 0 and 1.
+        assert!(granted("d10", 0b11000, 0b00001) && granted("d10", 0b01000, 0b00001));
+        assert!(granted("d10", 0b00111, 0b11100) && !granted("d10", 0b10000, 0b00001));
+        assert!(granted("q10", 0b01000, 0b00001) && !granted("q10", 0b11000, 0b00001));
+        // A senior of the value due does not stand in for it.
+        assert!(!granted("d01", 0b00100, 0b00100) && granted("d01", 0b00001, 0b00100));
+    }
+
+    #[test]
+    fn connectives_take_from_the_top() {
+        assert!(granted("t,f,r", 0, 0) && !granted("t,f,a", 0, 0));
+        assert!(granted("t,f,n,a", 0, 0) && granted("f,t,f,a,n,r", 0, 0));
+        assert!(granted("t,f,f,a,r", 0, 0) && !granted("t,f,r,f,a", 0, 0));
+    }
+
+    #[test]
+    fn reach_is_the_assigned_and_all_juniors() {
+        let policy = policy("usen,1,0\nusen,2,1\n");
+        assert_eq!(reach(&policy, 0b00100), 0b00111);
+        assert_eq!(reach(&policy, 0b01001), 0b01001);
+        assert_eq!(reach(&policy, 0), 0);
+    }
+
+    #[test]
+    fn deciding_refuses_by_12_then_19() {
+        let policy = policy("rule,7,t\n");
+        assert_eq!(decide(&policy, 8, 32, 0), Err(12));
+        assert_eq!(decide(&policy, 7, 32, 0), Err(19));
+        assert_eq!(decide(&policy, 7, 0, 32), Err(19));
+        assert_eq!(decide(&policy, 7, 31, 31), Ok(true));
+        assert_eq!(decide(&policy, 6, 31, 31), Ok(false));
+    }
+}

@@ -1,0 +1,142 @@
+//! Labels of user sets and object sets, and the table over them.
+
+use crate::formula::Formulas;
+use crate::policy::{Policy, Refusal, Set, ACTIONS};
+
+/// A number for each user set and each object set, and a table over them.
+#[derive(Debug, Clone, PartialEq, Eq)]
+pub struct Labelling {
+    pub user_labels: Vec<u8>,
+    pub object_labels: Vec<u8>,
+    /// NU: how many user labels are used.
+    pub user_count: usize,
+    /// NO: how many object labels are used.
+    pub object_count: usize,
+    /// Byte ul × NO + ol has bit a set exactly when action a is granted.
+    pub table: Vec<u8>,
+}
+
+/// A row for each user set with a byte for each object set, bit a for action a.
+pub fn grants(policy: &Policy) -> Vec<Vec<u8>> {
+    let formulas = Formulas::of(policy);
+    let byte = |user_set, object_set| {
+        (0..ACTIONS)
+            .filter(|&action| formulas.grants(action, user_set, object_set))
+            .map(|action| 1u8 << action)
+            .sum()
+    };
+    (0..policy.user_sets())
+        .map(|user_set| {
+            (0..policy.object_sets())
+                .map(|o| byte(user_set, o))
+                .collect()
+        })
+        .collect()
+}
+
+/// The compiled labelling: alike sets share a label.
+pub fn compile(policy: &Policy) -> Labelling {
+    let rows = grants(policy);
+    let columns: Vec<Vec<u8>> = (0..policy.object_sets() as usize)
+        .map(|object_set| rows.iter().map(|row| row[object_set]).collect())
+        .collect();
+    let (user_labels, user_lowest) = number(&rows);
+    let (object_labels, object_lowest) = number(&columns);
+    let mut table = Vec::new();
+    for &user_set in &user_lowest {
+        for &object_set in &object_lowest {
+            table.push(rows[user_set][object_set]);
+        }
+    }
+    Labelling {
+        user_labels,
+        object_labels,
+        user_count: user_lowest.len(),
+        object_count: object_lowest.len(),
+        table,
+    }
+}
+
+/// A label for each row, equal rows alike, and each label's lowest row.
+fn number(rows: &[Vec<u8>]) -> (Vec<u8>, Vec<usize>) {
+    let mut labels = Vec::new();
+    let mut lowest: Vec<usize> = Vec::new();
+    for (set, row) in rows.iter().enumerate() {
+        let label = lowest.iter().position(|&earlier| rows[earlier] == *row);
+        labels.push(label.unwrap_or(lowest.len()) as u8);
+        if label.is_none() {
+            lowest.push(set);
+        }
+    }
+    (labels, lowest)
+}
+
+/// Whether a labelling says granted exactly where the formulas are true.
+pub fn grants_alike(policy: &Policy, labelling: &Labelling) -> bool {
+    grants(policy)
+        .iter()
+        .zip(&labelling.user_labels)
+        .all(|(row, &user_label)| {
+            row.iter()
+                .zip(&labelling.object_labels)
+                .all(|(byte, &object_label)| {
+                    let place =
+                        user_label as usize * labelling.object_count + object_label as usize;
+                    labelling.table.get(place) == Some(byte)
+                })
+        })
+}
+
+/// None when two user sets are alike, else an action and an object set that
+/// tells them apart; refusal 19.
+pub fn apart(policy: &Policy, one: Set, other: Set) -> Result<Option<(u32, Set)>, Refusal> {
+    if one >= policy.user_sets() || other >= policy.user_sets() {
+        return Err(19);
+    }
+    let formulas = Formulas::of(policy);
+    for action in 0..ACTIONS {
+        for object_set in 0..policy.object_sets() {
+            let granted = formulas.grants(action, one, object_set);
+            if granted != formulas.grants(action, other, object_set) {
+                return Ok(Some((action, object_set)));
+            }
+        }
+    }
+    Ok(None)
+}
+
+#[cfg(test)]
+mod tests {
+    use super::*;
+    use crate::text::read;
+
+    #[test]
+    fn apart_looks_and_refuses_by_19() {
+        let text = b"policy,1\nuattr,2\noattr,1\nrule,6,u1,o0,a\nend\n";
+        let policy = read(text).expect("accepted");
+        assert_eq!(apart(&policy, 0, 1), Ok(None));
+        assert_eq!(apart(&policy, 2, 3), Ok(None));
+        assert_eq!(apart(&policy, 1, 2), Ok(Some((6, 1))));
+        assert_eq!(apart(&policy, 4, 0), Err(19));
+        assert_eq!(apart(&policy, 0, 4), Err(19));
+    }
+
+    #[test]
+    fn a_wrong_table_does_not_grant_alike() {
+        let text = b"policy,1\nuattr,1\noattr,1\nrule,0,u0,o0,a\nend\n";
+        let policy = read(text).expect("accepted");
+        let labelling = compile(&policy);
+        assert_eq!(labelling.table, [0, 0, 0, 1]);
+        assert!(grants_alike(&policy, &labelling));
+        let wrong = Labelling {
+            table: vec![0, 0, 1, 1],
+            ..labelling.clone()
+        };
+        assert!(!grants_alike(&policy, &wrong));
+        let merged = Labelling {
+            user_labels: vec![0, 0],
+            ..labelling
+        };
+        assert!(!grants_alike(&policy, &merged));
+    }
+}

@@ -1,0 +1,16 @@
+//! Label policies on a comment screen, a second time and as plainly as
+//! possible: the answers to compare another implementation with.
+//!
+//! Everything here is a pure function over plain vectors. Refusals are the
+//! numbers 1 to 20 of the requirement.
+
+#![forbid(unsafe_code)]
+
+pub mod cases;
+pub mod formula;
+pub mod labels;
+pub mod lister;
+pub mod machine;
+pub mod policy;
+pub mod text;
+pub mod tuples;

@@ -1,0 +1,279 @@
+//! The plain machine of sessions, with refusals 12 to 19.
+
+use crate::formula::{reach, Formulas};
+use crate::policy::{Policy, Refusal, Set, ACTIONS};
+use std::collections::BTreeMap;
+
+/// The machine's state: session number to user and held set.
+pub type Sessions = BTreeMap<u32, (u32, Set)>;
+
+#[derive(Debug, Clone, Copy, PartialEq, Eq)]
+pub enum Call {
+    Open {
+        user: u32,
+        session: u32,
+        set: Set,
+    },
+    Add {
+        user: u32,
+        session: u32,
+        set: Set,
+    },
+    Drop {
+        user: u32,
+        session: u32,
+        set: Set,
+    },
+    Close {
+        user: u32,
+        session: u32,
+    },
+    Request {
+        session: u32,
+        action: u32,
+        object: u32,
+    },
+}
+
+#[derive(Debug, Clone, Copy, PartialEq, Eq)]
+pub enum Answer {
+    Done,
+    Granted,
+    Denied,
+    Refused(Refusal),
+}
+
+impl Call {
+    fn session(&self) -> u32 {
+        match *self {
+            Call::Open { session, .. }
+            | Call::Add { session, .. }
+            | Call::Drop { session, .. }
+            | Call::Close { session, .. }
+            | Call::Request { session, .. } => session,
+        }
+    }
+
+    fn user(&self) -> Option<u32> {
+        match *self {
+            Call::Open { user, .. }
+            | Call::Add { user, .. }
+            | Call::Drop { user, .. }
+            | Call::Close { user, .. } => Some(user),
+            Call::Request { .. } => None,
+        }
+    }
+
+    fn set(&self) -> Option<Set> {
+        match *self {
+            Call::Open { set, .. } | Call::Add { set, .. } | Call::Drop { set, .. } => Some(set),
+            Call::Close { .. } | Call::Request { .. } => None,
+        }
+    }
+
+    fn is_open(&self) -> bool {
+        matches!(self, Call::Open { .. })
+    }
+}
+
+/// Every refusal that applies to a call.
+fn refusals(policy: &Policy, sessions: &Sessions, call: &Call) -> Vec<Refusal> {
+    let entry = sessions.get(&call.session());
+    let (action, object) = match *call {
+        Call::Request { action, object, .. } => (Some(action), Some(object)),
+        _ => (None, None),
+    };
+    let assigned = call.user().and_then(|user| policy.assigned(user));
+    let another = entry.is_some_and(|entry| call.user().is_some_and(|user| user != entry.0));
+    // Reach lies among the user values, so a value the side lacks is out of it.
+    let within = reach(policy, assigned.unwrap_or(0));
+    let conditions = [
+        (12, action.is_some_and(|action| action >= ACTIONS)),
+        (13, call.session() > 31),
+        (14, call.user().is_some() && assigned.is_none()),
+        (
+            15,
+            object.is_some_and(|object| policy.object_set(object).is_none()),
+        ),
+        (16, call.is_open() && entry.is_some()),
+        (17, !call.is_open() && entry.is_none()),
+        (18, !call.is_open() && another),
+        (19, call.set().is_some_and(|set| set & !within != 0)),
+    ];
+    conditions
+        .iter()
+        .filter(|condition| condition.1)
+        .map(|condition| condition.0)
+        .collect()
+}
+
+/// One call: the map after it and the answer. A refused call keeps the map.
+pub fn step(policy: &Policy, sessions: &Sessions, call: &Call) -> (Sessions, Answer) {
+    let mut after = sessions.clone();
+    if let Some(&lowest) = refusals(policy, sessions, call).iter().min() {
+        return (after, Answer::Refused(lowest));
+    }
+    let held = sessions.get(&call.session()).map_or(0, |entry| entry.1);
+    match *call {
+        Call::Open { user, session, set } => {
+            after.insert(session, (user, set));
+        }
+        Call::Add { user, session, set } => {
+            after.insert(session, (user, held | set));
+        }
+        Call::Drop { user, session, set } => {
+            after.insert(session, (user, held & !set));
+        }
+        Call::Close { session, .. } => {
+            after.remove(&session);
+        }
+        Call::Request { action, object, .. } => {
+            return (after, decision(policy, held, action, object));
+        }
+    }
+    (after, Answer::Done)
+}
+
+fn decision(policy: &Policy, held: Set, action: u32, object: u32) -> Answer {
+    let object_set = policy.object_set(object).expect("a registered object");
+    match Formulas::of(policy).grants(action, held, object_set) {
+        true => Answer::Granted,
+        false => Answer::Denied,
+    }
+}
+
+/// A list of calls on a fresh machine: their answers and the map after them.
+pub fn run(policy: &Policy, calls: &[Call]) -> (Vec<Answer>, Sessions) {
+    let mut sessions = Sessions::new();
+    let mut answers = Vec::new();
+    for call in calls {
+        let (after, answer) = step(policy, &sessions, call);
+        sessions = after;
+        answers.push(answer);
+    }
+    (answers, sessions)
+}
+
+#[cfg(test)]
+mod tests {
+    use super::*;
+    use crate::text::read;
+
+    const TEXT: &[u8] = b"policy,1\nuattr,2\nuattr,1\noattr,1\nusen,1,0\nuser,0,2\nuser,5,4\n\
+        object,3,1\nrule,0,u0,o0,a\nend\n";
+
+    fn open(user: u32, session: u32, set: Set) -> Call {
+        Call::Open { user, session, set }
+    }
+
+    fn add(user: u32, session: u32, set: Set) -> Call {
+        Call::Add { user, session, set }
+    }
+
+    fn request(session: u32, action: u32, object: u32) -> Call {
+        Call::Request {
+            session,
+            action,
+            object,
+        }
+    }
+
+    fn answers(calls: &[Call]) -> Vec<Answer> {
+        run(&read(TEXT).expect("accepted"), calls).0
+    }
+
+    fn last(calls: &[Call]) -> Answer {
+        *answers(calls).last().expect("an answer")
+    }
+
+    #[test]
+    fn the_five_calls_do_what_they_say() {
+        let policy = read(TEXT).expect("accepted");
+        let calls = [
+            open(0, 31, 0),
+            request(31, 0, 3),
+            add(0, 31, 3),
+            request(31, 0, 3),
+            Call::Drop {
+                user: 0,
+                session: 31,
+                set: 1,
+            },
+            open(5, 0, 4),
+            open(0, 1, 1),
+            Call::Close {
+                user: 0,
+                session: 1,
+            },
+        ];
+        let (answers, sessions) = run(&policy, &calls);
+        let done = Answer::Done;
+        let first = [
+            done,
+            Answer::Denied,
+            done,
+            Answer::Granted,
+            done,
+            done,
+            done,
+            done,
+        ];
+        assert_eq!(answers, first);
+        assert_eq!(sessions, Sessions::from([(31, (0, 2)), (0, (5, 4))]));
+    }
+
+    #[test]
+    fn a_closed_number_may_be_opened_again() {
+        let close = Call::Close {
+            user: 0,
+            session: 4,
+        };
+        assert_eq!(last(&[open(0, 4, 1), close, open(5, 4, 4)]), Answer::Done);
+    }
+
+    #[test]
+    fn refusals_of_requests() {
+        assert_eq!(last(&[request(32, 8, 9)]), Answer::Refused(12));
+        assert_eq!(last(&[request(32, 7, 9)]), Answer::Refused(13));
+        assert_eq!(last(&[request(31, 7, 9)]), Answer::Refused(15));
+        assert_eq!(last(&[request(31, 7, 3)]), Answer::Refused(17));
+    }
+
+    #[test]
+    fn refusals_of_open() {
+        assert_eq!(last(&[open(1, 32, 8)]), Answer::Refused(13));
+        assert_eq!(last(&[open(1, 31, 8)]), Answer::Refused(14));
+        assert_eq!(last(&[open(0, 7, 0), open(5, 7, 8)]), Answer::Refused(16));
+        assert_eq!(last(&[open(0, 7, 4)]), Answer::Refused(19));
+        assert_eq!(last(&[open(5, 7, 8)]), Answer::Refused(19));
+    }
+
+    #[test]
+    fn refusals_of_add_drop_and_close() {
+        let opened = open(0, 2, 2);
+        let calls: [fn(u32, u32, Set) -> Call; 3] = [
+            add,
+            |user, session, set| Call::Drop { user, session, set },
+            |user, session, _| Call::Close { user, session },
+        ];
+        for call in calls {
+            assert_eq!(last(&[opened, call(1, 32, 8)]), Answer::Refused(13));
+            assert_eq!(last(&[opened, call(1, 2, 8)]), Answer::Refused(14));
+            assert_eq!(last(&[opened, call(0, 3, 8)]), Answer::Refused(17));
+            assert_eq!(last(&[opened, call(5, 2, 8)]), Answer::Refused(18));
+        }
+        for call in &calls[..2] {
+            assert_eq!(last(&[opened, call(0, 2, 4)]), Answer::Refused(19));
+            assert_eq!(last(&[opened, call(0, 2, 8)]), Answer::Refused(19));
+            assert_eq!(last(&[opened, call(0, 2, 1)]), Answer::Done);
+        }
+    }
+
+    #[test]
+    fn a_refused_call_keeps_the_map() {
+        let policy = read(TEXT).expect("accepted");
+        let (before, _) = step(&policy, &Sessions::new(), &open(0, 2, 2));
+        let (after, answer) = step(&policy, &before, &add(5, 2, 4));
+        assert_eq!((after, answer), (before, Answer::Refused(18)));
+    }
+}

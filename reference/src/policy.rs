@@ -1,0 +1,126 @@
+//! A policy as plain vectors, in text order.
+
+/// A set of values: the sum of 2^k over the values k in it.
+pub type Set = u32;
+
+/// The number of a refusal, 1 to 20.
+pub type Refusal = u32;
+
+/// Actions are numbered 0 to 7.
+pub const ACTIONS: u32 = 8;
+
+/// A word of a formula.
+#[derive(Debug, Clone, Copy, PartialEq, Eq)]
+pub enum Word {
+    True,
+    False,
+    /// The user set holds the value or a senior of it.
+    User(u32),
+    /// The object set holds the value or a junior of it.
+    Object(u32),
+    /// `dIJ`: each place held in object attribute J is held in user attribute I.
+    Within(u32, u32),
+    /// `qIJ`: user attribute I and object attribute J hold the same places.
+    Same(u32, u32),
+    Not,
+    And,
+    Or,
+}
+
+/// The formula of one action.
+#[derive(Debug, Clone, PartialEq, Eq)]
+pub struct Rule {
+    pub action: u32,
+    pub words: Vec<Word>,
+}
+
+#[derive(Debug, Clone, Default, PartialEq, Eq)]
+pub struct Policy {
+    pub user_widths: Vec<u32>,
+    pub object_widths: Vec<u32>,
+    /// Direct lines (senior, junior).
+    pub user_seniority: Vec<(u32, u32)>,
+    pub object_seniority: Vec<(u32, u32)>,
+    /// Number and assigned set.
+    pub users: Vec<(u32, Set)>,
+    /// Number and set.
+    pub objects: Vec<(u32, Set)>,
+    pub rules: Vec<Rule>,
+}
+
+impl Policy {
+    /// U: how many user values there are.
+    pub fn user_values(&self) -> u32 {
+        self.user_widths.iter().sum()
+    }
+
+    /// O: how many object values there are.
+    pub fn object_values(&self) -> u32 {
+        self.object_widths.iter().sum()
+    }
+
+    /// 2^U: how many user sets there are.
+    pub fn user_sets(&self) -> u32 {
+        1 << self.user_values()
+    }
+
+    /// 2^O: how many object sets there are.
+    pub fn object_sets(&self) -> u32 {
+        1 << self.object_values()
+    }
+
+    /// The set assigned to a user, if the user is registered.
+    pub fn assigned(&self, user: u32) -> Option<Set> {
+        find(&self.users, user)
+    }
+
+    /// The set of an object, if the object is registered.
+    pub fn object_set(&self, object: u32) -> Option<Set> {
+        find(&self.objects, object)
+    }
+
+    /// The formula of an action; one without a rule is denied, so it is false.
+    pub fn formula(&self, action: u32) -> &[Word] {
+        match self.rules.iter().find(|rule| rule.action == action) {
+            Some(rule) => &rule.words,
+            None => &[Word::False],
+        }
+    }
+}
+
+fn find(entries: &[(u32, Set)], number: u32) -> Option<Set> {
+    entries
+        .iter()
+        .find(|entry| entry.0 == number)
+        .map(|entry| entry.1)
+}
+
+/// The first value of an attribute: values run on through all attributes.
+pub fn first_value(widths: &[u32], attribute: u32) -> u32 {
+    widths.iter().take(attribute as usize).sum()
+}
+
+/// The attribute that a value belongs to, if there is such a value.
+pub fn attribute_of(widths: &[u32], value: u32) -> Option<u32> {
+    (0..widths.len() as u32).find(|&a| value < first_value(widths, a + 1))
+}
+
+#[cfg(test)]
+mod tests {
+    use super::*;
+
+    #[test]
+    fn values_run_on_through_the_attributes() {
+        let widths = [2, 1, 3];
+        assert_eq!(first_value(&widths, 0), 0);
+        assert_eq!(first_value(&widths, 2), 3);
+        let attributes: Vec<_> = (0..7).map(|v| attribute_of(&widths, v)).collect();
+        let expected = [Some(0), Some(0), Some(1), Some(2), Some(2), Some(2), None];
+        assert_eq!(attributes, expected);
+    }
+
+    #[test]
+    fn an_action_without_a_rule_is_false() {
+        assert_eq!(Policy::default().formula(5), [Word::False]);
+    }
+}

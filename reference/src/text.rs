@@ -1,0 +1,503 @@
+//! Reading a policy text, with refusals 1 to 10 and their lines, and writing.
+//!
+//! The checks of one line stand in the order of their numbers, so that the
+//! first one met is the lowest that applies.
+
+use crate::policy::{attribute_of, Policy, Refusal, Rule, Word};
+
+/// A longer text gets refusal 1.
+pub const LONGEST_TEXT: usize = 8192;
+
+/// The reader's refusal, with the line it is about.
+#[derive(Debug, Clone, Copy, PartialEq, Eq)]
+pub struct Refused {
+    pub refusal: Refusal,
+    pub line: usize,
+}
+
+/// The kinds of line, in the order in which a text has them.
+#[derive(Debug, Clone, Copy, PartialEq, Eq, PartialOrd, Ord)]
+enum Kind {
+    Policy,
+    UserAttribute,
+    ObjectAttribute,
+    UserSeniority,
+    ObjectSeniority,
+    User,
+    Object,
+    Rule,
+    End,
+}
+
+const KINDS: [(&str, Kind); 9] = [
+    ("policy", Kind::Policy),
+    ("uattr", Kind::UserAttribute),
+    ("oattr", Kind::ObjectAttribute),
+    ("usen", Kind::UserSeniority),
+    ("osen", Kind::ObjectSeniority),
+    ("user", Kind::User),
+    ("object", Kind::Object),
+    ("rule", Kind::Rule),
+    ("end", Kind::End),
+];
+
+/// A line in the right form, before its numbers are looked at.
+struct Entry {
+    kind: Kind,
+    numbers: Vec<u32>,
+    words: Vec<Word>,
+}
+
+/// The policy of a text that breaks none of 1 to 10.
+pub fn read(text: &[u8]) -> Result<Policy, Refused> {
+    if text.len() > LONGEST_TEXT {
+        return Err(Refused {
+            refusal: 1,
+            line: 0,
+        });
+    }
+    let mut policy = Policy::default();
+    let mut before = None;
+    let mut count = 0;
+    for line in text.split_inclusive(|&byte| byte == b'\n') {
+        let refused = |refusal| Refused {
+            refusal,
+            line: count,
+        };
+        let entry = read_line(&policy, before, line).map_err(refused)?;
+        before = Some(entry.kind);
+        policy = with(policy, entry);
+        count += 1;
+    }
+    if before != Some(Kind::End) {
+        return Err(Refused {
+            refusal: 10,
+            line: count,
+        });
+    }
+    Ok(policy)
+}
+
+/// Checks 2 to 9 of one line, given the lines before it.
+fn read_line(policy: &Policy, before: Option<Kind>, line: &[u8]) -> Result<Entry, Refusal> {
+    let line = line.strip_suffix(b"\n").ok_or(2u32)?;
+    let fields: Vec<&[u8]> = line.split(|&byte| byte == b',').collect();
+    let kind = kind(fields[0])
+        .filter(|&kind| may_follow(before, kind))
+        .ok_or(3u32)?;
+    if !count_fits(kind, fields.len()) {
+        return Err(4);
+    }
+    let entry = entry(kind, &fields[1..]).ok_or(5u32)?;
+    if !in_range(policy, &entry) {
+        return Err(6);
+    }
+    if !rises(policy, &entry) {
+        return Err(7);
+    }
+    if !entry.words.iter().all(|word| widths_equal(policy, word)) {
+        return Err(8);
+    }
+    if kind == Kind::Rule && !leaves_one(&entry.words) {
+        return Err(9);
+    }
+    Ok(entry)
+}
+
+fn kind(field: &[u8]) -> Option<Kind> {
+    KINDS
+        .iter()
+        .find(|(word, _)| word.as_bytes() == field)
+        .map(|&(_, kind)| kind)
+}
+
+fn may_follow(before: Option<Kind>, kind: Kind) -> bool {
+    match before {
+        None => kind == Kind::Policy,
+        Some(Kind::Policy) => kind == Kind::UserAttribute,
+        Some(Kind::UserAttribute) => kind == Kind::UserAttribute || kind == Kind::ObjectAttribute,
+        Some(Kind::End) => false,
+        Some(before) => kind >= before,
+    }
+}
+
+/// The count includes the first field; a rule has 1 to 32 words after its action.
+fn count_fits(kind: Kind, count: usize) -> bool {
+    match kind {
+        Kind::End => count == 1,
+        Kind::Policy | Kind::UserAttribute | Kind::ObjectAttribute => count == 2,
+        Kind::UserSeniority | Kind::ObjectSeniority | Kind::User | Kind::Object => count == 3,
+        Kind::Rule => (3..=34).contains(&count),
+    }
+}
+
+fn entry(kind: Kind, fields: &[&[u8]]) -> Option<Entry> {
+    let numbers_end = if kind == Kind::Rule { 1 } else { fields.len() };
+    let (numbers, words) = fields.split_at(numbers_end);
+    Some(Entry {
+        kind,
+        numbers: numbers
+            .iter()
+            .map(|field| number(field))
+            .collect::<Option<_>>()?,
+        words: words
+            .iter()
+            .map(|field| word(field))
+            .collect::<Option<_>>()?,
+    })
+}
+
+/// One to five digits with no needless leading zero.
+fn number(field: &[u8]) -> Option<u32> {
+    let short = (1..=5).contains(&field.len());
+    let needless_zero = field.len() > 1 && field[0] == b'0';
+    if !short || needless_zero {
+        return None;
+    }
+    field
+        .iter()
+        .try_fold(0, |value, &byte| Some(value * 10 + digit(byte)?))
+}
+
+fn digit(byte: u8) -> Option<u32> {
+    byte.is_ascii_digit().then(|| u32::from(byte - b'0'))
+}
+
+fn word(field: &[u8]) -> Option<Word> {
+    match *field {
+        [b't'] => Some(Word::True),
+        [b'f'] => Some(Word::False),
+        [b'n'] => Some(Word::Not),
+        [b'a'] => Some(Word::And),
+        [b'r'] => Some(Word::Or),
+        [b'u', v] => Some(Word::User(digit(v)?)),
+        [b'o', v] => Some(Word::Object(digit(v)?)),
+        [b'd', i, j] => Some(Word::Within(digit(i)?, digit(j)?)),
+        [b'q', i, j] => Some(Word::Same(digit(i)?, digit(j)?)),
+        _ => None,
+    }
+}
+
+fn in_range(policy: &Policy, entry: &Entry) -> bool {
+    let numbers = &entry.numbers;
+    match entry.kind {
+        Kind::Policy => numbers[0] == 1,
+        Kind::UserAttribute => width_fits(&policy.user_widths, numbers[0]),
+        Kind::ObjectAttribute => width_fits(&policy.object_widths, numbers[0]),
+        Kind::UserSeniority => pair_stands(&policy.user_widths, numbers[0], numbers[1]),
+        Kind::ObjectSeniority => pair_stands(&policy.object_widths, numbers[0], numbers[1]),
+        Kind::User => numbers[0] <= 31 && numbers[1] < policy.user_sets(),
+        Kind::Object => numbers[0] <= 63 && numbers[1] < policy.object_sets(),
+        Kind::Rule => numbers[0] <= 7 && entry.words.iter().all(|word| word_in_range(policy, word)),
+        Kind::End => true,
+    }
+}
+
+/// A width is 1 to 7, and so is the sum of all of its side.
+fn width_fits(widths: &[u32], width: u32) -> bool {
+    (1..=7).contains(&width) && widths.iter().sum::<u32>() + width <= 7
+}
+
+/// Both are values, of the same attribute, and the senior is the higher one.
+fn pair_stands(widths: &[u32], senior: u32, junior: u32) -> bool {
+    let attribute = attribute_of(widths, senior);
+    attribute.is_some() && attribute == attribute_of(widths, junior) && senior > junior
+}
+
+fn word_in_range(policy: &Policy, word: &Word) -> bool {
+    match *word {
+        Word::User(value) => value < policy.user_values(),
+        Word::Object(value) => value < policy.object_values(),
+        Word::Within(i, j) | Word::Same(i, j) => {
+            (i as usize) < policy.user_widths.len() && (j as usize) < policy.object_widths.len()
+        }
+        _ => true,
+    }
+}
+
+/// Lines of one kind stand together, so the last of the kind is the last kept.
+fn rises(policy: &Policy, entry: &Entry) -> bool {
+    let numbers = &entry.numbers;
+    match entry.kind {
+        Kind::UserSeniority => above(policy.user_seniority.last(), (numbers[0], numbers[1])),
+        Kind::ObjectSeniority => above(policy.object_seniority.last(), (numbers[0], numbers[1])),
+        Kind::User => above(policy.users.last().map(|user| &user.0), numbers[0]),
+        Kind::Object => above(policy.objects.last().map(|object| &object.0), numbers[0]),
+        Kind::Rule => above(policy.rules.last().map(|rule| &rule.action), numbers[0]),
+        _ => true,
+    }
+}
+
+fn above<T: Ord>(last: Option<&T>, next: T) -> bool {
+    last.is_none_or(|last| next > *last)
+}
+
+fn widths_equal(policy: &Policy, word: &Word) -> bool {
+    match *word {
+        Word::Within(i, j) | Word::Same(i, j) => {
+            policy.user_widths[i as usize] == policy.object_widths[j as usize]
+        }
+        _ => true,
+    }
+}
+
+/// Every word finds its truth values, and exactly one remains.
+fn leaves_one(words: &[Word]) -> bool {
+    let mut depth = 0;
+    for word in words {
+        let (takes, gives) = match word {
+            Word::Not => (1, 1),
+            Word::And | Word::Or => (2, 1),
+            _ => (0, 1),
+        };
+        if depth < takes {
+            return false;
+        }
+        depth = depth - takes + gives;
+    }
+    depth == 1
+}
+
+fn with(mut policy: Policy, entry: Entry) -> Policy {
+    let numbers = entry.numbers;
+    match entry.kind {
+        Kind::Policy | Kind::End => {}
+        Kind::UserAttribute => policy.user_widths.push(numbers[0]),
+        Kind::ObjectAttribute => policy.object_widths.push(numbers[0]),
+        Kind::UserSeniority => policy.user_seniority.push((numbers[0], numbers[1])),
+        Kind::ObjectSeniority => policy.object_seniority.push((numbers[0], numbers[1])),
+        Kind::User => policy.users.push((numbers[0], numbers[1])),
+        Kind::Object => policy.objects.push((numbers[0], numbers[1])),
+        Kind::Rule => policy.rules.push(Rule {
+            action: numbers[0],
+            words: entry.words,
+        }),
+    }
+    policy
+}
+
+/// The text of a policy.
+pub fn write(policy: &Policy) -> Vec<u8> {
+    let mut lines = vec!["policy,1".to_string()];
+    lines.extend(
+        policy
+            .user_widths
+            .iter()
+            .map(|width| format!("uattr,{width}")),
+    );
+    lines.extend(
+        policy
+            .object_widths
+            .iter()
+            .map(|width| format!("oattr,{width}")),
+    );
+    lines.extend(pairs("usen", &policy.user_seniority));
+    lines.extend(pairs("osen", &policy.object_seniority));
+    lines.extend(pairs("user", &policy.users));
+    lines.extend(pairs("object", &policy.objects));
+    lines.extend(policy.rules.iter().map(rule_line));
+    lines.push("end".to_string());
+    lines
+        .iter()
+        .flat_map(|line| format!("{line}\n").into_bytes())
+        .collect()
+}
+
+fn pairs<'a>(kind: &'a str, pairs: &'a [(u32, u32)]) -> impl Iterator<Item = String> + 'a {
+    pairs
+        .iter()
+        .map(move |(first, second)| format!("{kind},{first},{second}"))
+}
+
+fn rule_line(rule: &Rule) -> String {
+    let words: Vec<String> = rule.words.iter().map(word_text).collect();
+    format!("rule,{},{}", rule.action, words.join(","))
+}
+
+fn word_text(word: &Word) -> String {
+    match word {
+        Word::True => "t".to_string(),
+        Word::False => "f".to_string(),
+        Word::User(value) => format!("u{value}"),
+        Word::Object(value) => format!("o{value}"),
+        Word::Within(i, j) => format!("d{i}{j}"),
+        Word::Same(i, j) => format!("q{i}{j}"),
+        Word::Not => "n".to_string(),
+        Word::And => "a".to_string(),
+        Word::Or => "r".to_string(),
+    }
+}
+
+#[cfg(test)]
+mod tests {
+    use super::*;
+
+    const HEAD: &str = "policy,1\nuattr,2\nuattr,1\noattr,2\noattr,1\n";
+
+    fn refused(text: &str) -> (Refusal, usize) {
+        let refused = read(text.as_bytes()).expect_err("refused");
+        (refused.refusal, refused.line)
+    }
+
+    /// The refusal of one line after a head of five.
+    fn line(line: &str) -> Option<Refusal> {
+        let answer = read(format!("{HEAD}{line}\nend\n").as_bytes());
+        answer.err().map(|refused| {
+            assert_eq!(refused.line, 5);
+            refused.refusal
+        })
+    }
+
+    #[test]
+    fn refusal_1_goes_before_all() {
+        let text = "x".repeat(LONGEST_TEXT);
+        assert_eq!(refused(&text), (2, 0));
+        assert_eq!(refused(&(text + "\n")), (1, 0));
+    }
+
+    #[test]
+    fn refusal_2_goes_before_3() {
+        assert_eq!(refused("policy,1"), (2, 0));
+        assert_eq!(refused("policy,1\nnone"), (2, 1));
+        assert_eq!(refused(&format!("{HEAD}end")), (2, 5));
+        assert_eq!(refused(&format!("{HEAD}end\nend")), (2, 6));
+    }
+
+    #[test]
+    fn refusal_3_by_every_pair_of_kinds() {
+        let followers = [
+            ("policy", "uattr"),
+            ("uattr", "uattr oattr"),
+            ("oattr", "oattr usen osen user object rule end"),
+            ("usen", "usen osen user object rule end"),
+            ("osen", "osen user object rule end"),
+            ("user", "user object rule end"),
+            ("object", "object rule end"),
+            ("rule", "rule end"),
+            ("end", ""),
+        ];
+        for (before, allowed) in followers {
+            let before = kind(before.as_bytes());
+            for (next, next_kind) in KINDS {
+                let expected = allowed.split(' ').any(|word| word == next);
+                assert_eq!(may_follow(before, next_kind), expected, "{before:?} {next}");
+            }
+        }
+        for (word, first) in KINDS {
+            assert_eq!(may_follow(None, first), word == "policy");
+        }
+    }
+
+    #[test]
+    fn refusal_3_for_what_is_no_word() {
+        assert_eq!(refused("\n"), (3, 0));
+        assert_eq!(refused("policy,1\n\n"), (3, 1));
+        for word in ["", "users,0,0", "User,0,0", " user,0,0", "use,0,0", "0,0"] {
+            assert_eq!(line(word), Some(3), "{word}");
+        }
+    }
+
+    #[test]
+    fn refusal_4_by_the_count_of_fields() {
+        assert_eq!(refused("policy\n"), (4, 0));
+        assert_eq!(refused("policy,1,1\n"), (4, 0));
+        for text in [
+            "usen,1",
+            "usen,1,0,0",
+            "user,0",
+            "object,0",
+            "rule",
+            "rule,0",
+            "end,",
+        ] {
+            assert_eq!(line(text), Some(4), "{text}");
+        }
+    }
+
+    #[test]
+    fn refusal_5_by_the_form() {
+        for field in ["", "01", "00", "123456", "-1", "+1", "a", " 1", "1 ", "1\r"] {
+            assert_eq!(line(&format!("user,{field},0")), Some(5), "{field}");
+            assert_eq!(line(&format!("user,0,{field}")), Some(5), "{field}");
+            assert_eq!(line(&format!("rule,{field},t")), Some(5), "{field}");
+        }
+        for word in [
+            "", "x", "u", "u00", "ua", "o", "d0", "d000", "q0", "q0a", "tt", "T",
+        ] {
+            assert_eq!(line(&format!("rule,0,{word}")), Some(5), "{word}");
+        }
+        assert_eq!(line("rule,9,x"), Some(5));
+    }
+
+    #[test]
+    fn refusal_6_by_the_range() {
+        for text in ["policy,0\n", "policy,2\n", "policy,99999\n"] {
+            assert_eq!(refused(text), (6, 0));
+        }
+        assert_eq!(refused("policy,1\nuattr,0\n"), (6, 1));
+        assert_eq!(refused("policy,1\nuattr,8\n"), (6, 1));
+        assert_eq!(refused("policy,1\nuattr,5\nuattr,3\n"), (6, 2));
+        for text in ["usen,0,1", "usen,2,1", "usen,3,2", "osen,1,1", "osen,3,0"] {
+            assert_eq!(line(text), Some(6), "{text}");
+        }
+        for text in [
+            "user,32,0",
+            "user,0,8",
+            "object,64,0",
+            "object,0,8",
+            "rule,8,t",
+        ] {
+            assert_eq!(line(text), Some(6), "{text}");
+        }
+        for word in ["u3", "o3", "d20", "d02", "q20", "q02"] {
+            assert_eq!(line(&format!("rule,0,{word}")), Some(6), "{word}");
+        }
+    }
+
+    #[test]
+    fn refusal_7_after_6_and_before_8() {
+        assert_eq!(refused(&format!("{HEAD}usen,1,0\nusen,1,0\n")), (7, 6));
+        assert_eq!(refused(&format!("{HEAD}osen,1,0\nosen,1,0\n")), (7, 6));
+        assert_eq!(refused(&format!("{HEAD}user,2,0\nuser,1,0\n")), (7, 6));
+        assert_eq!(refused(&format!("{HEAD}user,2,0\nuser,1,8\n")), (6, 6));
+        assert_eq!(refused(&format!("{HEAD}object,2,0\nobject,2,1\n")), (7, 6));
+        assert_eq!(refused(&format!("{HEAD}rule,2,t\nrule,2,d01\n")), (7, 6));
+    }
+
+    #[test]
+    fn pairs_rise_by_the_senior_first() {
+        let head = "policy,1\nuattr,3\noattr,1\n";
+        assert!(read(format!("{head}usen,1,0\nusen,2,0\nusen,2,1\nend\n").as_bytes()).is_ok());
+        assert_eq!(refused(&format!("{head}usen,2,1\nusen,2,0\n")), (7, 4));
+        assert_eq!(refused(&format!("{head}usen,2,0\nusen,1,0\n")), (7, 4));
+    }
+
+    #[test]
+    fn refusals_8_and_9_by_the_words() {
+        assert_eq!(line("rule,0,d01"), Some(8));
+        assert_eq!(line("rule,0,q10,a"), Some(8));
+        assert_eq!(line("rule,0,q01,u3"), Some(6));
+        for words in ["n", "a", "t,a", "t,t", "t,r,t", "n,t", "t,f,u0,a"] {
+            assert_eq!(line(&format!("rule,0,{words}")), Some(9), "{words}");
+        }
+        for words in ["t", "t,n", "d00,q11,a", "u2,o2,f,r,a,n"] {
+            assert_eq!(line(&format!("rule,0,{words}")), None, "{words}");
+        }
+    }
+
+    #[test]
+    fn refusal_10_at_the_count_of_lines() {
+        assert_eq!(refused("policy,1\n"), (10, 1));
+        assert_eq!(refused(HEAD), (10, 5));
+    }
+
+    #[test]
+    fn an_accepted_text_is_written_again() {
+        let text = format!(
+            "{HEAD}usen,1,0\nosen,1,0\nuser,0,7\nuser,31,0\nobject,63,5\n\
+             rule,0,t,f,u0,o2,d00,q11,n,a,r,a,r,a\nrule,7,f\nend\n"
+        );
+        let policy = read(text.as_bytes()).expect("accepted");
+        assert_eq!(write(&policy), text.as_bytes());
+    }
+}

@@ -1,0 +1,253 @@
+//! The examples of the requirement, in its order.
+
+use reference::formula::{decide, is_senior};
+use reference::labels::compile;
+use reference::lister::list;
+use reference::machine::{run, Answer, Call, Sessions};
+use reference::policy::{Policy, Set};
+use reference::text::{read, write};
+use reference::tuples::{decide_by_tuples, tuples};
+
+const TEXT: &str = "policy,1
+uattr,2
+oattr,1
+usen,1,0
+user,0,2
+object,0,1
+rule,0,u0,o0,a
+rule,3,u1,n
+end
+";
+
+const LISTING: &str = "labels,3,2
+action,0,3
+tuple,0,1,1
+tuple,0,2,1
+tuple,0,3,1
+action,3,4
+tuple,3,0,0
+tuple,3,0,1
+tuple,3,1,0
+tuple,3,1,1
+";
+
+fn policy(text: &str) -> Policy {
+    read(text.as_bytes()).expect("accepted")
+}
+
+/// Refusal and line, or 0 and 0 for an accepted text.
+fn answer(text: &str) -> (u32, usize) {
+    read(text.as_bytes()).map_or_else(|refused| (refused.refusal, refused.line), |_| (0, 0))
+}
+
+fn answers(calls: &[Call]) -> Vec<Answer> {
+    run(&policy(TEXT), calls).0
+}
+
+fn open(set: Set) -> Call {
+    Call::Open {
+        user: 0,
+        session: 0,
+        set,
+    }
+}
+
+fn add(set: Set) -> Call {
+    Call::Add {
+        user: 0,
+        session: 0,
+        set,
+    }
+}
+
+fn drop_values(set: Set) -> Call {
+    Call::Drop {
+        user: 0,
+        session: 0,
+        set,
+    }
+}
+
+fn request(action: u32) -> Call {
+    Call::Request {
+        session: 0,
+        action,
+        object: 0,
+    }
+}
+
+// One text through the lister.
+
+#[test]
+fn the_lister_writes_the_listing() {
+    assert_eq!(list(TEXT.as_bytes()), LISTING);
+}
+
+#[test]
+fn the_lister_writes_only_the_refusal() {
+    assert_eq!(list(b""), "refused,10,0\n");
+    assert_eq!(list(b"policy,1\nuattr,0\n"), "refused,6,1\n");
+    assert_eq!(list(&[b'\n'; 8193]), "refused,1,0\n");
+}
+
+#[test]
+fn the_text_is_written_again() {
+    assert_eq!(write(&policy(TEXT)), TEXT.as_bytes());
+}
+
+#[test]
+fn labels_and_table() {
+    let labelling = compile(&policy(TEXT));
+    assert_eq!(labelling.user_labels, [0, 1, 2, 2]);
+    assert_eq!(labelling.object_labels, [0, 1]);
+    assert_eq!(labelling.table, [8, 8, 8, 9, 0, 1]);
+    assert_eq!((labelling.user_count, labelling.object_count), (3, 2));
+}
+
+#[test]
+fn the_two_tuple_lists() {
+    // Stored as user set × 2 + object set.
+    assert_eq!(tuples(&policy(TEXT), 0), Ok(vec![3, 5, 7]));
+    assert_eq!(tuples(&policy(TEXT), 3), Ok(vec![0, 1, 2, 3]));
+}
+
+#[test]
+fn user_0_opens_with_1_and_with_3() {
+    assert_eq!(answers(&[open(1)]), [Answer::Done]);
+    assert_eq!(answers(&[open(3)]), [Answer::Done]);
+}
+
+#[test]
+fn set_4_gets_19() {
+    assert_eq!(answers(&[open(4)]), [Answer::Refused(19)]);
+    assert_eq!(decide(&policy(TEXT), 0, 4, 0), Err(19));
+}
+
+#[test]
+fn in_a_session_a_drop_of_4_gets_19() {
+    for set in [1, 3] {
+        let (answers, sessions) = run(&policy(TEXT), &[open(set), drop_values(4)]);
+        assert_eq!(answers, [Answer::Done, Answer::Refused(19)]);
+        assert_eq!(sessions, Sessions::from([(0, (0, set))]));
+    }
+}
+
+#[test]
+fn in_a_session_action_1_is_denied_and_8_gets_12() {
+    for set in [1, 3] {
+        let last = [Answer::Denied, Answer::Refused(12)];
+        assert_eq!(answers(&[open(set), request(1), request(8)])[1..], last);
+    }
+}
+
+#[test]
+fn with_no_rule_lines_there_is_one_label_each() {
+    let text: String = TEXT
+        .split_inclusive('\n')
+        .filter(|l| !l.starts_with("rule"))
+        .collect();
+    let labelling = compile(&policy(&text));
+    assert_eq!((labelling.user_count, labelling.object_count), (1, 1));
+    assert_eq!(labelling.table, [0]);
+    assert_eq!(list(text.as_bytes()), "labels,1,1\n");
+}
+
+// Edges.
+
+#[test]
+fn widths_3_and_4_read_and_4_and_4_get_6() {
+    assert_eq!(answer("policy,1\nuattr,3\nuattr,4\noattr,1\nend\n"), (0, 0));
+    assert_eq!(answer("policy,1\nuattr,4\nuattr,4\noattr,1\nend\n"), (6, 2));
+    assert_eq!(answer("policy,1\nuattr,1\noattr,3\noattr,4\nend\n"), (0, 0));
+    assert_eq!(answer("policy,1\nuattr,1\noattr,4\noattr,4\nend\n"), (6, 3));
+}
+
+#[test]
+fn user_31_reads_and_32_gets_6() {
+    assert_eq!(
+        answer("policy,1\nuattr,1\noattr,1\nuser,31,0\nend\n"),
+        (0, 0)
+    );
+    assert_eq!(
+        answer("policy,1\nuattr,1\noattr,1\nuser,32,0\nend\n"),
+        (6, 3)
+    );
+}
+
+#[test]
+fn words_32_read_and_33_get_4() {
+    let head = "policy,1\nuattr,1\noattr,1\nrule,0,t";
+    assert_eq!(answer(&format!("{head}{}\nend\n", ",n".repeat(31))), (0, 0));
+    assert_eq!(answer(&format!("{head}{}\nend\n", ",n".repeat(32))), (4, 3));
+}
+
+#[test]
+fn an_empty_text_gets_10_at_line_0() {
+    assert_eq!(answer(""), (10, 0));
+}
+
+#[test]
+fn a_line_after_end_gets_3() {
+    assert_eq!(answer(&format!("{TEXT}end\n")), (3, 9));
+    assert_eq!(answer(&format!("{TEXT}\n")), (3, 9));
+}
+
+#[test]
+fn a_value_is_not_senior_to_itself() {
+    assert_eq!(
+        answer("policy,1\nuattr,2\noattr,1\nusen,0,0\nend\n"),
+        (6, 3)
+    );
+}
+
+#[test]
+fn a_needless_zero_gets_5() {
+    assert_eq!(answer("policy,01\nuattr,2\noattr,1\nend\n"), (5, 0));
+    assert_eq!(answer("policy,1\nuattr,01\noattr,1\nend\n"), (5, 1));
+}
+
+// Plausible and false.
+
+#[test]
+fn tuples_are_not_tried_by_subset() {
+    let policy = policy(TEXT);
+    let listing = tuples(&policy, 3).expect("listed");
+    for object_set in 0..2 {
+        let count = listing.len() as u32;
+        assert_eq!(
+            decide_by_tuples(&policy, 1, object_set, &listing, count),
+            Ok(true)
+        );
+        assert_eq!(
+            decide_by_tuples(&policy, 3, object_set, &listing, count),
+            Ok(false)
+        );
+    }
+}
+
+#[test]
+fn object_seniority_runs_the_other_way() {
+    let text = "policy,1\nuattr,1\noattr,2\nosen,1,0\nrule,0,o0\nrule,1,o1\nend\n";
+    let policy = policy(text);
+    assert!(is_senior(&policy.object_seniority, 1, 0));
+    // Value 0 is junior to 1: it stands for 1, and 1 does not stand for 0.
+    assert_eq!(decide(&policy, 1, 0, 0b01), Ok(true));
+    assert_eq!(decide(&policy, 0, 0, 0b10), Ok(false));
+}
+
+#[test]
+fn what_is_dropped_may_be_added_again() {
+    let calls = [open(3), drop_values(3), add(1), add(2), request(0)];
+    let done = Answer::Done;
+    assert_eq!(answers(&calls), [done, done, done, done, Answer::Granted]);
+}
+
+#[test]
+fn object_sets_without_an_object_tell_sets_apart() {
+    for object in ["", "object,0,0\n"] {
+        let text = format!("policy,1\nuattr,1\noattr,1\n{object}rule,0,u0,o0,a\nend\n");
+        let labelling = compile(&policy(&text));
+        assert_eq!(labelling.user_labels, [0, 1]);
+        assert_eq!(labelling.object_labels, [0, 1]);
+    }
+}
