@@ -8,3 +8,6 @@ pub mod Padded
 pub mod Same
 pub mod Snoc
 pub mod Table
+pub mod Padded
+pub mod Walk
+pub mod Places

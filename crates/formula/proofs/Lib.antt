@@ -1,1 +1,6 @@
+pub mod Attributes
+pub mod Vectors
+pub mod Stack
+pub mod Rows
+pub mod Checked
 pub mod Examples

@@ -2,7 +2,7 @@
 use mathlib.Core.Path.{_≡_, refl, sym, ap, ap₂, _∙_}
 use mathlib.Core.Bool.{Bool, true, false, not, cond, _&&_, _||_, and-true, and-false, or-false}
 use mathlib.Core.Logic.{_↔_}
-use Prim.Native.Nat.{ℕ, zero, suc, _+_, _*_, _/_, _%_, _^_, _<_, _≤_, zero-le}
+use Prim.Native.Nat.{ℕ, zero, suc, _+_, _-_, _*_, _/_, _%_, _^_, _<_, _≤_, zero-le}
 use native.Mathlib.Nat.{mod-lt, mod-eq-of-lt, div-eq-of-lt, lt-of-lt-of-le, div-add-mod', div-one, pow-suc, mul-mod-left, mul-div-cancel, one-mul}
 use native.Mathlib.Numerals.{one-add, add-one}
 use native.Mathlib.Decide.{ℕ-discrete, decLt}
@@ -10,7 +10,7 @@ use native.Mathlib.Omega.{arith}
 use lib.Arith.{lt-one}
 use lib.Bits.{bitOr, bitAnd, bitXor, or-shr, or-mod, and-shr, and-mod, xor-shr, xor-mod, or-shifted-r, or-zero-r, and-mask}
 use lib.Dec.{eqb, ltb, lit<, eqb·suc-zero, eqb·zero-suc, eqb·suc-suc}
-use lib.Pow.{pow-mono, pow-pos, shr-shr, shr-lt}
+use lib.Pow.{pow-mono, pow-pos, shr-shr, shr-lt, field, mod-mod-pow, low as lowPart, high as highPart}
 use borrow.Author.Tests.{eqb-true, eq-eqb, ne-eqb, lt-ltb, le-ltb}
 use Rattle.basis.proofs.Bools.{and-right}
 use Rattle.sets.specs.Set.{has, setOf, union, minus, within, mask}
@@ -40,12 +40,15 @@ module _ (op : ℕ → ℕ → ℕ) (f : Bool → Bool → Bool)
 pub has-union : (a b v : ℕ) → has (union a b) v ≡ (has a v || has b v)
 has-union = by-digit bitOr (λ x y. x || y) or-shr or-mod refl refl refl refl
 
-has-meet : (a b v : ℕ) → has (bitAnd a b) v ≡ (has a v && has b v)
+pub has-meet : (a b v : ℕ) → has (bitAnd a b) v ≡ (has a v && has b v)
 has-meet = by-digit bitAnd (λ x y. x && y) and-shr and-mod refl refl refl refl
 
-abbrev differs : Bool → Bool → Bool
+abbrev pub differs : Bool → Bool → Bool
 differs a true = not a
 differs a false = a
+
+pub has-xor : (a b v : ℕ) → has (bitXor a b) v ≡ differs (has a v) (has b v)
+has-xor = by-digit bitXor differs xor-shr xor-mod refl refl refl refl
 
 less : (a b : Bool) → differs a (a && b) ≡ (a && not b)
 less true true = refl
@@ -54,8 +57,7 @@ less false b = refl
 
 pub has-minus : (a b v : ℕ) → has (minus a b) v ≡ (has a v && not (has b v))
 has-minus a b v =
-    by-digit bitXor differs xor-shr xor-mod refl refl refl refl a (bitAnd a b) v
-    ∙ ap (differs (has a v)) (has-meet a b v) ∙ less (has a v) (has b v)
+    has-xor a (bitAnd a b) v ∙ ap (differs (has a v)) (has-meet a b v) ∙ less (has a v) (has b v)
 
 -- nothing at or above a bound
 pub has-none : (n s v : ℕ) → s < 2 ^ n → n ≤ v → has s v ≡ false
@@ -76,6 +78,27 @@ has-one (suc n) zero =
 has-one (suc n) (suc v) =
     has-half (2 ^ suc n) v ∙ ap (λ (x : ℕ). has (x / 2) v) (pow-suc 2 n) ∙ ap (λ (x : ℕ). has x v) (mul-div-cancel (2 ^ n) (lit< tt))
     ∙ has-one n v ∙ sym (eqb·suc-suc v n)
+
+-- ---- the lowest n values
+
+pub has-mod : (s n v : ℕ) → v < n → has (s % 2 ^ n) v ≡ has s v
+has-mod s n v h =
+    let e : n ≡ n - suc v + 1 + v = omega arith in
+    ap (λ (x : ℕ). eqb (s % 2 ^ x / 2 ^ v % 2) 1) e
+    ∙ ap (λ (x : ℕ). eqb (x % 2) 1) (field s (n - suc v + 1) v)
+    ∙ ap (λ (x : ℕ). eqb x 1) (mod-mod-pow (s / 2 ^ v) (n - suc v) 1)
+
+-- a number of two parts has the values of its low part below n, and those of its high part from n on
+module _ (high low n v : ℕ) (fits : low < 2 ^ n) where
+  pub has-low : v < n → has (high * 2 ^ n + low) v ≡ has low v
+  has-low h = sym (has-mod (high * 2 ^ n + low) n v h) ∙ ap (λ (x : ℕ). has x v) (lowPart high n fits)
+
+  pub has-high : n ≤ v → has (high * 2 ^ n + low) v ≡ has high (v - n)
+  has-high h =
+      let e : v ≡ n + (v - n) = omega arith in
+      ap (has (high * 2 ^ n + low)) e
+      ∙ ap (λ (x : ℕ). eqb (x % 2) 1) (sym (shr-shr (high * 2 ^ n + low) n (v - n)))
+      ∙ ap (λ (x : ℕ). has x (v - n)) (highPart high n fits)
 
 -- ---- a set is its members
 
