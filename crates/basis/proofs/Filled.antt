@@ -7,17 +7,12 @@ use native.Mathlib.Decide.{decLt}
 use native.Mathlib.Nat.{mul-zero, mod-lt, div-lt-iff-lt-mul}
 use native.Mathlib.Omega.{arith}
 use lib.ListN.{length, getD, drop, set, length-set, length-append, length-drop, List·getD-append}
-use lib.Seq.{getD-set-same, getD-set-other, getD-append-add, getD-drop, ext-getD}
-use borrow.Author.Count.{below-none, below-more}
+use lib.Seq.{getD-set-other, getD-append-add, getD-drop, ext-getD}
+use borrow.Author.Count.{below-none}
 use Rattle.basis.specs.Lists.{over}
 use Rattle.basis.specs.Numbers.{upTo}
 use Rattle.basis.proofs.Counting.{length-upTo, getD-upTo}
-
--- what a list has below k, and what is stored at k, it has below k + 1
-pub set-next : (f : ℕ → ℕ) (xs : List ℕ) (k x : ℕ) → k < length xs → ((i : ℕ) → i < k → getD xs i 0 ≡ f i) → x ≡ f k
-    → (i : ℕ) → i < k + 1 → getD (set xs k x) i 0 ≡ f i
-set-next f xs k x l old new =
-    below-more _ k (λ i h. getD-set-other xs k i x 0 (omega arith) ∙ old i h) (getD-set-same xs k x 0 l ∙ new)
+use Rattle.basis.proofs.Places.{stored-next}
 
 pub record Filled (f : ℕ → ℕ) (k : ℕ) (old xs : List ℕ) : Type 0 where
   pub size : length xs ≡ length old
@@ -32,7 +27,7 @@ filled-more {f} {k} {x} {old} {xs} F h q =
     let s = F .size in
     record {
       size = simp length-set s;
-      done = set-next f xs k x (omega arith) (F .done) q;
+      done = stored-next (λ i y. y ≡ f i) 0 xs k x (omega arith) (F .done) q;
       rest = λ i l. getD-set-other xs k i x 0 (omega arith) ∙ F .rest i (omega arith);
     }
 

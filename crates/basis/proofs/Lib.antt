@@ -5,9 +5,8 @@ pub mod Lists
 pub mod Numbers
 pub mod Over
 pub mod Padded
+pub mod Places
 pub mod Same
 pub mod Snoc
 pub mod Table
-pub mod Padded
 pub mod Walk
-pub mod Places

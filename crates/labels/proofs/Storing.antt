@@ -21,9 +21,10 @@ use Rattle.policy.specs.declared.value.PolicyValue.{PolicyValue}
 use Rattle.policy.specs.declared.refusal.Refusal.the-variants.{BufferTooShort}
 use Rattle.formula.specs.Truth.{grants}
 use Rattle.labels.specs.Labels.{label, labelCount, leader}
-use Rattle.labels.specs.Rows.{mostSets, cell, turnedView, likeRows, Inside, GridOf, Labelled}
+use Rattle.labels.specs.Rows.{entryOf}
+use Rattle.labels.specs.Grid.{cell, turnedView, likeRows, Inside, GridOf, Labelled}
 use Rattle.labels.specs.Compile.{likeUsers, likeObjects, NU, NO, entry, userLabel, objectLabel, userResult, objectResult, tableResult, lent, tooShort, compile, compileBuffers, Compiles}
-use Rattle.labels.specs.declared.rows.View.{View}
+use Rattle.labels.specs.declared.grid.View.{View}
 use Rattle.labels.specs.declared.Counts.{Counts}
 use Rattle.labels.specs.declared.Compiled.the-variants.{Stored, Refused}
 use Rattle.labels.proofs.Alike.{rows-equivalence, rows-alike, columns-alike}
@@ -38,14 +39,14 @@ turned-inside view i =
 
 module _ {p : Policy} {grid : List ℕ} {view : View} (G : GridOf p grid view) {labels leaders : List ℕ} {count : ℕ} where
   pub users-labelled : Labelled (likeRows grid view) (view .rows) labels leaders count → Labelled (likeUsers p) (sets (p .user)) labels leaders count
-  unfolding likeUsers
+  unfolding likeUsers entryOf
   users-labelled s =
       rw (← G .users, ← G .objects)
       (labelled-same (rows-alike (cell grid view) (grants p) (actions (p .form)) (view .rows) (view .columns) (G .entries)) s)
 
   pub objects-labelled : Labelled (likeRows grid (turnedView view)) (view .columns) labels leaders count
       → Labelled (likeObjects p) (sets (p .object)) labels leaders count
-  unfolding likeObjects
+  unfolding likeObjects entryOf
   objects-labelled s =
       rw (← G .users, ← G .objects)
       (labelled-same
@@ -115,7 +116,7 @@ module _ (v : PolicyValue) (ok : valid v ≡ true) (us os ts : List ℕ) {grid :
 
     -- the entry of two labels is that of their leaders
     leaders-entry : (ul ol : ℕ) → ul < c .users → ol < c .objects → cell grid view (getD fu ul 0) (getD fo ol 0) ≡ entry (policyOf v) ul ol
-    unfolding entry
+    unfolding entry entryOf
     leaders-entry ul ol hu ho =
         let x = users-labelled G U in
         let y = objects-labelled G O in

@@ -10,9 +10,9 @@ use borrow.Author.Count.{below-none}
 use Rattle.basis.specs.Numbers.{first, count}
 use Rattle.basis.proofs.Bools.{never, fails}
 use Rattle.basis.proofs.Counting.{Least, first-least}
-use Rattle.basis.proofs.Filled.{set-next}
+use Rattle.basis.proofs.Places.{stored-next}
 use Rattle.labels.specs.Labels.{lowestLike, leads, labelCount, label, leader}
-use Rattle.labels.specs.Rows.{Labelled}
+use Rattle.labels.specs.Grid.{Labelled}
 use Rattle.labels.proofs.Labels.{Equivalence, lowest-least, is-leads, labelCount-le, labelCount-mono, labelCount-strict, labelCount-same, label-same, leader-same, lowest-below, lowest-like, lowest-leads, label-iff, label-leads, leader-leads, leader-is}
 
 module _ (like : ℕ → ℕ → Bool) (u : ℕ) where
@@ -93,7 +93,7 @@ module _ {like : ℕ → ℕ → Bool} {m u : ℕ} {labels leaders : List ℕ} {
           few = omega (arith, t .few);
           labels-long = simp length-set (t .labels-long);
           leaders-long = t .leaders-long;
-          labels-are = set-next (label like) labels u l (omega (arith, t .labels-long)) (t .labels-are) (sym s);
+          labels-are = stored-next (λ i x. x ≡ label like i) 0 labels u l (omega (arith, t .labels-long)) (t .labels-are) (sym s);
           leaders-are = t .leaders-are;
         }
 
@@ -108,8 +108,8 @@ module _ {like : ℕ → ℕ → Bool} {m u : ℕ} {labels leaders : List ℕ} {
           few = omega arith;
           labels-long = simp length-set (t .labels-long);
           leaders-long = simp length-set (t .leaders-long);
-          labels-are = set-next (label like) labels u l (omega (arith, t .labels-long)) (t .labels-are) (all ∙ c ∙ sym (label-leads E u f));
-          leaders-are = set-next (leader like m) leaders count u (omega (arith, t .leaders-long)) (t .leaders-are)
+          labels-are = stored-next (λ i x. x ≡ label like i) 0 labels u l (omega (arith, t .labels-long)) (t .labels-are) (all ∙ c ∙ sym (label-leads E u f));
+          leaders-are = stored-next (λ i x. x ≡ leader like m i) 0 leaders count u (omega (arith, t .leaders-long)) (t .leaders-are)
               (sym (leader-leads E u h f) ∙ ap (leader like m) (sym c));
         }
 

@@ -1,28 +1,41 @@
--- Rows of entries. An entry is the set of the actions that are granted for a user set and an object set; a grid lists the entries of all.
-use Prim.Native.Nat.{ℕ, _+_, _*_, _≤_, _<_}
+-- Rows of entries, and when two are unlike.
+use Prim.Native.Nat.{ℕ, _+_, _<_}
 use mathlib.Core.Path.{_≡_}
 use mathlib.Core.Bool.{Bool, not}
 use mathlib.Core.List.{List}
 use lib.Dec.{eqb}
 use lib.ListN.{getD}
 use Rattle.basis.specs.Numbers.{first}
-use Rattle.sets.specs.Set.{setOf}
+use Rattle.sets.specs.Set.{has, setOf}
+use Rattle.seniority.specs.Seniority.{heldOrJunior}
 use Rattle.policy.specs.Limits.{actions}
-use Rattle.policy.specs.Policy.{Policy, sets}
+use Rattle.policy.specs.Policy.{Policy}
+use Rattle.policy.specs.Value.{sideOf, rulesOf}
 use Rattle.formula.specs.Truth.{grants}
-use Rattle.labels.specs.Labels.{label, labelCount, leader}
-use Rattle.labels.specs.declared.rows.View.{View}
+use Rattle.formula.specs.Lane.{lanes, mostActions, ShapeOf, Stands, SideFits, RulesFit}
+use Rattle.labels.specs.declared.rows.Source.{Source}
 
--- the most sets of a side that a grid has room for, and its places
+-- the most sets of a side that rows and grids have room for
 abbrev pub mostSets : ℕ
 mostSets = 128
 
-abbrev pub gridPlaces : ℕ
-gridPlaces = 16384
-
 -- bit a of an entry is set exactly when action a is granted
-abbrev pub entryOf : Policy → ℕ → ℕ → ℕ
+unfoldable pub entryOf : Policy → ℕ → ℕ → ℕ
 entryOf p u o = setOf (λ a. grants p a u o) (actions (p .form))
+
+-- the entry of lane k, from the vectors of all actions
+abbrev pub laneEntry : List ℕ → ℕ → ℕ
+laneEntry vectors k = setOf (λ a. has (getD vectors a 0) k) mostActions
+
+-- what the rows of a policy are worked out from
+pub record SourceOf (p : Policy) (x : Source) : Type 0 where
+  pub user : p .user ≡ sideOf (x .user)
+  pub fits : SideFits (x .user)
+  pub shape : ShapeOf p (x .shape)
+  pub rules : p .rules ≡ rulesOf (x .rules)
+  pub rules-fit : RulesFit (x .rules)
+  pub low : (k : ℕ) → k < lanes → Stands (heldOrJunior (p .object .lines)) (x .low) k k
+  pub high : (k : ℕ) → k < lanes → Stands (heldOrJunior (p .object .lines)) (x .high) k (lanes + k)
 
 -- ---- two rows
 
@@ -37,36 +50,3 @@ firstUnlike f g n = first (λ o. not (eqb (f o) (g o))) n
 -- the rows u and v are alike: there is no first column at which they differ
 unfoldable pub rowsAlike : (ℕ → ℕ → ℕ) → ℕ → ℕ → ℕ → Bool
 rowsAlike f n u v = eqb (firstUnlike (f u) (f v) n) n
-
--- ---- a grid as seen from one side
-
--- what stands in row u and column o
-abbrev pub cell : List ℕ → View → ℕ → ℕ → ℕ
-cell grid view u o = getD grid (u * view .down + o * view .along) 0
-
--- the same grid as seen from the other side
-abbrev pub turnedView : View → View
-turnedView view = record { rows = view .columns; columns = view .rows; down = view .along; along = view .down }
-
-abbrev pub likeRows : List ℕ → View → ℕ → ℕ → Bool
-likeRows grid view = rowsAlike (cell grid view) (view .columns)
-
--- all rows and columns lie in the grid
-pub record Inside (view : View) : Type 0 where
-  pub few-rows : view .rows ≤ mostSets
-  pub few-columns : view .columns ≤ mostSets
-  pub inside : (u o : ℕ) → u < view .rows → o < view .columns → u * view .down + o * view .along < gridPlaces
-
--- the rows are the user sets of a policy, the columns its object sets
-pub record GridOf (p : Policy) (grid : List ℕ) (view : View) : Type 0 where
-  pub users : view .rows ≡ sets (p .user)
-  pub objects : view .columns ≡ sets (p .object)
-  pub entries : (u o : ℕ) → u < view .rows → o < view .columns → cell grid view u o ≡ entryOf p u o
-
--- ---- labels
-
--- two arrays have the labels of m sets and the lowest set of each label, and there are so many labels
-pub record Labelled (like : ℕ → ℕ → Bool) (m : ℕ) (labels leaders : List ℕ) (count : ℕ) : Type 0 where
-  pub counted : count ≡ labelCount like m
-  pub labels-are : (u : ℕ) → u < m → getD labels u 0 ≡ label like u
-  pub leaders-are : (l : ℕ) → l < count → getD leaders l 0 ≡ leader like m l

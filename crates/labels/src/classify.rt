@@ -1,13 +1,14 @@
 // The labels of one side's sets, which are the rows of a grid.
-use crate::rows;
-use crate::rows::PLACES;
+use crate::grid;
+use crate::grid::PLACES;
+use crate::grid::View;
 use crate::rows::SETS;
-use crate::rows::View;
 ghost use mathlib.Core.Path.{_≡_};
 ghost use Prim.Native.Nat.{ℕ, _≤_, _<_};
 ghost use lib.ListN.{getD};
 ghost use Rattle.basis.specs.Numbers.{first};
-ghost use Rattle.labels.specs.Rows.{mostSets, likeRows, Inside, Labelled};
+ghost use Rattle.labels.specs.Rows.{mostSets};
+ghost use Rattle.labels.specs.Grid.{likeRows, Inside, Labelled};
 
 // The label of each row, the lowest row of each label, and how many labels there are.
 pub struct Classes {
@@ -23,9 +24,9 @@ fn label_of(grid: &[u8; PLACES], view: View, leaders: &[u8; SETS], count: usize,
 {
     let columns = view.columns;
     'next: for l in 0..count {
-        let v = rows::wide(leaders[l]);
+        let v = grid::wide(leaders[l]);
         for o in 0..columns {
-            if rows::entry(grid, view, v, o) != rows::entry(grid, view, u, o) {
+            if grid::entry(grid, view, v, o) != grid::entry(grid, view, u, o) {
                 continue 'next;
             }
         }

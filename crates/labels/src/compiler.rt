@@ -4,10 +4,10 @@ use crate::Counts;
 use crate::ObjectLabel;
 use crate::UserLabel;
 use crate::classify::classify;
-use crate::rows;
-use crate::rows::PLACES;
+use crate::grid;
+use crate::grid::PLACES;
+use crate::grid::View;
 use crate::rows::SETS;
-use crate::rows::View;
 use policy::refusal::Refusal;
 ghost use mathlib.Core.Path.{_≡_};
 ghost use mathlib.Core.Bool.{true};
@@ -18,7 +18,8 @@ ghost use Rattle.basis.specs.Numbers.{upTo};
 ghost use Rattle.policy.specs.Value.{policyOf};
 ghost use Rattle.policy.specs.Valid.{valid};
 ghost use Rattle.policy.specs.declared.value.PolicyValue.{PolicyValue};
-ghost use Rattle.labels.specs.Rows.{mostSets, cell, Inside, GridOf};
+ghost use Rattle.labels.specs.Rows.{mostSets};
+ghost use Rattle.labels.specs.Grid.{cell, Inside, GridOf};
 ghost use Rattle.labels.specs.Compile.{lent, Compiles};
 
 // Where the table has the entry of two labels, with `objects` object labels to a row; any numbers will do.
@@ -47,11 +48,11 @@ fn put_table(buffer: &mut [u8], grid: &[u8; PLACES], view: View, users: &[u8; SE
     let nu = counts.users;
     let no = counts.objects;
     for ul in 0..nu {
-        let u = rows::wide(users[ul as usize]);
+        let u = grid::wide(users[ul as usize]);
         for ol in 0..no {
-            let o = rows::wide(objects[ol as usize]);
+            let o = grid::wide(objects[ol as usize]);
             let at = place(UserLabel(ul as u8), ObjectLabel(ol as u8), no);
-            buffer[at] = rows::entry(grid, view, u, o);
+            buffer[at] = grid::entry(grid, view, u, o);
         }
     }
 }
@@ -62,7 +63,7 @@ fn store(grid: &[u8; PLACES], view: View, users: &mut [u8], objects: &mut [u8], 
     ensures { λ r. ⌜ ((v : PolicyValue) → valid v ≡ true → GridOf (policyOf v) (now (grid .entry)) view → Compiles v (lent (now (users .entry)) (now (objects .entry)) (now (table .entry))) r (lent (now (users .exit)) (now (objects .exit)) (now (table .exit)))) ⌝ }
 {
     let user = classify(grid, view);
-    let object = classify(grid, rows::turned(view));
+    let object = classify(grid, grid::turned(view));
     let nu = user.count;
     let no = object.count;
     if users.len() < view.rows {

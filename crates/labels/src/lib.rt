@@ -2,6 +2,7 @@
 use policy::refusal::Refusal;
 
 pub mod rows;
+pub mod grid;
 pub mod classify;
 pub mod compiler;
 

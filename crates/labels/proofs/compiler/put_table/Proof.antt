@@ -8,15 +8,15 @@ use lib.Arith.{digits-lt, digits-div, digits-mod}
 use lib.ListN.{length, getD}
 use borrow.Author.Needs.{needs}
 use Rattle.basis.proofs.Filled.{Filled, filled-none, filled-count, filled-same, filled-over, in-row, Further, further-none, further-more, further-count}
-use Rattle.labels.specs.Rows.{cell}
-use Rattle.labels.specs.declared.rows.View.{View}
+use Rattle.labels.specs.Grid.{cell}
+use Rattle.labels.specs.declared.grid.View.{View}
 use Rattle.labels.proofs.compiler.put_table.Statement.{statement}
 use Rattle.labels.proofs.compiler.put_table.Tie as tie
 use Rattle.labels.proofs.compiler.put_table.Reads as reads
 use Rattle.labels.proofs.compiler.put_table.Lts as lts
 use Rattle.labels.proofs.compiler.place.Reads as place-reads
-use Rattle.labels.proofs.rows.entry.Reads as entry-reads
-use Rattle.labels.proofs.rows.wide.Reads as wide-reads
+use Rattle.labels.proofs.grid.entry.Reads as entry-reads
+use Rattle.labels.proofs.grid.wide.Reads as wide-reads
 
 -- the entry at a place of the table
 abbrev atPlace : List ℕ → View → List ℕ → List ℕ → ℕ → ℕ → ℕ

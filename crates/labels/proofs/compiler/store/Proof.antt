@@ -5,7 +5,8 @@ use denote.Ref.{now}
 use native.Mathlib.Nat.{le-trans, mul-le-mul}
 use native.Mathlib.Omega.{arith}
 use borrow.Author.Needs.{needs}
-use Rattle.labels.specs.Rows.{mostSets, turnedView, likeRows, Labelled}
+use Rattle.labels.specs.Rows.{mostSets}
+use Rattle.labels.specs.Grid.{turnedView, likeRows, Labelled}
 use Rattle.labels.proofs.Alike.{rows-equivalence}
 use Rattle.labels.proofs.Storing.{turned-inside, short-users, short-objects, short-table, stored-all}
 use Rattle.labels.proofs.Turn.{labelled-few, labelled-leader}
@@ -16,7 +17,7 @@ use Rattle.labels.proofs.compiler.store.Lts as lts
 use Rattle.labels.proofs.classify.classify.Reads as classify-reads
 use Rattle.labels.proofs.compiler.put_labels.Reads as put-labels-reads
 use Rattle.labels.proofs.compiler.put_table.Reads as put-table-reads
-use Rattle.labels.proofs.rows.turned.Reads as turned-reads
+use Rattle.labels.proofs.grid.turned.Reads as turned-reads
 
 -- src/compiler.rt:64:9
 classify-requires : tie.Need-classify-requires

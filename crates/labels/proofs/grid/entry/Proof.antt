@@ -1,10 +1,10 @@
--- `labels::rows::entry` meets its contract: a row and a column that are there have their place in the grid.
+-- `labels::grid::entry` meets its contract: a row and a column that are there have their place in the grid.
 use native.Mathlib.Omega.{arith}
 use borrow.Author.Needs.{needs}
-use Rattle.labels.proofs.rows.entry.Statement.{statement}
-use Rattle.labels.proofs.rows.entry.Tie as tie
-use Rattle.labels.proofs.rows.entry.Reads as reads
-use Rattle.labels.proofs.rows.entry.Lts as lts
+use Rattle.labels.proofs.grid.entry.Statement.{statement}
+use Rattle.labels.proofs.grid.entry.Tie as tie
+use Rattle.labels.proofs.grid.entry.Reads as reads
+use Rattle.labels.proofs.grid.entry.Lts as lts
 
 mul-i : tie.Need-mul-i
 mul-i c = let s = c .before .pre in omega (arith, s .0 .inside _ _ (s .1) (s .2))
