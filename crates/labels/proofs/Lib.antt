@@ -1,5 +1,6 @@
 pub mod Labels
 pub mod Labelling
+pub mod Entries
 pub mod Alike
 pub mod Turn
 pub mod Compile

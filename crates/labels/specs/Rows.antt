@@ -6,13 +6,13 @@ use mathlib.Core.List.{List}
 use lib.Dec.{eqb}
 use lib.ListN.{getD}
 use Rattle.basis.specs.Numbers.{first}
-use Rattle.sets.specs.Set.{has, setOf}
+use Rattle.sets.specs.Set.{setOf}
 use Rattle.seniority.specs.Seniority.{heldOrJunior}
 use Rattle.policy.specs.Limits.{actions}
 use Rattle.policy.specs.Policy.{Policy}
 use Rattle.policy.specs.Value.{sideOf, rulesOf}
 use Rattle.formula.specs.Truth.{grants}
-use Rattle.formula.specs.Lane.{lanes, mostActions, ShapeOf, Stands, SideFits, RulesFit}
+use Rattle.formula.specs.Lane.{lanes, ShapeOf, Stands, SideFits, RulesFit}
 use Rattle.labels.specs.declared.rows.Source.{Source}
 
 -- the most sets of a side that rows and grids have room for
@@ -22,10 +22,6 @@ mostSets = 128
 -- bit a of an entry is set exactly when action a is granted
 unfoldable pub entryOf : Policy → ℕ → ℕ → ℕ
 entryOf p u o = setOf (λ a. grants p a u o) (actions (p .form))
-
--- the entry of lane k, from the vectors of all actions
-abbrev pub laneEntry : List ℕ → ℕ → ℕ
-laneEntry vectors k = setOf (λ a. has (getD vectors a 0) k) mostActions
 
 -- what the rows of a policy are worked out from
 pub record SourceOf (p : Policy) (x : Source) : Type 0 where

@@ -1,7 +1,6 @@
 // Rows of entries. The entry of a user set and an object set is a byte whose bit a says whether action a is granted; a user set's row has
 // its entries at the object sets.
 use formula::entries;
-use formula::entries::ACTIONS;
 use formula::shape;
 use formula::shape::Shape;
 use formula::shape::VALUES;
@@ -13,9 +12,9 @@ ghost use mathlib.Core.Path.{_≡_};
 ghost use Prim.Native.Nat.{ℕ, _+_, _^_, _≤_, _<_};
 ghost use lib.ListN.{getD};
 ghost use Rattle.policy.specs.Policy.{Policy};
-ghost use Rattle.policy.specs.Value.{policyOf};
-ghost use Rattle.formula.specs.Lane.{lanes, mostValues, ValueFits};
-ghost use Rattle.labels.specs.Rows.{mostSets, laneEntry, entryOf, SourceOf, entryAt, firstUnlike};
+ghost use Rattle.policy.specs.Value.{rulesOf, policyOf};
+ghost use Rattle.formula.specs.Lane.{lanes, mostValues, ShapeOf, Pair, RulesFit, ValueFits};
+ghost use Rattle.labels.specs.Rows.{mostSets, entryOf, SourceOf, entryAt, firstUnlike};
 
 // The most sets of a side.
 pub const SETS: usize = 128;
@@ -53,14 +52,24 @@ pub fn source_of(policy: PolicyValue) -> Source
     }
 }
 
-// Puts the entries of 64 object sets into a row, of which the first is object set `at`.
-fn put_entries(row: &mut [u8; SETS], grants: &[u64; ACTIONS], at: usize)
-    requires { ⌜ at + lanes ≤ mostSets ⌝ }
-    ensures { λ _. ⌜ ((o : ℕ) → o < at → getD (now (row .exit)) o 0 ≡ getD (now (row .entry)) o 0) × ((k : ℕ) → k < lanes → getD (now (row .exit)) (at + k) 0 ≡ laneEntry (now (grants .entry)) k) ⌝ }
+// A row that has the entries of the object sets before `at`, with those of the 64 from there on.
+fn with_block(
+    row: [u8; SETS],
+    s: Shape,
+    users: &[u64; 2 * VALUES],
+    objects: &[u64; 2 * VALUES],
+    rules: Rules,
+    at: usize,
+) -> [u8; SETS]
+    requires { ⌜ ((p : Policy) × ShapeOf p s) × RulesFit rules × (at + lanes ≤ mostSets) ⌝ }
+    ensures { λ r. ⌜ ((p : Policy) (u : ℕ) → ShapeOf p s → p .rules ≡ rulesOf rules → ((k : ℕ) → k < lanes → Pair p (now (users .entry)) (now (objects .entry)) k u (at + k)) → ((o : ℕ) → o < at → getD row o 0 ≡ entryOf p u o) → (o : ℕ) → o < at + lanes → getD r o 0 ≡ entryOf p u o) ⌝ }
 {
+    let grants = entries::grants(s, users, objects, rules);
+    let mut r = row;
     for k in 0..LANES {
-        row[at + k] = entries::entry(grants, k);
+        r[at + k] = entries::entry(&grants, k);
     }
+    r
 }
 
 // The row of a user set, at the first n object sets.
@@ -74,15 +83,12 @@ pub fn row(from: Source, u: u32, n: usize) -> [u8; SETS]
     let shape = from.shape;
     let rules = from.rules;
     let low = from.low;
-    let mut r = [0u8; SETS];
-    let first = entries::grants(shape, &users, &low, rules);
-    put_entries(&mut r, &first, 0);
-    if LANES < n {
-        let high = from.high;
-        let second = entries::grants(shape, &users, &high, rules);
-        put_entries(&mut r, &second, LANES);
+    let r = with_block([0u8; SETS], shape, &users, &low, rules, 0);
+    if n <= LANES {
+        return r;
     }
-    r
+    let high = from.high;
+    with_block(r, shape, &users, &high, rules, LANES)
 }
 
 // The first of n columns at which two rows differ, or n where none does.
