@@ -1,13 +1,11 @@
 -- A list, or its first n places, walked place by place: what is left at a place is the element there and what is left behind it.
 use Prim.Native.Nat.{ℕ, _+_, _≤_, _<_}
-use mathlib.Core.Path.{_≡_, refl}
-use mathlib.Core.Bool.{Bool, true, _&&_}
-use mathlib.Core.List.{List, [], _∷_, map}
+use mathlib.Core.Path.{_≡_}
+use mathlib.Core.List.{List, [], _∷_}
 use native.Mathlib.Numerals.{add-one}
 use native.Mathlib.Omega.{arith}
 use lib.ListN.{length, getD, take, drop, drop-of-length-le, length-take}
 use lib.Seq.{drop-cons, slice-cons}
-use Rattle.basis.specs.Lists.{all}
 
 module _ {A : Type 0} (d : A) (xs : List A) (i : ℕ) where
   pub rest-next : i < length xs → drop i xs ≡ getD xs i d ∷ drop (i + 1) xs
@@ -20,19 +18,3 @@ pub part-end : {A : Type 0} (xs : List A) (n i : ℕ) → n ≤ i → drop i (ta
 part-end xs n i h =
     let g : length (take n xs) ≤ i = rw length-take (omega arith) in
     drop-of-length-le (take n xs) g
-
--- a test of a list's images
-pub all-map : {A B : Type 0} (f : B → Bool) (g : A → B) (xs : List A) → all f (map g xs) ≡ all (λ x. f (g x)) xs
-unfolding all
-all-map f g [] = refl
-all-map f g (x ∷ xs) = rw (all-map f g xs)
-
--- a test at each of the first n places: what it says at place i and behind it
-module _ {A : Type 0} (f : A → Bool) (d : A) (xs : List A) (n i : ℕ) where
-  pub all-part : i < n → n ≤ length xs → all f (drop i (take n xs)) ≡ (f (getD xs i d) && all f (drop (i + 1) (take n xs)))
-  unfolding all
-  all-part h k = rw (part-next d xs i n h k)
-
-  pub all-part-end : n ≤ i → all f (drop i (take n xs)) ≡ true
-  unfolding all
-  all-part-end h = rw (part-end xs n i h)

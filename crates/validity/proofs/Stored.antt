@@ -1,0 +1,128 @@
+-- A list stored in an array, blank behind it: what each test of the code says of it. One law for each answer of the tests of a whole list.
+use Prim.Native.Nat.{ℕ, _≤_, _<_}
+use mathlib.Core.Path.{_≡_, refl, sym, _∙_}
+use mathlib.Core.Bool.{Bool, true, false, _&&_, and-false, and-true}
+use mathlib.Core.List.{List, [], map-map, map-id}
+use mathlib.Core.Option.{none}
+use native.Mathlib.Omega.{arith}
+use borrow.Author.Tests.{eq-eqb, ne-eqb, eqb-true, lt-leb, le-leb}
+use lib.Dec.{eqb}
+use lib.ListN.{length, take, drop, length-map, length-take}
+use lib.Seq.{length-take-le}
+use Rattle.basis.specs.Lists.{all, same}
+use Rattle.basis.proofs.Bools.{both-ways}
+use Rattle.basis.proofs.Padded.{same-padded}
+use Rattle.basis.proofs.Same.{same-self}
+use Rattle.seniority.specs.Seniority.{direct}
+use Rattle.seniority.specs.declared.Direct.{Direct}
+use Rattle.words.specs.Word.{written}
+use Rattle.words.specs.declared.Word.the-variants.{True, Holds, Compares}
+use Rattle.words.specs.declared.Holding.{Holding}
+use Rattle.words.specs.declared.Holding.the-variants.{User, Object}
+use Rattle.words.specs.declared.Comparison.{Comparison}
+use Rattle.words.specs.declared.Comparison.the-variants.{Dominates, Equals}
+use Rattle.policy.specs.Policy.{Side}
+use Rattle.policy.specs.Value.{widthPlaces, linePlaces, entryPlaces, wordPlaces, slot, noEntry, noRule, entriesOf, register, ruleValue, ruleOf}
+use Rattle.policy.specs.Valid.{sameLine, sameEntry, sameSlot, sameRegister, sameRule}
+use Rattle.policy.specs.declared.value.Entry.{Entry}
+use Rattle.policy.specs.declared.value.Register.{Register}
+use Rattle.policy.specs.declared.value.RuleValue.{RuleValue}
+use Rattle.policy.proofs.Same.{exact-number, exact-line, exact-entry, exact-slot}
+use Rattle.policy.proofs.Sound.{widthsSound, entriesSound}
+use Rattle.validity.specs.Parts.{holds, widthsValid, registerValid}
+
+-- ---- any list
+
+module _ {A : Type 0} (e : A → A → Bool) (blank : A) (xs : List A) (n m : ℕ) (k : length xs ≡ m) where
+  -- more elements than places
+  pub holds-out : m < n → holds e m blank xs n ≡ false
+  unfolding holds
+  holds-out h = rw (ne-eqb (length (take n xs)) n (λ q. omega (arith, length-take n xs)))
+
+  -- the rest is blank
+  pub holds-in : ((x : A) → e x x ≡ true) → n ≤ m → holds e m blank xs n ≡ all (e blank) (drop n xs)
+  unfolding holds
+  holds-in r h =
+      let l : length (take n xs) ≡ n = length-take-le n xs (omega arith) in
+      rw (eq-eqb (length (take n xs)) n l, ← k, same-padded e blank (take n xs) xs (omega arith), l, same-self e r (take n xs))
+
+-- ---- a blank place
+
+eqb-swap : (a b : ℕ) → eqb a b ≡ eqb b a
+eqb-swap a b = both-ways (eqb a b) (eqb b a) (λ e. eq-eqb b a (sym (eqb-true a b e))) (λ e. eq-eqb a b (sym (eqb-true b a e)))
+
+module _ (a b : ℕ) where
+  pub second-zero : a ≡ 0 → eqb b 0 ≡ (eqb 0 a && eqb 0 b)
+  second-zero h = rw (h, eqb-swap b 0)
+
+  pub first-not : (a ≡ 0 → ⊥) → false ≡ (eqb 0 a && eqb 0 b)
+  first-not h = rw (ne-eqb 0 a (λ q. h (sym q)))
+
+pub no-holding : (h : Holding) → false ≡ sameSlot (slot True) (slot (Holds h))
+unfolding written same
+no-holding (User v) = refl
+no-holding (Object v) = refl
+
+pub no-comparison : (k : Comparison) → false ≡ sameSlot (slot True) (slot (Compares k))
+unfolding written same
+no-comparison (Dominates i j) = refl
+no-comparison (Equals i j) = refl
+
+-- ---- the lists
+
+module _ (most : ℕ) (ws : List ℕ) (n : ℕ) (k : length ws ≡ widthPlaces) where
+  pub widths-none : n < 1 → false ≡ widthsValid most ws n
+  unfolding widthsValid
+  widths-none h = rw (lt-leb 1 (length (take n ws)) (omega (arith, length-take n ws)), and-false)
+
+  pub widths-many : widthPlaces < n → false ≡ widthsValid most ws n
+  unfolding widthsValid
+  widths-many h = rw (holds-out eqb 0 ws n widthPlaces k h)
+
+  pub widths-unsound : {b : Bool} → b ≡ widthsSound most 0 (take n ws) → b ≡ false → false ≡ widthsValid most ws n
+  unfolding widthsValid
+  widths-unsound q e = rw (← q, e, and-false, and-false)
+
+  pub widths-stored : 1 ≤ n → n ≤ widthPlaces → {b r : Bool} → b ≡ widthsSound most 0 (take n ws) → b ≡ true
+      → r ≡ all (eqb 0) (drop n ws) → r ≡ widthsValid most ws n
+  unfolding widthsValid
+  widths-stored h g q e t =
+      rw (← q, e, le-leb 1 (length (take n ws)) (omega (arith, length-take n ws)), and-true, holds-in eqb 0 ws n widthPlaces k (exact-number .self) g) t
+
+pub lines-stored : (ls : List Direct) (n : ℕ) → length ls ≡ linePlaces → n ≤ linePlaces
+    → holds sameLine linePlaces (direct 0 0) ls n ≡ all (sameLine (direct 0 0)) (drop n ls)
+lines-stored ls n k h = holds-in sameLine (direct 0 0) ls n linePlaces k (exact-line .self) h
+
+pub entries-stored : (es : List Entry) (n : ℕ) → length es ≡ entryPlaces → n ≤ entryPlaces
+    → holds sameEntry entryPlaces noEntry es n ≡ all (sameEntry noEntry) (drop n es)
+entries-stored es n k h = holds-in sameEntry noEntry es n entryPlaces k (exact-entry .self) h
+
+pub register-is : (most : ℕ) (s : Side) (x : Register)
+    → registerValid most s x ≡ (holds sameEntry entryPlaces noEntry (x .entries) (x .count) && entriesSound most s none (take (x .count) (x .entries)))
+unfolding registerValid sameRegister register entriesOf holds
+register-is most s x = refl
+
+module _ (x : RuleValue) (k : length (x .words) ≡ wordPlaces) where
+  rule-holds : sameRule (ruleValue (ruleOf x)) x ≡ holds sameSlot wordPlaces (slot True) (x .words) (x .count)
+  unfolding sameRule ruleValue ruleOf holds
+  rule-holds = rw (exact-number .self (x .action), length-map, map-map, map-id)
+
+  pub rule-out : wordPlaces < x .count → sameRule (ruleValue (ruleOf x)) x ≡ false
+  rule-out h = rule-holds ∙ holds-out sameSlot (slot True) (x .words) (x .count) wordPlaces k h
+
+  pub rule-stored : x .count ≤ wordPlaces → sameRule (ruleValue (ruleOf x)) x ≡ all (sameSlot (slot True)) (drop (x .count) (x .words))
+  rule-stored h = rule-holds ∙ holds-in sameSlot (slot True) (x .words) (x .count) wordPlaces k (exact-slot .self) h
+
+module _ (x : RuleValue) where
+  pub blank-action : (x .action ≡ 0 → ⊥) → false ≡ sameRule noRule x
+  unfolding sameRule noRule
+  blank-action h = rw (ne-eqb 0 (x .action) (λ q. h (sym q)))
+
+  pub blank-count : x .action ≡ 0 → (x .count ≡ 0 → ⊥) → false ≡ sameRule noRule x
+  unfolding sameRule noRule
+  blank-count a h = rw (a, ne-eqb 0 (x .count) (λ q. h (sym q)))
+
+  pub blank-words : length (x .words) ≡ wordPlaces → x .action ≡ 0 → x .count ≡ 0 → {r : Bool}
+      → r ≡ all (sameSlot (slot True)) (x .words) → r ≡ sameRule noRule x
+  unfolding sameRule noRule same
+  blank-words k a h q = rw (a, h, ← k, same-padded sameSlot (slot True) [] (x .words) (omega arith)) q

@@ -1,0 +1,68 @@
+-- `validity::rules::rule_sound` meets its contract: its checks in turn.
+use native.Mathlib.Omega.{arith}
+use borrow.Author.Tests.{not-true, not-false, lt-ltb, le-ltb}
+use borrow.Author.Needs.{needs}
+use Rattle.validity.proofs.Whole.{rule-is}
+use Rattle.validity.proofs.rules.rule_sound.Statement.{statement}
+use Rattle.validity.proofs.rules.rule_sound.Tie as tie
+
+returns : tie.Need-returns
+returns c = λ p q.
+    let x = c .before .before .args .x in
+    rw (rule-is p x (search needs), le-ltb (x .action) 8 (omega arith))
+
+all-fit-requires : tie.Need-all-fit-requires
+all-fit-requires c κs = search needs
+
+returns-2 : tie.Need-returns-2
+returns-2 c = λ p q.
+    let x = c .before .before .before .before .before .args .x in
+    let f = c .before .all-fit in
+    rw (rule-is p x (search needs), lt-ltb (x .action) 8 (omega arith), ← f .ensures p (q .user) (q .object), not-true (f .result) (c .if2 .taken))
+
+all-equal-requires : tie.Need-all-equal-requires
+all-equal-requires c κs = search needs
+
+returns-3 : tie.Need-returns-3
+returns-3 c = λ p q.
+    let x = c .before .before .before .before .before .before .before .args .x in
+    let f = c .before .before .before .all-fit in
+    let e = c .before .all-equal in
+    rw (
+      rule-is p x (search needs),
+      lt-ltb (x .action) 8 (omega arith),
+      ← f .ensures p (q .user) (q .object),
+      not-false (f .result) (c .before .before .if2 .left),
+      ← e .ensures p (q .user) (q .object),
+      not-true (e .result) (c .if3 .taken),
+    )
+
+balanced-requires : tie.Need-balanced-requires
+balanced-requires c κs = search needs
+
+returns-4 : tie.Need-returns-4
+returns-4 c = λ p q.
+    let x = c .before .before .before .before .before .before .before .before .args .x in
+    let f = c .before .before .before .before .all-fit in
+    let e = c .before .before .all-equal in
+    rw (
+      rule-is p x (search needs),
+      lt-ltb (x .action) 8 (omega arith),
+      ← f .ensures p (q .user) (q .object),
+      not-false (f .result) (c .before .before .before .if2 .left),
+      ← e .ensures p (q .user) (q .object),
+      not-false (e .result) (c .before .if3 .left),
+    )
+    (c .balanced .ensures)
+
+pub rule-sound-spec : {M : Type 1} → statement M
+rule-sound-spec =
+    tie.close
+    (tie.spec
+    returns
+    all-fit-requires
+    returns-2
+    all-equal-requires
+    returns-3
+    balanced-requires
+    returns-4)

@@ -1,0 +1,59 @@
+-- `validity::rules::words_blank` meets its contract: the words from place n to i are blank.
+use Prim.Native.Nat.{_-_}
+use borrow.Author.Tests.{not-true, not-false}
+use borrow.Author.Needs.{needs}
+use Rattle.words.specs.declared.Word.the-variants.{True}
+use Rattle.policy.specs.Value.{slot}
+use Rattle.policy.specs.Valid.{sameSlot}
+use Rattle.validity.proofs.Blank.{BlankTo, blank-none, blank-all, blank-more, blank-not}
+use Rattle.validity.proofs.rules.words_blank.Statement.{statement}
+use Rattle.validity.proofs.rules.words_blank.Tie as tie
+
+abbrev Inv-loop : tie.InvT-loop
+Inv-loop n slots i₀ i = BlankTo (sameSlot (slot True)) slots n i
+
+abbrev μ-loop : tie.MeasureT-loop
+μ-loop n slots i₀ i = 32 - i
+
+loop-holds : tie.Need-loop-holds Inv-loop μ-loop
+loop-holds c = blank-none
+
+mul-s : tie.Need-mul-s Inv-loop μ-loop
+mul-s c = search needs
+
+array-copy-out-s : tie.Need-array-copy-out-s Inv-loop μ-loop
+array-copy-out-s c = search needs
+
+no-word-requires : tie.Need-no-word-requires Inv-loop μ-loop
+no-word-requires c κs = search needs
+
+returns : tie.Need-returns Inv-loop μ-loop
+returns c = blank-not (c .before .before .before .before .loop .inv) (slot True) (search needs) (c .before .no-word .ensures) (not-true _ (c .if1 .taken))
+
+add-i : tie.Need-add-i Inv-loop μ-loop
+add-i c = search needs
+
+loop-less : tie.Need-loop-less Inv-loop μ-loop
+loop-less c = search needs
+
+loop-again : tie.Need-loop-again Inv-loop μ-loop
+loop-again c = blank-more (c .before .before .before .before .loop .inv) (slot True) (search needs) (c .before .no-word .ensures) (not-false _ (c .if1 .left))
+
+returns-2 : tie.Need-returns-2 Inv-loop μ-loop
+returns-2 c = blank-all (c .before .loop .inv) (search needs)
+
+pub words-blank-spec : {M : Type 1} → statement M
+words-blank-spec =
+    tie.close
+    (tie.spec
+    Inv-loop
+    μ-loop
+    loop-holds
+    mul-s
+    array-copy-out-s
+    no-word-requires
+    returns
+    add-i
+    loop-less
+    loop-again
+    returns-2)

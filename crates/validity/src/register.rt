@@ -1,0 +1,78 @@
+// The registered users, or objects.
+ghost use mathlib.Core.Path.{_≡_};
+ghost use mathlib.Core.Option.{none};
+ghost use Prim.Native.Nat.{_≤_, _<_};
+ghost use lib.ListN.{take, drop};
+ghost use Rattle.basis.specs.Lists.{all};
+ghost use Rattle.sets.specs.Set.{masks};
+ghost use Rattle.policy.specs.Policy as policy;
+ghost use Rattle.policy.specs.Value.{entryPlaces, noEntry};
+ghost use Rattle.policy.specs.Valid.{sameEntry};
+ghost use Rattle.policy.proofs.Sound.{entriesSound};
+ghost use Rattle.validity.specs.Parts.{registerValid};
+use policy::value::Entry;
+use policy::value::Register;
+
+// The places of the array.
+const ENTRIES: usize = 64;
+
+// The first n entries pass their checks one after the other.
+fn entries_sound(most: u32, total: u32, entries: [Entry; 64], n: usize) -> bool
+    requires { ⌜ (n ≤ entryPlaces) × (total < masks) ⌝ }
+    ensures { λ r. ⌜ ((s : policy.Side) → total ≡ policy.total s → r ≡ entriesSound most s none (take n entries)) ⌝ }
+{
+    let mut last: u32 = 0;
+    let mut i = 0;
+    while i < n {
+        let e = entries[i];
+        if !checks::side::entry_fits(most, total, e.number, e.set) {
+            return false;
+        }
+        if !crate::order::number_rises(i, last, e.number) {
+            return false;
+        }
+        last = e.number;
+        i += 1;
+    }
+    true
+}
+
+fn no_entry(e: Entry) -> bool
+    ensures { λ r. ⌜ r ≡ sameEntry noEntry e ⌝ }
+{
+    if e.number == 0 {
+        return e.set == 0;
+    }
+    false
+}
+
+// Every entry from place n on is blank.
+fn entries_blank(entries: [Entry; 64], n: usize) -> bool
+    ensures { λ r. ⌜ r ≡ all (sameEntry noEntry) (drop n entries) ⌝ }
+{
+    let mut i = n;
+    while i < ENTRIES {
+        let e = entries[i];
+        if !no_entry(e) {
+            return false;
+        }
+        i += 1;
+    }
+    true
+}
+
+// Check 11 of the users or objects: no more than there are places, each sound, and nothing behind the last.
+pub fn register_valid(most: u32, total: u32, x: Register) -> bool
+    requires { ⌜ total < masks ⌝ }
+    ensures { λ r. ⌜ ((s : policy.Side) → total ≡ policy.total s → r ≡ registerValid most s x) ⌝ }
+{
+    let n = x.count;
+    if ENTRIES < n {
+        return false;
+    }
+    let entries = x.entries;
+    if !entries_sound(most, total, entries, n) {
+        return false;
+    }
+    entries_blank(entries, n)
+}

@@ -1,0 +1,152 @@
+// The rules and their words.
+ghost use mathlib.Core.Path.{_≡_};
+ghost use Prim.Native.Nat.{_≤_};
+ghost use lib.ListN.{take, drop};
+ghost use Rattle.basis.specs.Lists.{all};
+ghost use Rattle.words.specs.declared.Word.the-variants as word;
+ghost use Rattle.policy.specs.Policy.{Policy};
+ghost use Rattle.policy.specs.Value.{widthPlaces, wordPlaces, rulePlaces, slot, noRule, ruleOf};
+ghost use Rattle.policy.specs.Valid.{sameSlot, sameRule};
+ghost use Rattle.policy.proofs.Sound.{ruleSound};
+ghost use Rattle.validity.specs.Parts.{ShapedBy, ruleValid, rulesRising, rulesValid};
+use checks::side::Shape;
+use policy::value::RuleValue;
+use policy::value::Rules;
+use policy::value::Slot;
+use words::Word;
+
+// The places of the arrays.
+const WORDS: usize = 32;
+
+const RULES: usize = 8;
+
+// A blank place holds the word `t`.
+fn no_word(w: Word) -> bool
+    ensures { λ r. ⌜ r ≡ sameSlot (slot word.True) (slot w) ⌝ }
+{
+    match w {
+        Word::True => true,
+        Word::False => false,
+        Word::Holds(_) => false,
+        Word::Compares(_) => false,
+        Word::Not => false,
+        Word::And => false,
+        Word::Or => false,
+    }
+}
+
+// Every word from place n on is blank.
+fn words_blank(slots: [Slot; 32], n: usize) -> bool
+    ensures { λ r. ⌜ r ≡ all (sameSlot (slot word.True)) (drop n slots) ⌝ }
+{
+    let mut i = n;
+    while i < WORDS {
+        let s = slots[i];
+        let w = s.word;
+        if !no_word(w) {
+            return false;
+        }
+        i += 1;
+    }
+    true
+}
+
+// A rule's checks, but that it rises.
+fn rule_sound(actions: u32, user: Shape, object: Shape, x: RuleValue) -> bool
+    requires { ⌜ (x .count ≤ wordPlaces) × (user .attributes ≤ widthPlaces) × (object .attributes ≤ widthPlaces) ⌝ }
+    ensures { λ r. ⌜ ((p : Policy) → ShapedBy actions user object p → r ≡ ruleSound p (ruleOf x)) ⌝ }
+{
+    if actions <= x.action {
+        return false;
+    }
+    let n = x.count;
+    let slots = x.words;
+    if !checks::formula::all_fit(user, object, slots, n) {
+        return false;
+    }
+    if !checks::formula::all_equal(user, object, slots, n) {
+        return false;
+    }
+    checks::formula::balanced(slots, n)
+}
+
+// No more words than there are places, a sound rule, and nothing behind the last word.
+fn rule_valid(actions: u32, user: Shape, object: Shape, x: RuleValue) -> bool
+    requires { ⌜ (user .attributes ≤ widthPlaces) × (object .attributes ≤ widthPlaces) ⌝ }
+    ensures { λ r. ⌜ ((p : Policy) → ShapedBy actions user object p → r ≡ ruleValid p x) ⌝ }
+{
+    let n = x.count;
+    if WORDS < n {
+        return false;
+    }
+    if !rule_sound(actions, user, object, x) {
+        return false;
+    }
+    let slots = x.words;
+    words_blank(slots, n)
+}
+
+// The first n rules pass their checks one after the other.
+fn rules_sound(actions: u32, user: Shape, object: Shape, rules: [RuleValue; 8], n: usize) -> bool
+    requires { ⌜ (n ≤ rulePlaces) × (user .attributes ≤ widthPlaces) × (object .attributes ≤ widthPlaces) ⌝ }
+    ensures { λ r. ⌜ ((p : Policy) → ShapedBy actions user object p → r ≡ rulesRising p (take n rules)) ⌝ }
+{
+    let mut last: u32 = 0;
+    let mut i = 0;
+    while i < n {
+        let x = rules[i];
+        if !rule_valid(actions, user, object, x) {
+            return false;
+        }
+        if !crate::order::number_rises(i, last, x.action) {
+            return false;
+        }
+        last = x.action;
+        i += 1;
+    }
+    true
+}
+
+fn no_rule(x: RuleValue) -> bool
+    ensures { λ r. ⌜ r ≡ sameRule noRule x ⌝ }
+{
+    if x.action != 0 {
+        return false;
+    }
+    if x.count != 0 {
+        return false;
+    }
+    let slots = x.words;
+    words_blank(slots, 0)
+}
+
+// Every rule from place n on is blank.
+fn rules_blank(rules: [RuleValue; 8], n: usize) -> bool
+    ensures { λ r. ⌜ r ≡ all (sameRule noRule) (drop n rules) ⌝ }
+{
+    let mut i = n;
+    while i < RULES {
+        let x = rules[i];
+        if !no_rule(x) {
+            return false;
+        }
+        i += 1;
+    }
+    true
+}
+
+// Check 11 of the rules: no more than there are places, each sound, and nothing behind the last.
+pub fn rules_valid(actions: u32, user: Shape, object: Shape, x: Rules) -> bool
+    requires { ⌜ (user .attributes ≤ widthPlaces) × (object .attributes ≤ widthPlaces) ⌝ }
+    ensures { λ r. ⌜ ((p : Policy) → ShapedBy actions user object p → r ≡ rulesValid p x) ⌝ }
+{
+    let n = x.count;
+    if RULES < n {
+        return false;
+    }
+    let rules = x.entries;
+    if !rules_sound(actions, user, object, rules, n) {
+        return false;
+    }
+    rules_blank(rules, n)
+}

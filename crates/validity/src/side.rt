@@ -1,0 +1,156 @@
+// The lists of a side: its widths and its direct seniorities.
+ghost use mathlib.Core.Path.{_≡_};
+ghost use mathlib.Core.Option.{none};
+ghost use Prim.Native.Nat.{_≤_, _<_};
+ghost use lib.Dec.{eqb};
+ghost use lib.ListN.{take, drop};
+ghost use Rattle.basis.specs.Lists.{all, sum};
+ghost use Rattle.sets.specs.Set.{masks};
+ghost use Rattle.seniority.specs.Seniority.{direct};
+ghost use Rattle.policy.specs.Policy as policy;
+ghost use Rattle.policy.specs.Value.{widthPlaces, linePlaces, sideOf};
+ghost use Rattle.policy.specs.Valid.{sameLine};
+ghost use Rattle.policy.proofs.Sound.{widthsSound, linesSound};
+ghost use Rattle.checks.specs.Sides.{Shaped};
+ghost use Rattle.validity.specs.Parts.{widthsValid, linesValid, sideValid, SmallShape};
+use checks::side::Shape;
+use policy::value::SideValue;
+use seniority::Direct;
+
+// The places of the arrays.
+const WIDTHS: usize = 7;
+
+const LINES: usize = 21;
+
+// The first n widths pass their check one after the other.
+fn widths_sound(most: u32, widths: [u32; 7], n: usize) -> bool
+    requires { ⌜ n ≤ widthPlaces ⌝ }
+    ensures { λ r. ⌜ r ≡ widthsSound most 0 (take n widths) ⌝ }
+{
+    let mut total: u32 = 0;
+    let mut i = 0;
+    while i < n {
+        let w = widths[i];
+        if !checks::side::width_fits(most, total, w) {
+            return false;
+        }
+        total += w;
+        i += 1;
+    }
+    true
+}
+
+// Every width from place n on is 0.
+fn widths_blank(widths: [u32; 7], n: usize) -> bool
+    ensures { λ r. ⌜ r ≡ all (eqb 0) (drop n widths) ⌝ }
+{
+    let mut i = n;
+    while i < WIDTHS {
+        let w = widths[i];
+        if w != 0 {
+            return false;
+        }
+        i += 1;
+    }
+    true
+}
+
+// At least one width and no more than there are places, each sound, and nothing behind the last.
+fn widths_valid(most: u32, widths: [u32; 7], n: usize) -> bool
+    ensures { λ r. ⌜ r ≡ widthsValid most widths n ⌝ }
+{
+    if n < 1 {
+        return false;
+    }
+    if WIDTHS < n {
+        return false;
+    }
+    if !widths_sound(most, widths, n) {
+        return false;
+    }
+    widths_blank(widths, n)
+}
+
+// The first n lines pass their checks one after the other.
+fn lines_sound(side: Shape, lines: [Direct; 21], n: usize) -> bool
+    requires { ⌜ (n ≤ linePlaces) × (side .attributes ≤ widthPlaces) ⌝ }
+    ensures { λ r. ⌜ ((s : policy.Side) → Shaped side s → r ≡ linesSound s none (take n lines)) ⌝ }
+{
+    let mut last = Direct {
+        senior: 0,
+        junior: 0,
+    };
+    let mut i = 0;
+    while i < n {
+        let l = lines[i];
+        if !checks::side::pair_fits(side, l.senior, l.junior) {
+            return false;
+        }
+        if !crate::order::pair_rises(i, last, l) {
+            return false;
+        }
+        last = l;
+        i += 1;
+    }
+    true
+}
+
+fn no_line(l: Direct) -> bool
+    ensures { λ r. ⌜ r ≡ sameLine (direct 0 0) l ⌝ }
+{
+    if l.senior == 0 {
+        return l.junior == 0;
+    }
+    false
+}
+
+// Every line from place n on is blank.
+fn lines_blank(lines: [Direct; 21], n: usize) -> bool
+    ensures { λ r. ⌜ r ≡ all (sameLine (direct 0 0)) (drop n lines) ⌝ }
+{
+    let mut i = n;
+    while i < LINES {
+        let l = lines[i];
+        if !no_line(l) {
+            return false;
+        }
+        i += 1;
+    }
+    true
+}
+
+// No more lines than there are places, each sound, and nothing behind the last.
+fn lines_valid(side: Shape, lines: [Direct; 21], n: usize) -> bool
+    requires { ⌜ side .attributes ≤ widthPlaces ⌝ }
+    ensures { λ r. ⌜ ((s : policy.Side) → Shaped side s → r ≡ linesValid s lines n) ⌝ }
+{
+    if LINES < n {
+        return false;
+    }
+    if !lines_sound(side, lines, n) {
+        return false;
+    }
+    lines_blank(lines, n)
+}
+
+// Check 11 of a side.
+pub fn side_valid(most: u32, x: SideValue) -> bool
+    ensures { λ r. ⌜ r ≡ sideValid most x ⌝ }
+{
+    let widths = x.widths;
+    if !widths_valid(most, widths, x.attributes) {
+        return false;
+    }
+    let shape = checks::side::measure(widths, x.attributes);
+    let lines = x.seniority;
+    lines_valid(shape, lines, x.lines)
+}
+
+// The shape of a valid side.
+pub fn shape(x: SideValue) -> Shape
+    requires { ⌜ (x .attributes ≤ widthPlaces) × (sum (take (x .attributes) (x .widths)) < masks) ⌝ }
+    ensures { λ r. ⌜ SmallShape r (sideOf x) ⌝ }
+{
+    let widths = x.widths;
+    checks::side::measure(widths, x.attributes)
+}
