@@ -1,4 +1,5 @@
 pub mod Bools
+pub mod Choice
 pub mod Counting
 pub mod Filled
 pub mod Lists

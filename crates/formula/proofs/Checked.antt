@@ -31,7 +31,7 @@ rules-fit p h =
     record {
       count = parts-within p h .rules;
       each = rw (take-padded-map ruleValue rulePlaces noRule (p .rules))
-      (mapped-each ruleValue RuleFits (p .rules) (λ r m. let b = rule-bounds p (p .rules) (h .rules) r m in record { action = b .action; words = b .few }));
+          (mapped-each ruleValue RuleFits (p .rules) (λ r m. let b = rule-bounds p (p .rules) (h .rules) r m in record { action = b .action; words = b .few }));
     }
 
 value-fits : (p : Policy) → sound p ≡ true → ValueFits (valueOf p)

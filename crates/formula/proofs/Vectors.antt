@@ -105,8 +105,12 @@ filled-next sets v x r hv old new =
             | no e ↦
                 let f : mostValues + w ≡ mostValues + v → ⊥ = λ q. e (omega arith) in
                 let n : mostValues + w ≡ v → ⊥ = λ q. omega arith in
-                rw (getD-set-other (set r v x) (mostValues + v) w x 0 o, getD-set-other r v w x 0 e,
-                getD-set-other (set r v x) (mostValues + v) (mostValues + w) x 0 f, getD-set-other r v (mostValues + w) x 0 n)
+                rw (
+                  getD-set-other (set r v x) (mostValues + v) w x 0 o,
+                  getD-set-other r v w x 0 e,
+                  getD-set-other (set r v x) (mostValues + v) (mostValues + w) x 0 f,
+                  getD-set-other r v (mostValues + w) x 0 n,
+                )
                 (old .both w (omega arith) k g)
           ];
     }
@@ -140,10 +144,10 @@ grown-line old new f g a b ha hb x e =
           let t = x .lane k s p in
           elim (ℕ-discrete v b) [
             | yes q ↦ rw (q, getD-set-same new (mostValues + b) y 0 l) (
-            has-union (getD new (mostValues + b) 0) (getD new (mostValues + a) 0) k
-            ∙ ap₂ (λ (m n : Bool). m || n) (t b hb) (t a ha)
-            ∙ ap (λ (m : Bool). has (f s) b || m) (sym (and-true (has (f s) a)) ∙ ap (λ (m : Bool). has (f s) a && m) (sym (eq-eqb b b refl)))
-            ∙ sym (has-extended (f s) a b b) ∙ ap (λ (m : ℕ). has m b) (e s))
+                has-union (getD new (mostValues + b) 0) (getD new (mostValues + a) 0) k
+                ∙ ap₂ (λ (m n : Bool). m || n) (t b hb) (t a ha)
+                ∙ ap (λ (m : Bool). has (f s) b || m) (sym (and-true (has (f s) a)) ∙ ap (λ (m : Bool). has (f s) a && m) (sym (eq-eqb b b refl)))
+                ∙ sym (has-extended (f s) a b b) ∙ ap (λ (m : ℕ). has m b) (e s))
             | no q ↦
                 let n : mostValues + v ≡ mostValues + b → ⊥ = λ z. q (omega arith) in
                 ap (λ (m : ℕ). has m k) (getD-set-other new (mostValues + b) (mostValues + v) y 0 n)

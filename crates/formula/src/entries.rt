@@ -16,7 +16,12 @@ ghost use Rattle.formula.specs.Lane.{lanes, mostActions, ShapeOf, Pair, 
 pub const ACTIONS: usize = 8;
 
 // For each action the pairs at which it is granted: none where it has no rule. The last rule comes first, so an action's first one counts.
-pub fn grants(s: Shape, users: &[u64; 2 * VALUES], objects: &[u64; 2 * VALUES], rules: Rules) -> [u64; ACTIONS]
+pub fn grants(
+    s: Shape,
+    users: &[u64; 2 * VALUES],
+    objects: &[u64; 2 * VALUES],
+    rules: Rules,
+) -> [u64; ACTIONS]
     requires { ⌜ ((p : Policy) × ShapeOf p s) × RulesFit rules ⌝ }
     ensures { λ r. ⌜ ((p : Policy) (k u o a : ℕ) → ShapeOf p s → Pair p (now (users .entry)) (now (objects .entry)) k u o → p .rules ≡ rulesOf rules → a < mostActions → has (getD r a 0) k ≡ granted p a u o) ⌝ }
 {

@@ -20,6 +20,9 @@ ghost use Rattle.policy.specs.Value.{wordPlaces};
 ghost use Rattle.formula.specs.Truth.{holds, placeHeld, compares, top, below, step, truth};
 ghost use Rattle.formula.specs.Lane.{lanes, mostValues, ShapeOf, Stands, Pair, wordsOf, passes, column};
 
+// The most words of a formula, and so the most places of a stack.
+pub const WORDS: usize = 32;
+
 // Where a set holds value v with its juniors or seniors taken in.
 fn taken(vectors: &[u64; 2 * VALUES], v: u8) -> u64
     ensures { λ r. ⌜ ((grown : ℕ → ℕ → Bool) (k s : ℕ) → Stands grown (now (vectors .entry)) k s → has r k ≡ grown s v) ⌝ }
@@ -28,6 +31,7 @@ fn taken(vectors: &[u64; 2 * VALUES], v: u8) -> u64
     if i < VALUES { vectors[VALUES + i] } else { 0 }
 }
 
+// Where a holding is true.
 fn held(users: &[u64; 2 * VALUES], objects: &[u64; 2 * VALUES], h: Holding) -> u64
     ensures { λ r. ⌜ ((p : Policy) (k u o : ℕ) → Pair p (now (users .entry)) (now (objects .entry)) k u o → has r k ≡ holds p u o h) ⌝ }
 {
@@ -45,7 +49,14 @@ fn place(x: u64, y: u64, exact: bool) -> u64
 }
 
 // Where w places pass, which start at a in the user sets and at b in the object sets.
-fn places(users: &[u64; 2 * VALUES], objects: &[u64; 2 * VALUES], w: u8, a: u8, b: u8, exact: bool) -> u64
+fn places(
+    users: &[u64; 2 * VALUES],
+    objects: &[u64; 2 * VALUES],
+    w: u8,
+    a: u8,
+    b: u8,
+    exact: bool,
+) -> u64
     requires { ⌜ (a + w ≤ mostValues) × (b + w ≤ mostValues) ⌝ }
     ensures { λ r. ⌜ ((p : Policy) (k u o : ℕ) → Pair p (now (users .entry)) (now (objects .entry)) k u o → has r k ≡ every (λ q. passes exact (has o (b + q)) (has u (a + q))) w) ⌝ }
 {
@@ -61,7 +72,14 @@ fn places(users: &[u64; 2 * VALUES], objects: &[u64; 2 * VALUES], w: u8, a: u8, 
 }
 
 // Where user attribute i and object attribute j, if equally wide, pass place by place.
-fn matched(s: Shape, users: &[u64; 2 * VALUES], objects: &[u64; 2 * VALUES], i: u8, j: u8, exact: bool) -> u64
+fn matched(
+    s: Shape,
+    users: &[u64; 2 * VALUES],
+    objects: &[u64; 2 * VALUES],
+    i: u8,
+    j: u8,
+    exact: bool,
+) -> u64
     requires { ⌜ ((p : Policy) × ShapeOf p s) ⌝ }
     ensures { λ r. ⌜ ((p : Policy) (k u o : ℕ) → ShapeOf p s → Pair p (now (users .entry)) (now (objects .entry)) k u o → has r k ≡ (equalWidth p i j && every (λ q. passes exact (placeHeld (p .object) j o q) (placeHeld (p .user) i u q)) (width (p .user) i))) ⌝ }
 {
@@ -77,6 +95,7 @@ fn matched(s: Shape, users: &[u64; 2 * VALUES], objects: &[u64; 2 * VALUES], i: 
     places(users, objects, w, a, b, exact)
 }
 
+// Where a comparison is true.
 fn compared(s: Shape, users: &[u64; 2 * VALUES], objects: &[u64; 2 * VALUES], c: Comparison) -> u64
     requires { ⌜ ((p : Policy) × ShapeOf p s) ⌝ }
     ensures { λ r. ⌜ ((p : Policy) (k u o : ℕ) → ShapeOf p s → Pair p (now (users .entry)) (now (objects .entry)) k u o → has r k ≡ compares p u o c) ⌝ }
@@ -88,14 +107,14 @@ fn compared(s: Shape, users: &[u64; 2 * VALUES], objects: &[u64; 2 * VALUES], c:
 }
 
 // The top of the lowest d places of a stack.
-fn top_of(stack: &[u64; 32], d: usize) -> u64
+fn top_of(stack: &[u64; WORDS], d: usize) -> u64
     requires { ⌜ d ≤ wordPlaces ⌝ }
     ensures { λ r. ⌜ ((k : ℕ) → has r k ≡ top (column (now (stack .entry)) d k)) ⌝ }
 {
     if d == 0 { 0 } else { stack[d - 1] }
 }
 
-// How many places lie below the top of d.
+// How many of d places lie below the top.
 fn below_top(d: usize) -> usize
     ensures { λ r. ⌜ (r ≤ d) × ((stack : List ℕ) (k : ℕ) → column stack r k ≡ below (column stack d k)) ⌝ }
 {
@@ -108,13 +127,27 @@ pub struct Put {
     pub above: usize,
 }
 
-fn worked(s: Shape, users: &[u64; 2 * VALUES], objects: &[u64; 2 * VALUES], w: Word, stack: &[u64; 32], d: usize) -> Put
+// One word at a stack of d places.
+fn worked(
+    s: Shape,
+    users: &[u64; 2 * VALUES],
+    objects: &[u64; 2 * VALUES],
+    w: Word,
+    stack: &[u64; WORDS],
+    d: usize,
+) -> Put
     requires { ⌜ ((p : Policy) × ShapeOf p s) × (d ≤ wordPlaces) ⌝ }
     ensures { λ r. ⌜ (r .above ≤ d) × ((p : Policy) (k u o : ℕ) → ShapeOf p s → Pair p (now (users .entry)) (now (objects .entry)) k u o → has (r .truths) k ∷ column (now (stack .entry)) (r .above) k ≡ step p u o w (column (now (stack .entry)) d k)) ⌝ }
 {
     match w {
-        Word::True => Put { truths: ALL, above: d },
-        Word::False => Put { truths: 0, above: d },
+        Word::True => Put {
+            truths: ALL,
+            above: d,
+        },
+        Word::False => Put {
+            truths: 0,
+            above: d,
+        },
         Word::Holds(h) => Put {
             truths: held(users, objects, h),
             above: d,
@@ -145,11 +178,17 @@ fn worked(s: Shape, users: &[u64; 2 * VALUES], objects: &[u64; 2 * VALUES], w: W
 }
 
 // The truths of a formula of n words at 64 pairs.
-pub fn truths(s: Shape, users: &[u64; 2 * VALUES], objects: &[u64; 2 * VALUES], words: [Slot; 32], n: usize) -> u64
+pub fn truths(
+    s: Shape,
+    users: &[u64; 2 * VALUES],
+    objects: &[u64; 2 * VALUES],
+    words: [Slot; WORDS],
+    n: usize,
+) -> u64
     requires { ⌜ ((p : Policy) × ShapeOf p s) × (n ≤ wordPlaces) ⌝ }
     ensures { λ r. ⌜ ((p : Policy) (k u o : ℕ) → ShapeOf p s → Pair p (now (users .entry)) (now (objects .entry)) k u o → has r k ≡ truth p u o (wordsOf n words)) ⌝ }
 {
-    let mut stack = [0u64; 32];
+    let mut stack = [0u64; WORDS];
     let mut d: usize = 0;
     let mut i: usize = 0;
     while i < n {

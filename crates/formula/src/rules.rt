@@ -1,4 +1,5 @@
 // The rule of an action.
+use crate::evaluate::WORDS;
 use policy::value::RuleValue;
 use policy::value::Rules;
 use policy::value::Slot;
@@ -25,7 +26,7 @@ pub fn rule_of(rules: Rules, action: u32) -> RuleValue
         }
         i += 1;
     }
-    let words = [Slot { word: Word::False }; 32];
+    let words = [Slot { word: Word::False }; WORDS];
     RuleValue {
         action,
         count: 1,

@@ -6,6 +6,7 @@ ghost use lib.ListN.{take};
 ghost use Rattle.basis.specs.Lists.{sum};
 ghost use Rattle.policy.specs.Policy.{Side, Policy, sets as setsOf, width as widthOf, start as startOf};
 ghost use Rattle.policy.specs.Value.{sideOf};
+ghost use Rattle.formula.specs.Decide.{lacking};
 ghost use Rattle.formula.specs.Lane.{mostValues, Starts, ShapeOf, SideFits};
 
 // The most values of a side, and so the most attributes.
@@ -54,7 +55,11 @@ pub fn of_sides(user: SideValue, object: SideValue) -> Shape
 pub fn start(starts: [u8; VALUES + 1], i: usize) -> u8
     ensures { λ r. ⌜ ((s : Side) → Starts s starts → r ≡ startOf s i) ⌝ }
 {
-    if i < VALUES { starts[i] } else { starts[VALUES] }
+    if i < VALUES {
+        starts[i]
+    } else {
+        starts[VALUES]
+    }
 }
 
 // The width of attribute i, or 0 where there is no attribute i.
@@ -72,4 +77,17 @@ pub fn sets(starts: [u8; VALUES + 1]) -> u32
     ensures { λ r. ⌜ ((s : Side) → Starts s starts → r ≡ setsOf s) ⌝ }
 {
     1 << starts[VALUES]
+}
+
+// Whether a user set or an object set holds a value that its side lacks.
+pub fn lacks(s: Shape, user: u32, object: u32) -> bool
+    requires { ⌜ ((p : Policy) × ShapeOf p s) ⌝ }
+    ensures { λ r. ⌜ ((p : Policy) → ShapeOf p s → r ≡ lacking p user object) ⌝ }
+{
+    let user_starts = s.user;
+    if sets(user_starts) <= user {
+        return true;
+    }
+    let object_starts = s.object;
+    sets(object_starts) <= object
 }

@@ -1,18 +1,18 @@
 -- The laws of sets as numbers: what each operation does value by value, that a set is its members, and which numbers are sets of the first n values.
 use mathlib.Core.Path.{_≡_, refl, sym, ap, ap₂, _∙_}
 use mathlib.Core.Bool.{Bool, true, false, not, cond, _&&_, _||_, and-true, and-false, or-false}
-use mathlib.Core.Logic.{_↔_}
+use mathlib.Core.Logic.{_↔_, ⊎-elim}
 use Prim.Native.Nat.{ℕ, zero, suc, _+_, _-_, _*_, _/_, _%_, _^_, _<_, _≤_, zero-le}
 use native.Mathlib.Nat.{mod-lt, mod-eq-of-lt, div-eq-of-lt, lt-of-lt-of-le, div-add-mod', div-one, pow-suc, mul-mod-left, mul-div-cancel, one-mul}
 use native.Mathlib.Numerals.{one-add, add-one}
 use native.Mathlib.Decide.{ℕ-discrete, decLt}
 use native.Mathlib.Omega.{arith}
 use lib.Arith.{lt-one}
-use lib.Bits.{bitOr, bitAnd, bitXor, or-shr, or-mod, and-shr, and-mod, xor-shr, xor-mod, or-shifted-r, or-zero-r, and-mask}
+use lib.Bits.{bitOr, bitAnd, bitXor, or-shr, or-mod, and-shr, and-mod, xor-shr, xor-mod, or-shifted-r, or-zero-r, and-mask, and-le-r}
 use lib.Dec.{eqb, ltb, lit<, eqb·suc-zero, eqb·zero-suc, eqb·suc-suc}
 use lib.Pow.{pow-mono, pow-pos, shr-shr, shr-lt, field, mod-mod-pow, low as lowPart, high as highPart}
 use borrow.Author.Tests.{eqb-true, eq-eqb, ne-eqb, lt-ltb, le-ltb}
-use Rattle.basis.proofs.Bools.{and-right}
+use Rattle.basis.proofs.Bools.{and-left, and-right, or-cases}
 use Rattle.sets.specs.Set.{has, setOf, union, minus, within, mask}
 
 -- ---- value by value
@@ -145,6 +145,19 @@ within-iff a b = (
   (λ e v h. and-right (has a v) (has b v) (sym (has-meet a b v) ∙ ap (λ (x : ℕ). has x v) (eqb-true (bitAnd a b) a e) ∙ h)),
   (λ f. eq-eqb (bitAnd a b) a (same-set (bitAnd a b) a (λ v. has-meet a b v ∙ absorbed (has a v) (has b v) (f v)))),
 )
+
+-- what is within a set stays so with more of its values and with fewer, and is no greater a number
+pub within-union : (a b r : ℕ) → within a r ≡ true → within b r ≡ true → within (union a b) r ≡ true
+within-union a b r p q =
+    within-iff (union a b) r .1
+    (λ v h. ⊎-elim (within-iff a r .0 p v) (within-iff b r .0 q v) (or-cases (has a v) (has b v) (sym (has-union a b v) ∙ h)))
+
+pub within-minus : (a b r : ℕ) → within a r ≡ true → within (minus a b) r ≡ true
+within-minus a b r p =
+    within-iff (minus a b) r .1 (λ v h. within-iff a r .0 p v (and-left (has a v) (not (has b v)) (sym (has-minus a b v) ∙ h)))
+
+pub within-le : (a r : ℕ) → within a r ≡ true → a ≤ r
+within-le a r p = omega (arith, and-le-r a r, eqb-true (bitAnd a r) a p)
 
 -- ---- the values below n that pass a test
 

@@ -56,10 +56,10 @@ loop-again c =
     let h : l .a < 8 = omega arith in (
       omega arith,
       rw (setOf-next f (l .a))
-      (⊎-elim
-      (λ t. rw (eq-eqb _ 1 (t .0 .taken)) (omega (arith, t .1, l .inv .1, bit-shifted (l .a) h)))
-      (λ t. rw (ne-eqb _ 1 (t .0 .left)) (omega (arith, t .1, l .inv .1)))
-      (c .if1 .came)),
+          (⊎-elim
+          (λ t. rw (eq-eqb _ 1 (t .0 .taken)) (omega (arith, t .1, l .inv .1, bit-shifted (l .a) h)))
+          (λ t. rw (ne-eqb _ 1 (t .0 .left)) (omega (arith, t .1, l .inv .1)))
+          (c .if1 .came)),
     )
 
 returns : tie.Need-returns Inv-loop μ-loop

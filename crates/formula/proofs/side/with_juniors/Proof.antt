@@ -58,7 +58,7 @@ loop-again c =
       omega arith,
       l .inv .1,
       rw (c .extend .ensures) (grown-line (a .plain) (l .r) f (lowered (drop (l .i - 1) (take (a .n) (a .t2)))) (d .senior) (d .junior)
-      (b .1) (omega arith) (l .inv .2) (λ t. lower-line (a .t2) (a .n) (l .inv .1) t (f t) (l .i) (omega arith) (l .inv .0) refl)),
+          (b .1) (omega arith) (l .inv .2) (λ t. lower-line (a .t2) (a .n) (l .inv .1) t (f t) (l .i) (omega arith) (l .inv .0) refl)),
     )
 
 returns : tie.Need-returns Inv-loop μ-loop

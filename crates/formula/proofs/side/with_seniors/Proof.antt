@@ -65,8 +65,8 @@ returns c =
     let k : length (take (a .n) (a .t2)) ≤ l .i = omega (arith, length-take-le (a .n) (a .t2) (l .inv .1)) in
     grown-stands (a .plain) (l .r) (l .inv .2) (heldOrJunior (take (a .n) (a .t2))) (l .inv .3)
     (λ s v.
-        let e : l .inv .2 s ≡ raised (take (a .n) (a .t2)) s = rw (drop-of-length-le (take (a .n) (a .t2)) k) at (l .inv .4 s) in
-        rw e (has-raised mostValues (take (a .n) (a .t2)) o s v))
+    let e : l .inv .2 s ≡ raised (take (a .n) (a .t2)) s = rw (drop-of-length-le (take (a .n) (a .t2)) k) at (l .inv .4 s) in
+    rw e (has-raised mostValues (take (a .n) (a .t2)) o s v))
     (heldOrJunior-none mostValues (take (a .n) (a .t2)) o)
 
 pub with-seniors-spec : {M : Type 1} → statement M
