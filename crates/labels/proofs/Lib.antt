@@ -1,9 +1,10 @@
 pub mod Labels
 pub mod Labelling
-pub mod Entries
 pub mod Alike
+pub mod Entries
 pub mod Turn
 pub mod Compile
 pub mod Storing
+pub mod Telling
 pub mod Separation
 pub mod Examples

@@ -5,14 +5,14 @@ use mathlib.Core.Bool.{Bool, not}
 use mathlib.Core.List.{List}
 use lib.Dec.{eqb}
 use lib.ListN.{getD}
-use Rattle.basis.specs.Numbers.{first}
-use Rattle.sets.specs.Set.{setOf}
+use Rattle.basis.specs.Numbers.{first, agree}
+use Rattle.sets.specs.Set.{has, setOf}
 use Rattle.seniority.specs.Seniority.{heldOrJunior}
 use Rattle.policy.specs.Limits.{actions}
 use Rattle.policy.specs.Policy.{Policy}
 use Rattle.policy.specs.Value.{sideOf, rulesOf}
 use Rattle.formula.specs.Truth.{grants}
-use Rattle.formula.specs.Lane.{lanes, ShapeOf, Stands, SideFits, RulesFit}
+use Rattle.formula.specs.Lane.{lanes, mostActions, ShapeOf, Stands, SideFits, RulesFit}
 use Rattle.labels.specs.declared.rows.Source.{Source}
 
 -- the most sets of a side that rows and grids have room for
@@ -46,3 +46,7 @@ firstUnlike f g n = first (λ o. not (eqb (f o) (g o))) n
 -- the rows u and v are alike: there is no first column at which they differ
 unfoldable pub rowsAlike : (ℕ → ℕ → ℕ) → ℕ → ℕ → ℕ → Bool
 rowsAlike f n u v = eqb (firstUnlike (f u) (f v) n) n
+
+-- the first action that one of two entries has and the other lacks
+unfoldable pub firstAction : ℕ → ℕ → ℕ
+firstAction x y = first (λ a. not (agree (has x a) (has y a))) mostActions

@@ -7,8 +7,10 @@ use crate::classify::classify;
 use crate::grid;
 use crate::grid::PLACES;
 use crate::grid::View;
+use crate::rows;
 use crate::rows::SETS;
 use policy::refusal::Refusal;
+use policy::value::PolicyValue;
 ghost use mathlib.Core.Path.{_≡_};
 ghost use mathlib.Core.Bool.{true};
 ghost use Prim.Native.Nat.{ℕ, _+_, _*_, _/_, _%_, _≤_, _<_};
@@ -87,4 +89,18 @@ fn store(grid: &[u8; PLACES], view: View, users: &mut [u8], objects: &mut [u8], 
     let object_leaders = object.leaders;
     put_table(table, grid, view, &user_leaders, &object_leaders, counts);
     Compiled::Stored(counts)
+}
+
+// Fills the three lent buffers with the user labels, the object labels and the table of a policy.
+pub fn compile(policy: PolicyValue, users: &mut [u8], objects: &mut [u8], table: &mut [u8]) -> Compiled
+    ensures { λ r. ⌜ Compiles policy (lent (now (users .entry)) (now (objects .entry)) (now (table .entry))) r (lent (now (users .exit)) (now (objects .exit)) (now (table .exit))) ⌝ }
+{
+    if !validity::check(policy) {
+        return Compiled::Refused(Refusal::InvalidState);
+    }
+    let from = rows::source_of(policy);
+    let shape = from.shape;
+    let view = grid::view_of(shape);
+    let entries = grid::fill(from, view);
+    store(&entries, view, users, objects, table)
 }

@@ -102,7 +102,7 @@ module _ (high low n v : ℕ) (fits : low < 2 ^ n) where
 
 -- ---- a set is its members
 
-digit-eq : (x y : ℕ) → x < 2 → y < 2 → eqb x 1 ≡ eqb y 1 → x ≡ y
+pub digit-eq : (x y : ℕ) → x < 2 → y < 2 → eqb x 1 ≡ eqb y 1 → x ≡ y
 digit-eq zero zero h k e = refl
 digit-eq zero (suc zero) h k e = cc
 digit-eq zero (suc (suc y)) h k e = omega arith

@@ -1,0 +1,65 @@
+use borrow.Author.Needs.{needs}
+use Rattle.labels.proofs.compiler.compile.Statement.{statement}
+use Rattle.labels.proofs.compiler.compile.Tie as tie
+use Rattle.labels.proofs.compiler.compile.Reads as reads
+use Rattle.labels.proofs.compiler.compile.Lts as lts
+use Rattle.labels.proofs.compiler.store.Reads as store-reads
+use Rattle.labels.proofs.grid.fill.Reads as fill-reads
+use Rattle.labels.proofs.grid.view_of.Reads as view-of-reads
+use Rattle.labels.proofs.rows.source_of.Reads as source-of-reads
+use Rattle.validity.proofs.check.Reads as check-reads
+
+-- src/compiler.rt:98:9
+check-requires : tie.Need-check-requires
+check-requires c κs = search needs
+
+-- src/compiler.rt:99:9
+returns : tie.Need-returns
+returns c = ?
+
+-- src/compiler.rt:101:9
+source-of-requires : tie.Need-source-of-requires
+source-of-requires c κs = ?
+
+-- src/compiler.rt:103:9
+view-of-requires : tie.Need-view-of-requires
+view-of-requires c κs = search needs
+
+-- src/compiler.rt:104:19
+fill-requires : tie.Need-fill-requires
+fill-requires c κs = ?
+
+-- src/compiler.rt:105:5
+store-requires : tie.Need-store-requires
+store-requires c κs = ?
+
+-- src/compiler.rt:95:1
+same-length : tie.Need-same-length
+same-length c = search needs
+
+-- src/compiler.rt:95:1
+same-length-2 : tie.Need-same-length-2
+same-length-2 c = search needs
+
+-- src/compiler.rt:95:1
+same-length-3 : tie.Need-same-length-3
+same-length-3 c = search needs
+
+-- src/compiler.rt:95:1
+returns-2 : tie.Need-returns-2
+returns-2 c = ?
+
+pub compile-spec : {M : Type 1} → statement M
+compile-spec =
+    tie.close
+    (tie.spec
+    check-requires
+    returns
+    source-of-requires
+    view-of-requires
+    fill-requires
+    store-requires
+    same-length
+    same-length-2
+    same-length-3
+    returns-2)
