@@ -34,6 +34,10 @@ module _ (f g : ℕ → ℕ) (n : ℕ) where
   unfolding firstUnlike
   unlike-at h = eqb-false _ _ (not-true _ (first-least _ n .hit h))
 
+  -- where there is one
+  pub unlike-below : (r : ℕ) → r ≡ firstUnlike f g n → (r ≡ n → ⊥) → r < n
+  unlike-below r q e = omega (arith, unlike-within)
+
   pub unlike-is : (r : ℕ) → r ≤ n → ((o : ℕ) → o < r → f o ≡ g o) → (r < n → f r ≡ g r → ⊥) → firstUnlike f g n ≡ r
   unfolding firstUnlike
   unlike-is r w b h =

@@ -1,16 +1,19 @@
 -- Laws of entries: the entry of a lane, that entries differ at an action, and that user sets whose entries are equal are alike.
-use Prim.Native.Nat.{ℕ, suc, _+_, _^_, _≤_, _<_}
+use Prim.Native.Nat.{ℕ, suc, _+_, _/_, _%_, _^_, _≤_, _<_}
 use mathlib.Core.Path.{_≡_, refl, sym, ap, ap₂, _∙_}
-use mathlib.Core.Bool.{true, false}
+use mathlib.Core.Bool.{true, false, not}
 use mathlib.Core.List.{List}
+use native.Mathlib.Nat.{mod-lt}
 use native.Mathlib.Omega.{arith}
+use lib.Dec.{eqb, lit<}
 use lib.ListN.{getD}
 use borrow.Author.Tests.{not-true, not-false}
 use Rattle.basis.specs.Numbers.{agree}
-use Rattle.basis.proofs.Counting.{first-least}
-use Rattle.basis.proofs.Same.{agree-eq}
+use Rattle.basis.proofs.Bools.{fails}
+use Rattle.basis.proofs.Counting.{first-least, first-is}
+use Rattle.basis.proofs.Same.{agree-eq, eq-agree}
 use Rattle.sets.specs.Set.{has, setOf}
-use Rattle.sets.proofs.Laws.{same-below, setOf-lt, has-setOf, setOf-same}
+use Rattle.sets.proofs.Laws.{digit-eq, same-below, setOf-lt, has-setOf, setOf-same}
 use Rattle.policy.specs.Limits.{actions}
 use Rattle.policy.specs.Policy.{Policy, sets}
 use Rattle.formula.specs.Truth.{grants}
@@ -39,10 +42,23 @@ module _ (x y : ℕ) where
   differs : x < 2 ^ mostActions → y < 2 ^ mostActions → (x ≡ y → ⊥) → firstAction x y < mostActions
   unfolding firstAction
   differs hx hy n =
-      let l = first-least (λ a. mathlib.Core.Bool.not (agree (has x a) (has y a))) mostActions in
+      let l = first-least (λ a. not (agree (has x a) (has y a))) mostActions in
       let all : ¬ (mostActions ≤ firstAction x y) = λ b.
       n (same-below mostActions x y hx hy (λ a h. agree-eq (has x a) (has y a) (not-false _ (l .before a (omega arith))))) in
       omega arith
+
+  -- going through the actions finds it
+  pub action-is : (a : ℕ) → a ≤ mostActions → ((i : ℕ) → i < a → x / 2 ^ i % 2 ≡ y / 2 ^ i % 2)
+      → (a < mostActions → x / 2 ^ a % 2 ≡ y / 2 ^ a % 2 → ⊥) → a ≡ firstAction x y
+  unfolding firstAction
+  action-is a w b h =
+      sym (first-is _ mostActions a
+      (record {
+        within = w;
+        before = λ i l. rw (eq-agree (has x i) (has y i) (ap (λ (d : ℕ). eqb d 1) (b i l)));
+        hit = λ l. rw (fails (agree (has x a) (has y a)) (λ e.
+            h l (digit-eq (x / 2 ^ a % 2) (y / 2 ^ a % 2) (mod-lt _ (lit< tt)) (mod-lt _ (lit< tt)) (agree-eq (has x a) (has y a) e))));
+      }))
 
 -- ---- two user sets
 

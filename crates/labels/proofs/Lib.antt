@@ -2,6 +2,7 @@ pub mod Labels
 pub mod Labelling
 pub mod Alike
 pub mod Entries
+pub mod Grids
 pub mod Turn
 pub mod Compile
 pub mod Storing

@@ -18,11 +18,11 @@ use Rattle.policy.specs.Policy.{Policy, sets}
 use Rattle.policy.specs.Value.{policyOf}
 use Rattle.policy.specs.Valid.{valid}
 use Rattle.policy.specs.declared.value.PolicyValue.{PolicyValue}
-use Rattle.policy.specs.declared.refusal.Refusal.the-variants.{BufferTooShort}
+use Rattle.policy.specs.declared.refusal.Refusal.the-variants.{InvalidState, BufferTooShort}
 use Rattle.formula.specs.Truth.{grants}
 use Rattle.labels.specs.Labels.{label, labelCount, leader}
 use Rattle.labels.specs.Rows.{entryOf}
-use Rattle.labels.specs.Grid.{cell, turnedView, likeRows, Inside, GridOf, Labelled}
+use Rattle.labels.specs.Grid.{cell, turnedView, likeRows, GridOf, Labelled}
 use Rattle.labels.specs.Compile.{likeUsers, likeObjects, NU, NO, entry, userLabel, objectLabel, userResult, objectResult, tableResult, lent, tooShort, compile, compileBuffers, Compiles}
 use Rattle.labels.specs.declared.grid.View.{View}
 use Rattle.labels.specs.declared.Counts.{Counts}
@@ -30,10 +30,6 @@ use Rattle.labels.specs.declared.Compiled.the-variants.{Stored, Refused}
 use Rattle.labels.proofs.Alike.{rows-equivalence, rows-alike, columns-alike}
 use Rattle.labels.proofs.Turn.{labelled-same, labelled-leader}
 use Rattle.labels.proofs.Compile.{likeUsers-equivalence, likeObjects-equivalence, length-userResult, length-objectResult, length-tableResult}
-
-pub turned-inside : (view : View) → Inside view → Inside (turnedView view)
-turned-inside view i =
-    record { few-rows = i .few-columns; few-columns = i .few-rows; inside = λ o u ho hu. omega (arith, i .inside u o hu ho) }
 
 -- ---- the labels
 
@@ -79,6 +75,11 @@ module _ (p : Policy) (us os ts : List ℕ) where
       rw (le-ltb (length us) (length (userResult p)) (rw (length-userResult p) a),
       le-ltb (length os) (length (objectResult p)) (rw (length-objectResult p) b),
       le-ltb (length ts) (length (tableResult p)) (rw (length-tableResult p) c))
+
+-- a refusal changes nothing
+pub refused-value : (v : PolicyValue) (us os ts : List ℕ) → valid v ≡ false → Compiles v (lent us os ts) (Refused InvalidState) (lent us os ts)
+unfolding compile compileBuffers lowest
+refused-value v us os ts e = record { answer = rw e; buffers = rw e }
 
 module _ (v : PolicyValue) (ok : valid v ≡ true) (us os ts : List ℕ) where
   refused-short : tooShort (policyOf v) (lent us os ts) ≡ true → Compiles v (lent us os ts) (Refused BufferTooShort) (lent us os ts)

@@ -17,7 +17,7 @@ use Rattle.policy.specs.declared.value.PolicyValue.{PolicyValue}
 use Rattle.labels.specs.Rows.{entryOf, entryAt, firstUnlike, firstAction}
 use Rattle.labels.specs.Compile.{likeUsers}
 use Rattle.labels.specs.Apart.{Separates, apartRefusal}
-use Rattle.labels.proofs.Alike.{unlike-within, unlike-before, unlike-at}
+use Rattle.labels.proofs.Alike.{unlike-before, unlike-at, unlike-below}
 use Rattle.labels.proofs.Entries.{entries-alike, entries-separate}
 
 -- ---- refusals
@@ -52,12 +52,9 @@ module _ (p : Policy) (u w n : ℕ) (xs ys : List ℕ) (objects : n ≡ sets (p 
       let l : o < n = rw objects h in
       sym (first-row o l) ∙ unlike-before (entryAt xs) (entryAt ys) n o (omega arith) ∙ second-row o l)
 
-  pub unlike-column : (r ≡ n → ⊥) → r < n
-  unlike-column e = let b = unlike-within (entryAt xs) (entryAt ys) n in omega arith
-
   pub rows-tell-apart : (a : ℕ) → a ≡ firstAction (getD xs r 0) (getD ys r 0) → (r ≡ n → ⊥) → Separates p u w a r
   rows-tell-apart a q e =
-      let l = unlike-column e in
+      let l = unlike-below (entryAt xs) (entryAt ys) n r found e in
       let s = unlike-at (entryAt xs) (entryAt ys) n in
       rw (q, first-row r l, second-row r l)
       (entries-separate p u w r (rw (← objects) l) (λ z. s (rw (← found) l) (rw (← found) (first-row r l ∙ z ∙ sym (second-row r l)))))

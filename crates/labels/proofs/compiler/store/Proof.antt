@@ -8,7 +8,8 @@ use borrow.Author.Needs.{needs}
 use Rattle.labels.specs.Rows.{mostSets}
 use Rattle.labels.specs.Grid.{turnedView, likeRows, Labelled}
 use Rattle.labels.proofs.Alike.{rows-equivalence}
-use Rattle.labels.proofs.Storing.{turned-inside, short-users, short-objects, short-table, stored-all}
+use Rattle.labels.proofs.Grids.{turned-inside}
+use Rattle.labels.proofs.Storing.{short-users, short-objects, short-table, stored-all}
 use Rattle.labels.proofs.Turn.{labelled-few, labelled-leader}
 use Rattle.labels.proofs.compiler.store.Statement.{statement}
 use Rattle.labels.proofs.compiler.store.Tie as tie

@@ -1,69 +1,25 @@
 -- `labels::grid::fill` meets its contract: a turn of the inner loop puts one entry, one of the outer a row.
-use Prim.Native.Nat.{ℕ, _+_, _*_, _-_, _/_, _%_, _≤_, _<_}
-use mathlib.Core.Path.{_≡_, refl, sym, ap, ap₂, _∙_}
-use mathlib.Core.List.{List}
-use native.Mathlib.Nat.{mul-le-mul, mul-one}
+use Prim.Native.Nat.{ℕ, _+_, _*_, _-_, _≤_, _<_}
+use mathlib.Core.Path.{_≡_, ap}
 use native.Mathlib.Omega.{arith}
-use lib.Arith.{digits-lt, digits-div, digits-mod}
-use lib.ListN.{length, getD, set, length-set, length-replicate}
-use borrow.Author.Count.{below-none}
+use lib.ListN.{length-replicate}
 use borrow.Author.Needs.{needs}
-use Rattle.basis.proofs.Places.{stored-next}
-use Rattle.policy.specs.Policy.{Policy}
-use Rattle.labels.specs.Rows.{mostSets, entryOf, SourceOf}
-use Rattle.labels.specs.Grid.{gridPlaces, ViewOf, GridOf}
-use Rattle.labels.specs.declared.rows.Source.{Source}
-use Rattle.labels.specs.declared.grid.View.{View}
+use Rattle.labels.specs.Grid.{gridPlaces}
+use Rattle.labels.proofs.Grids.{place-below, Entered, entered-more, entered-count, entered-all}
 use Rattle.labels.proofs.grid.fill.Statement.{statement}
 use Rattle.labels.proofs.grid.fill.Tie as tie
 use Rattle.labels.proofs.grid.fill.Reads as reads
 use Rattle.labels.proofs.grid.fill.Lts as lts
 use Rattle.labels.proofs.rows.row.Reads as row-reads
 
--- the first k places of the grid are filled, in rows of n
-record Filled (from : Source) (n k : ℕ) (grid : List ℕ) : Type 0 where
-  long : length grid ≡ gridPlaces
-  entries : (p : Policy) → SourceOf p from → (i : ℕ) → i < k → getD grid i 0 ≡ entryOf p (i / n) (i % n)
-
-filled-more : {from : Source} {n x : ℕ} {grid : List ℕ} (u o : ℕ) → Filled from n (u * n + o) grid → o < n → u * n + o < gridPlaces
-    → ((p : Policy) → SourceOf p from → x ≡ entryOf p u o) → Filled from n (u * n + (o + 1)) (set grid (u * n + o) x)
-filled-more {from} {n} {x} {grid} u o F h l e =
-    let s = F .long in
-    record {
-      long = simp length-set s;
-      entries = λ p source i b.
-          stored-next (λ j y. y ≡ entryOf p (j / n) (j % n)) 0 grid (u * n + o) x (omega arith) (F .entries p source)
-          (e p source ∙ sym (ap₂ (entryOf p) (digits-div u h) (digits-mod u h))) i (omega arith);
-    }
-
-filled-count : {from : Source} {n k m : ℕ} {grid : List ℕ} → Filled from n k grid → k ≡ m → Filled from n m grid
-filled-count F q = rw (← q) F
-
--- a place of the grid
-place-below : (m n u o : ℕ) → m ≤ mostSets → n ≤ mostSets → u < m → o < n → u * n + o < gridPlaces
-place-below m n u o hm hn hu ho = omega (arith, digits-lt hu ho, mul-le-mul hm hn)
-
--- the whole grid
-filled-grid : {from : Source} {view : View} {k : ℕ} {grid : List ℕ} (p : Policy) → SourceOf p from → ViewOf p view → Filled from (view .columns) k grid
-    → k ≡ view .rows * view .columns → GridOf p grid view
-filled-grid {view = view} {grid = grid} p source v F q =
-    record {
-      users = v .users;
-      objects = v .objects;
-      entries = λ u o hu ho.
-          let e : u * view .down + o * view .along ≡ u * view .columns + o = rw (v .down, v .along, mul-one o) in
-          let b : u * view .columns + o < view .rows * view .columns = digits-lt hu ho in
-          ap (λ (x : ℕ). getD grid x 0) e ∙ F .entries p source (u * view .columns + o) (rw q b) ∙ ap₂ (entryOf p) (digits-div u ho) (digits-mod u ho);
-    }
-
 abbrev Inv-loop2 : tie.InvT-loop2
-Inv-loop2 from m n grid₀ u row o₀ grid o = (o ≤ n) × Filled from n (u * n + o) grid
+Inv-loop2 from m n grid₀ u row o₀ grid o = (o ≤ n) × Entered from n (u * n + o) grid
 
 abbrev μ-loop2 : tie.MeasureT-loop2
 μ-loop2 from m n grid₀ u row o₀ grid o = n - o
 
 abbrev Inv-loop : tie.InvT-loop
-Inv-loop from m n grid₀ u₀ grid u = (u ≤ m) × Filled from n (u * n) grid
+Inv-loop from m n grid₀ u₀ grid u = (u ≤ m) × Entered from n (u * n) grid
 
 abbrev μ-loop : tie.MeasureT-loop
 μ-loop from m n grid₀ u₀ grid u = m - u
@@ -84,7 +40,7 @@ row-requires c κs =
 
 -- src/grid.rt:65:9
 loop2-holds : tie.Need-loop2-holds Inv-loop2 μ-loop2 Inv-loop μ-loop
-loop2-holds c = (search needs, filled-count (c .before .before .loop .inv .1) (omega arith))
+loop2-holds c = (search needs, entered-count (c .before .before .loop .inv .1) (omega arith))
 
 -- src/grid.rt:66:31
 array-read-grid : tie.Need-array-read-grid Inv-loop2 μ-loop2 Inv-loop μ-loop
@@ -121,7 +77,7 @@ loop2-less c = search needs
 
 -- src/grid.rt:65:9
 loop2-again : tie.Need-loop2-again Inv-loop2 μ-loop2 Inv-loop μ-loop
-loop2-again c = (omega arith, filled-more _ _ (c .before .loop2 .inv .1) (c .loop2-test .taken) (room c) (λ p source. c .before .before .row .ensures p _ source (c .loop2-test .taken)))
+loop2-again c = (omega arith, entered-more _ _ (c .before .loop2 .inv .1) (c .loop2-test .taken) (room c) (λ p source. c .before .before .row .ensures p _ source (c .loop2-test .taken)))
 
 -- src/grid.rt:63:9
 add-u : tie.Need-add-u Inv-loop2 μ-loop2 Inv-loop μ-loop
@@ -133,13 +89,13 @@ loop-less c = search needs
 
 -- src/grid.rt:63:5
 loop-again : tie.Need-loop-again Inv-loop2 μ-loop2 Inv-loop μ-loop
-loop-again c = (omega arith, filled-count (c .before .loop2 .inv .1) (omega arith))
+loop-again c = (omega arith, entered-count (c .before .loop2 .inv .1) (omega arith))
 
 -- src/grid.rt:56:1
 returns : tie.Need-returns Inv-loop2 μ-loop2 Inv-loop μ-loop
 returns c = λ p source v.
     let q : c .before .loop .u ≡ c .before .before .args .view .rows = omega arith in
-    filled-grid p source v (c .before .loop .inv .1) (ap (λ (x : ℕ). x * c .before .before .args .view .columns) q)
+    entered-all p source v (c .before .loop .inv .1) (ap (λ (x : ℕ). x * c .before .before .args .view .columns) q)
 
 pub fill-spec : {M : Type 1} → statement M
 fill-spec =
