@@ -52,7 +52,7 @@ module _ (x y : ℕ) where
       → (a < mostActions → x / 2 ^ a % 2 ≡ y / 2 ^ a % 2 → ⊥) → a ≡ firstAction x y
   unfolding firstAction
   action-is a w b h =
-      sym (first-is _ mostActions a
+      sym (first-is (λ i. not (agree (has x i) (has y i))) mostActions a
       (record {
         within = w;
         before = λ i l. rw (eq-agree (has x i) (has y i) (ap (λ (d : ℕ). eqb d 1) (b i l)));
