@@ -43,12 +43,12 @@ returns-2 c = λ v ok G. short-objects v ok _ _ _ G (c .if2 .taken)
 -- what is known once rows and columns are labelled
 users-are : (c : tie.After-classify2)
     → Labelled (likeRows (now (c .before .before .before .before .before .before .args .grid)) (c .before .before .before .before .before .before .args .view)) (c .before .before .before .before .before .before .args .view .rows)
-      (c .before .before .classify .result .labels) (c .before .before .classify .result .leaders) (c .before .before .classify .result .count)
+    (c .before .before .classify .result .labels) (c .before .before .classify .result .leaders) (c .before .before .classify .result .count)
 users-are c = c .before .before .classify .ensures
 
 objects-are : (c : tie.After-classify2)
     → Labelled (likeRows (now (c .before .before .before .before .before .before .args .grid)) (turnedView (c .before .before .before .before .before .before .args .view))) (c .before .before .before .before .before .before .args .view .columns)
-      (c .classify2 .result .labels) (c .classify2 .result .leaders) (c .classify2 .result .count)
+    (c .classify2 .result .labels) (c .classify2 .result .leaders) (c .classify2 .result .count)
 objects-are c = rw (c .before .turned .ensures) at (c .classify2 .ensures)
 
 users-few : (c : tie.After-classify2) → c .before .before .classify .result .count ≤ mostSets
@@ -116,8 +116,8 @@ returns-4 c =
     let e = u .before .before .before .before in
     let k = e .before .before .before .before .before in
     λ v ok G.
-        stored-all v ok _ _ _ G (record { users = _; objects = _ }) (users-are k) (objects-are k) _ _ _
-        (e .before .before .before .if1 .left) (e .before .if2 .left) (e .if3 .left) (u .put-labels .ensures) (o .put-labels2 .ensures) (t .put-table .ensures)
+    stored-all v ok _ _ _ G (record { users = _; objects = _ }) (users-are k) (objects-are k) _ _ _
+    (e .before .before .before .if1 .left) (e .before .if2 .left) (e .if3 .left) (u .put-labels .ensures) (o .put-labels2 .ensures) (t .put-table .ensures)
 
 pub store-spec : {M : Type 1} → statement M
 store-spec =
