@@ -46,6 +46,7 @@ fn entries_fit(users: Register, side: SideValue, board: Board) -> bool
     true
 }
 
+// Whether the policy value is valid and each entry of the board fits.
 pub fn fits(policy: PolicyValue, board: Board) -> bool
     ensures { λ r. ⌜ r ≡ fits policy board ⌝ }
 {

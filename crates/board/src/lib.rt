@@ -55,7 +55,7 @@ pub fn fresh() -> Board
     Board { sessions: sessions }
 }
 
-// A call done, with the entry that its session gets, or refused.
+// The step of a call that changes a session: refused, or done with the entry that the session gets.
 fn settle(board: Board, session: u32, ruling: Ruling, entry: Session) -> Step
     requires { ⌜ (refusalOf ruling ≡ none → session < sessionNumbers) ⌝ }
     ensures { λ r. ⌜ outOf r ≡ settled board session (refusalOf ruling) entry ⌝ }
@@ -77,7 +77,7 @@ fn settle(board: Board, session: u32, ruling: Ruling, entry: Session) -> Step
     }
 }
 
-// The map gains (user, set).
+// Opens a session of the user that holds the set.
 pub fn open(board: Board, policy: PolicyValue, user: u32, session: u32, set: u32) -> Step
     ensures { λ r. ⌜ ((l : Labels) → outOf r ≡ boardStep policy l (opens user session set) board) ⌝ }
 {
@@ -90,7 +90,7 @@ pub fn open(board: Board, policy: PolicyValue, user: u32, session: u32, set: u32
     settle(board, session, ruling, entry)
 }
 
-// The held set gains these values.
+// The session's held set gains these values.
 pub fn add(board: Board, policy: PolicyValue, user: u32, session: u32, set: u32) -> Step
     ensures { λ r. ⌜ ((l : Labels) → outOf r ≡ boardStep policy l (adds user session set) board) ⌝ }
 {
@@ -105,7 +105,7 @@ pub fn add(board: Board, policy: PolicyValue, user: u32, session: u32, set: u32)
     settle(board, session, ruling, entry)
 }
 
-// The held set loses these values.
+// The session's held set loses these values.
 pub fn drop(board: Board, policy: PolicyValue, user: u32, session: u32, set: u32) -> Step
     ensures { λ r. ⌜ ((l : Labels) → outOf r ≡ boardStep policy l (drops user session set) board) ⌝ }
 {
@@ -120,7 +120,7 @@ pub fn drop(board: Board, policy: PolicyValue, user: u32, session: u32, set: u32
     settle(board, session, ruling, entry)
 }
 
-// The entry goes.
+// Closes the session: its entry goes, and its number may be opened again.
 pub fn close(board: Board, policy: PolicyValue, user: u32, session: u32) -> Step
     ensures { λ r. ⌜ ((l : Labels) → outOf r ≡ boardStep policy l (closes user session) board) ⌝ }
 {
@@ -129,7 +129,7 @@ pub fn close(board: Board, policy: PolicyValue, user: u32, session: u32) -> Step
     settle(board, session, ruling, gone)
 }
 
-// Granted or denied by the labels of the held set and the object's set: one byte of each lent buffer is read.
+// Grants or denies an action on an object by the labels of the held set and the object's set: reads one byte of each lent buffer.
 pub fn request(
     board: Board,
     policy: PolicyValue,

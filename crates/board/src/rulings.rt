@@ -42,7 +42,7 @@ fn open_checks(entry: Session, reach: Found, session: u32, set: u32) -> Ruling
     }
 }
 
-// Refusals 13 to 19 of close, which add and drop have too.
+// Refusals 13 to 18 of close, which add and drop have too.
 fn close_checks(entry: Session, registered: bool, user: u32, session: u32) -> Ruling
     ensures { λ r. ⌜ ((p : policy.Policy) → registered ≡ there (policy.setOfNumber (p .users) user) → refusalOf r ≡ lowest (checks p (closes user session) (entryOf entry))) ⌝ }
 {
