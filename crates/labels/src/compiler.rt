@@ -74,7 +74,8 @@ fn store(grid: &[u8; PLACES], view: View, users: &mut [u8], objects: &mut [u8], 
     if objects.len() < view.columns {
         return Compiled::Refused(Refusal::BufferTooShort);
     }
-    if table.len() < nu * no {
+    let places = nu * no;
+    if table.len() < places {
         return Compiled::Refused(Refusal::BufferTooShort);
     }
     let counts = Counts {

@@ -1,6 +1,6 @@
 -- `labels::compiler::put_table` meets its contract: a turn of the inner loop fills one place, one of the outer a row.
 use Prim.Native.Nat.{ℕ, _+_, _*_, _-_, _/_, _%_, _≤_, _<_}
-use mathlib.Core.Path.{_≡_, refl, sym, ap, ap₂, _∙_}
+use mathlib.Core.Path.{_≡_, sym, ap, ap₂, _∙_}
 use mathlib.Core.List.{List}
 use native.Mathlib.Omega.{arith}
 use denote.Ref.{now}
@@ -12,11 +12,6 @@ use Rattle.labels.specs.Grid.{cell}
 use Rattle.labels.specs.declared.grid.View.{View}
 use Rattle.labels.proofs.compiler.put_table.Statement.{statement}
 use Rattle.labels.proofs.compiler.put_table.Tie as tie
-use Rattle.labels.proofs.compiler.put_table.Reads as reads
-use Rattle.labels.proofs.compiler.put_table.Lts as lts
-use Rattle.labels.proofs.compiler.place.Reads as place-reads
-use Rattle.labels.proofs.grid.entry.Reads as entry-reads
-use Rattle.labels.proofs.grid.wide.Reads as wide-reads
 
 -- the entry at a place of the table
 abbrev atPlace : List ℕ → View → List ℕ → List ℕ → ℕ → ℕ → ℕ
@@ -35,51 +30,39 @@ Inv-loop buffer₀ grid view users objects nu no' ul₀ buffer ul = (ul ≤ nu) 
 abbrev μ-loop : tie.MeasureT-loop
 μ-loop buffer₀ grid view users objects nu no' ul₀ buffer ul = nu - ul
 
--- src/compiler.rt:49:5
 loop-holds : tie.Need-loop-holds Inv-loop2 μ-loop2 Inv-loop μ-loop
 loop-holds c = (search needs, filled-count (filled-none _ _) (omega arith))
 
--- src/compiler.rt:50:34
 cast-wide : tie.Need-cast-wide Inv-loop2 μ-loop2 Inv-loop μ-loop
 cast-wide c = search needs
 
--- src/compiler.rt:50:28
 element-copy-out-wide : tie.Need-element-copy-out-wide Inv-loop2 μ-loop2 Inv-loop μ-loop
 element-copy-out-wide c = search needs
 
--- src/compiler.rt:50:13
 wide-requires : tie.Need-wide-requires Inv-loop2 μ-loop2 Inv-loop μ-loop
 wide-requires c κs = search needs
 
--- src/compiler.rt:51:9
 loop2-holds : tie.Need-loop2-holds Inv-loop2 μ-loop2 Inv-loop μ-loop
 loop2-holds c = (search needs, further-count (further-none _ _ _) (omega arith))
 
--- src/compiler.rt:52:40
 cast-wide-2 : tie.Need-cast-wide-2 Inv-loop2 μ-loop2 Inv-loop μ-loop
 cast-wide-2 c = search needs
 
--- src/compiler.rt:52:32
 element-copy-out-wide-2 : tie.Need-element-copy-out-wide-2 Inv-loop2 μ-loop2 Inv-loop μ-loop
 element-copy-out-wide-2 c = search needs
 
--- src/compiler.rt:52:17
 wide-requires-2 : tie.Need-wide-requires-2 Inv-loop2 μ-loop2 Inv-loop μ-loop
 wide-requires-2 c κs = search needs
 
--- src/compiler.rt:53:38
 cast-buffer : tie.Need-cast-buffer Inv-loop2 μ-loop2 Inv-loop μ-loop
 cast-buffer c = search needs
 
--- src/compiler.rt:53:61
 cast-t25 : tie.Need-cast-t25 Inv-loop2 μ-loop2 Inv-loop μ-loop
 cast-t25 c = search needs
 
--- src/compiler.rt:53:17
 place-requires : tie.Need-place-requires Inv-loop2 μ-loop2 Inv-loop μ-loop
 place-requires c κs = search needs
 
--- src/compiler.rt:54:26
 entry-requires : tie.Need-entry-requires Inv-loop2 μ-loop2 Inv-loop μ-loop
 entry-requires c κs =
     let k = c .before .before .before in
@@ -101,15 +84,12 @@ room c =
 slice-write-buffer : tie.Need-slice-write-buffer Inv-loop2 μ-loop2 Inv-loop μ-loop
 slice-write-buffer c = rw (c .before .place .ensures) (room c)
 
--- src/compiler.rt:51:13
 add-ol : tie.Need-add-ol Inv-loop2 μ-loop2 Inv-loop μ-loop
 add-ol c = search needs
 
--- src/compiler.rt:51:9
 loop2-less : tie.Need-loop2-less Inv-loop2 μ-loop2 Inv-loop μ-loop
 loop2-less c = search needs
 
--- src/compiler.rt:51:9
 loop2-again : tie.Need-loop2-again Inv-loop2 μ-loop2 Inv-loop μ-loop
 loop2-again c =
     let k = c .before .before .before .before in
@@ -127,25 +107,20 @@ loop2-again c =
       (omega arith),
     )
 
--- src/compiler.rt:49:9
 add-ul : tie.Need-add-ul Inv-loop2 μ-loop2 Inv-loop μ-loop
 add-ul c = search needs
 
--- src/compiler.rt:49:5
 loop-less : tie.Need-loop-less Inv-loop2 μ-loop2 Inv-loop μ-loop
 loop-less c = search needs
 
--- src/compiler.rt:49:5
 loop-again : tie.Need-loop-again Inv-loop2 μ-loop2 Inv-loop μ-loop
 loop-again c =
     let l = c .before .before .before .before .before .loop in
     (omega arith, filled-count (c .before .loop2 .inv .1 .filled _ (l .inv .1)) (omega arith))
 
--- src/compiler.rt:42:1
 same-length : tie.Need-same-length Inv-loop2 μ-loop2 Inv-loop μ-loop
 same-length c = c .before .loop .inv .1 .size
 
--- src/compiler.rt:42:1
 returns : tie.Need-returns Inv-loop2 μ-loop2 Inv-loop μ-loop
 returns c =
     let s = c .before .before .before in
