@@ -6,7 +6,7 @@ use mathlib.Core.List.{List}
 use native.Mathlib.Decide.{decLt}
 use native.Mathlib.Nat.{mul-zero, mod-lt, div-lt-iff-lt-mul}
 use native.Mathlib.Omega.{arith}
-use lib.ListN.{length, getD, drop, set, length-set, length-append, length-drop, List·getD-append}
+use lib.ListN.{length, getD, set, length-set, length-append, length-drop, List·getD-append}
 use lib.Seq.{getD-set-other, getD-append-add, getD-drop, ext-getD}
 use borrow.Author.Count.{below-none}
 use Rattle.basis.specs.Lists.{over}

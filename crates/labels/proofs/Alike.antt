@@ -11,7 +11,7 @@ use borrow.Author.Count.{below-none, below-more}
 use borrow.Author.Tests.{eqb-true, eqb-false, eq-eqb, ne-eqb, not-true, not-false}
 use Rattle.basis.specs.Numbers.{first}
 use Rattle.basis.proofs.Bools.{fails, both-ways}
-use Rattle.basis.proofs.Counting.{Least, first-least, first-is}
+use Rattle.basis.proofs.Counting.{first-least, first-is}
 use Rattle.sets.specs.Set.{has, setOf}
 use Rattle.sets.proofs.Laws.{has-setOf, setOf-same}
 use Rattle.labels.specs.Labelling.{usersAlike, objectsAlike}

@@ -2,10 +2,9 @@
 -- laws of object sets are those of user sets with the two sides changed over.
 use Prim.Native.Nat.{ℕ, suc, _+_, _≤_, _<_}
 use mathlib.Core.Path.{_≡_, refl, sym, ap, _∙_}
-use mathlib.Core.Bool.{Bool, true, false}
+use mathlib.Core.Bool.{Bool, true}
 use mathlib.Core.Logic.{_↔_, Iff·trans}
 use native.Mathlib.Omega.{arith}
-use Rattle.basis.specs.Numbers.{agree}
 use Rattle.basis.proofs.Numbers.{every-at, every-of}
 use Rattle.basis.proofs.Same.{agree-eq, eq-agree}
 use Rattle.labels.specs.Labels.{label, labelCount}

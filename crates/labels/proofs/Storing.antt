@@ -1,11 +1,10 @@
 -- Compiling from a grid: the labels of its rows and columns are those of the policy's sets, and what the parts leave in the buffers is what
 -- compiling is to leave there.
 use Prim.Native.Nat.{ℕ, _+_, _*_, _/_, _%_, _≤_, _<_}
-use mathlib.Core.Path.{_≡_, refl, sym, ap, ap₂, _∙_}
+use mathlib.Core.Path.{_≡_, ap, _∙_}
 use mathlib.Core.Bool.{Bool, true, false, _||_}
 use mathlib.Core.List.{List}
 use native.Mathlib.Omega.{arith}
-use lib.Arith.{digits-div, digits-mod}
 use lib.Dec.{ltb}
 use lib.ListN.{length, getD}
 use borrow.Author.Tests.{lt-ltb, le-ltb}
@@ -20,7 +19,6 @@ use Rattle.policy.specs.Valid.{valid}
 use Rattle.policy.specs.declared.value.PolicyValue.{PolicyValue}
 use Rattle.policy.specs.declared.refusal.Refusal.the-variants.{InvalidState, BufferTooShort}
 use Rattle.formula.specs.Truth.{grants}
-use Rattle.labels.specs.Labels.{label, labelCount, leader}
 use Rattle.labels.specs.Rows.{entryOf}
 use Rattle.labels.specs.Grid.{cell, turnedView, likeRows, GridOf, Labelled}
 use Rattle.labels.specs.Compile.{likeUsers, likeObjects, NU, NO, entry, userLabel, objectLabel, userResult, objectResult, tableResult, lent, tooShort, compile, compileBuffers, Compiles}
@@ -29,7 +27,7 @@ use Rattle.labels.specs.declared.Counts.{Counts}
 use Rattle.labels.specs.declared.Compiled.the-variants.{Stored, Refused}
 use Rattle.labels.proofs.Alike.{rows-equivalence, rows-alike, columns-alike}
 use Rattle.labels.proofs.Turn.{labelled-same, labelled-leader}
-use Rattle.labels.proofs.Compile.{likeUsers-equivalence, likeObjects-equivalence, length-userResult, length-objectResult, length-tableResult}
+use Rattle.labels.proofs.Compile.{length-userResult, length-objectResult, length-tableResult}
 
 -- ---- the labels
 
@@ -72,11 +70,9 @@ module _ (p : Policy) (us os ts : List ℕ) where
 
   none-short : sets (p .user) ≤ length us → sets (p .object) ≤ length os → NU p * NO p ≤ length ts → tooShort p (lent us os ts) ≡ false
   none-short a b c =
-      rw (
-        le-ltb (length us) (length (userResult p)) (rw (length-userResult p) a),
-        le-ltb (length os) (length (objectResult p)) (rw (length-objectResult p) b),
-        le-ltb (length ts) (length (tableResult p)) (rw (length-tableResult p) c),
-      )
+      rw (le-ltb (length us) (length (userResult p)) (rw (length-userResult p) a),
+      le-ltb (length os) (length (objectResult p)) (rw (length-objectResult p) b),
+      le-ltb (length ts) (length (tableResult p)) (rw (length-tableResult p) c))
 
 -- a refusal changes nothing
 pub refused-value : (v : PolicyValue) (us os ts : List ℕ) → valid v ≡ false → Compiles v (lent us os ts) (Refused InvalidState) (lent us os ts)

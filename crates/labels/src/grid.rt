@@ -1,6 +1,5 @@
 // The grid: the rows of all user sets, one after the other.
 use crate::rows;
-use crate::rows::SETS;
 use crate::rows::Source;
 use formula::shape;
 use formula::shape::Shape;

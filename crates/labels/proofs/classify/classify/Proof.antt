@@ -8,9 +8,6 @@ use Rattle.labels.proofs.Alike.{rows-equivalence}
 use Rattle.labels.proofs.Turn.{Turned, turned-none, leader-row, found-le, turned-old, turned-new, turned-all}
 use Rattle.labels.proofs.classify.classify.Statement.{statement}
 use Rattle.labels.proofs.classify.classify.Tie as tie
-use Rattle.labels.proofs.classify.classify.Reads as reads
-use Rattle.labels.proofs.classify.classify.Lts as lts
-use Rattle.labels.proofs.classify.label_of.Reads as label-of-reads
 
 abbrev Inv-loop : tie.InvT-loop
 Inv-loop grid view rows labels₀ leaders₀ count₀ u₀ labels leaders count u = Turned (likeRows grid view) rows u labels leaders count

@@ -1,17 +1,12 @@
 -- `labels::classify::label_of` meets its contract: the leaders passed are unlike the row, and the next is like it before column o.
-use Prim.Native.Nat.{ℕ, _-_, _≤_, _<_}
+use Prim.Native.Nat.{_-_}
 use mathlib.Core.Path.{_≡_, refl, sym, _∙_}
-use native.Mathlib.Omega.{arith}
 use borrow.Author.Count.{below-none}
 use borrow.Author.Needs.{needs}
 use Rattle.labels.specs.Grid.{cell}
 use Rattle.labels.proofs.Alike.{Passed, Comparing, none-like, compare-none, compare-more, passed-more, found-like}
 use Rattle.labels.proofs.classify.label_of.Statement.{statement}
 use Rattle.labels.proofs.classify.label_of.Tie as tie
-use Rattle.labels.proofs.classify.label_of.Reads as reads
-use Rattle.labels.proofs.classify.label_of.Lts as lts
-use Rattle.labels.proofs.grid.entry.Reads as entry-reads
-use Rattle.labels.proofs.grid.wide.Reads as wide-reads
 
 abbrev Inv-loop : tie.InvT-loop
 Inv-loop grid view leaders count u columns l₀ v o₀ l o = (l ≡ l₀) × Comparing (cell grid view) columns u leaders count l v o

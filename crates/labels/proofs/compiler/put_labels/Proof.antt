@@ -7,8 +7,6 @@ use borrow.Author.Needs.{needs}
 use Rattle.basis.proofs.Filled.{Filled, filled-none, filled-more, filled-count, filled-same, filled-over}
 use Rattle.labels.proofs.compiler.put_labels.Statement.{statement}
 use Rattle.labels.proofs.compiler.put_labels.Tie as tie
-use Rattle.labels.proofs.compiler.put_labels.Reads as reads
-use Rattle.labels.proofs.compiler.put_labels.Lts as lts
 
 abbrev Inv-loop : tie.InvT-loop
 Inv-loop buffer₀ labels n i₀ buffer i = (i ≤ n) × Filled (λ j. getD labels j 0) i buffer₀ buffer

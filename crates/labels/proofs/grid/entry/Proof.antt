@@ -3,8 +3,6 @@ use native.Mathlib.Omega.{arith}
 use borrow.Author.Needs.{needs}
 use Rattle.labels.proofs.grid.entry.Statement.{statement}
 use Rattle.labels.proofs.grid.entry.Tie as tie
-use Rattle.labels.proofs.grid.entry.Reads as reads
-use Rattle.labels.proofs.grid.entry.Lts as lts
 
 mul-i : tie.Need-mul-i
 mul-i c = let s = c .before .pre in omega (arith, s .0 .inside _ _ (s .1) (s .2))

@@ -4,27 +4,19 @@ use lib.Pow.{pow-mono}
 use borrow.Author.Needs.{needs}
 use Rattle.labels.proofs.grid.view_of.Statement.{statement}
 use Rattle.labels.proofs.grid.view_of.Tie as tie
-use Rattle.labels.proofs.grid.view_of.Reads as reads
-use Rattle.labels.proofs.grid.view_of.Lts as lts
-use Rattle.formula.proofs.shape.sets.Reads as sets-reads
 
--- src/grid.rt:33:16
 sets-requires : tie.Need-sets-requires
 sets-requires c κs = search needs
 
--- src/grid.rt:33:16
 cast-rows : tie.Need-cast-rows
 cast-rows c = search needs
 
--- src/grid.rt:34:19
 sets-requires-2 : tie.Need-sets-requires-2
 sets-requires-2 c κs = search needs
 
--- src/grid.rt:34:19
 cast-columns : tie.Need-cast-columns
 cast-columns c = search needs
 
--- src/grid.rt:27:1
 returns : tie.Need-returns
 returns c = λ p x.
     let u = c .before .sets .ensures (p .user) (x .user) in

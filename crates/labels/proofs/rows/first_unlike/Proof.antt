@@ -8,8 +8,6 @@ use borrow.Author.Needs.{needs}
 use Rattle.labels.proofs.Alike.{unlike-is}
 use Rattle.labels.proofs.rows.first_unlike.Statement.{statement}
 use Rattle.labels.proofs.rows.first_unlike.Tie as tie
-use Rattle.labels.proofs.rows.first_unlike.Reads as reads
-use Rattle.labels.proofs.rows.first_unlike.Lts as lts
 
 abbrev Inv-loop : tie.InvT-loop
 Inv-loop row other n o₀ o = (o ≤ n) × ((i : ℕ) → i < o → getD row i 0 ≡ getD other i 0)

@@ -15,11 +15,6 @@ use Rattle.labels.specs.Rows.{entryOf, SourceOf}
 use Rattle.labels.specs.declared.rows.Source.{Source}
 use Rattle.labels.proofs.rows.row.Statement.{statement}
 use Rattle.labels.proofs.rows.row.Tie as tie
-use Rattle.labels.proofs.rows.row.Reads as reads
-use Rattle.labels.proofs.rows.row.Lts as lts
-use Rattle.formula.proofs.side.spread.Reads as spread-reads
-use Rattle.formula.proofs.side.with_juniors.Reads as with-juniors-reads
-use Rattle.labels.proofs.rows.with_block.Reads as with-block-reads
 
 -- the pairs of one user set and 64 object sets
 pairs : (p : Policy) (x : Source) → SourceOf p x → (users objects : List ℕ) (u at : ℕ)
@@ -30,15 +25,12 @@ unfolding sideOf
 pairs p x s users objects u at a b k h =
     record { lane = h; user = rw (ap (λ (y : Side). y .lines) (s .user)) (a k h); object = b k h }
 
--- src/rows.rt:82:36
 spread-requires : tie.Need-spread-requires
 spread-requires c κs = search needs
 
--- src/rows.rt:82:17
 with-juniors-requires : tie.Need-with-juniors-requires
 with-juniors-requires c κs = search needs
 
--- src/rows.rt:86:9
 with-block-requires : tie.Need-with-block-requires
 with-block-requires c κs = search needs
 
@@ -55,15 +47,12 @@ low-half c p s o h =
     c .with-block .ensures p _ (s .shape) (s .rules)
     (pairs p _ s _ _ _ 0 (user-stands (c .before .before .before .before .before .before)) (λ k l. rw (zero-add k) (s .low k l))) (below-none _) o (omega arith)
 
--- src/rows.rt:88:9
 returns : tie.Need-returns
 returns c = λ p o s h. low-half (c .before) p s o (omega arith)
 
--- src/rows.rt:91:5
 with-block-requires-2 : tie.Need-with-block-requires-2
 with-block-requires-2 c κs = search needs
 
--- src/rows.rt:76:1
 returns-2 : tie.Need-returns-2
 returns-2 c = λ p o s h.
     let one = c .before .before .before .before .before in

@@ -5,33 +5,22 @@ use borrow.Author.Needs.{needs}
 use Rattle.policy.specs.Value.{sideOf, policyOf}
 use Rattle.labels.proofs.rows.source_of.Statement.{statement}
 use Rattle.labels.proofs.rows.source_of.Tie as tie
-use Rattle.labels.proofs.rows.source_of.Reads as reads
-use Rattle.labels.proofs.rows.source_of.Lts as lts
-use Rattle.formula.proofs.shape.of_sides.Reads as of-sides-reads
-use Rattle.formula.proofs.side.consecutive.Reads as consecutive-reads
-use Rattle.formula.proofs.side.with_seniors.Reads as with-seniors-reads
 
--- src/rows.rt:44:9
 of-sides-requires : tie.Need-of-sides-requires
 of-sides-requires c κs = search needs
 
--- src/rows.rt:45:34
 consecutive-requires : tie.Need-consecutive-requires
 consecutive-requires c κs = search needs
 
--- src/rows.rt:45:9
 with-seniors-requires : tie.Need-with-seniors-requires
 with-seniors-requires c κs = search needs
 
--- src/rows.rt:46:35
 consecutive-requires-2 : tie.Need-consecutive-requires-2
 consecutive-requires-2 c κs = search needs
 
--- src/rows.rt:46:9
 with-seniors-requires-2 : tie.Need-with-seniors-requires-2
 with-seniors-requires-2 c κs = search needs
 
--- src/rows.rt:36:1
 returns : tie.Need-returns
 unfolding policyOf sideOf
 returns c =

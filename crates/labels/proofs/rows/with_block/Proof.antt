@@ -10,10 +10,6 @@ use Rattle.labels.specs.Rows.{mostSets, entryOf}
 use Rattle.labels.proofs.Entries.{laneEntry, lane-entry}
 use Rattle.labels.proofs.rows.with_block.Statement.{statement}
 use Rattle.labels.proofs.rows.with_block.Tie as tie
-use Rattle.labels.proofs.rows.with_block.Reads as reads
-use Rattle.labels.proofs.rows.with_block.Lts as lts
-use Rattle.formula.proofs.entries.entry.Reads as entry-reads
-use Rattle.formula.proofs.entries.grants.Reads as grants-reads
 
 abbrev Inv-loop : tie.InvT-loop
 Inv-loop users objects at grants r₀ k₀ r k =
@@ -23,35 +19,27 @@ Inv-loop users objects at grants r₀ k₀ r k =
 abbrev μ-loop : tie.MeasureT-loop
 μ-loop users objects at grants r₀ k₀ r k = lanes - k
 
--- src/rows.rt:67:18
 grants-requires : tie.Need-grants-requires Inv-loop μ-loop
 grants-requires c κs = search needs
 
--- src/rows.rt:69:5
 loop-holds : tie.Need-loop-holds Inv-loop μ-loop
 loop-holds c = (search needs, search needs, λ f old new o h. old o (omega arith))
 
--- src/rows.rt:70:21
 entry-requires : tie.Need-entry-requires Inv-loop μ-loop
 entry-requires c κs = search needs
 
--- src/rows.rt:70:11
 add-r : tie.Need-add-r Inv-loop μ-loop
 add-r c = search needs
 
--- src/rows.rt:70:9
 array-write-r : tie.Need-array-write-r Inv-loop μ-loop
 array-write-r c = search needs
 
--- src/rows.rt:69:9
 add-k : tie.Need-add-k Inv-loop μ-loop
 add-k c = search needs
 
--- src/rows.rt:69:5
 loop-less : tie.Need-loop-less Inv-loop μ-loop
 loop-less c = search needs
 
--- src/rows.rt:69:5
 loop-again : tie.Need-loop-again Inv-loop μ-loop
 loop-again c =
     let l = c .before .before .before .loop in
@@ -63,7 +51,6 @@ loop-again c =
           (c .entry .ensures ∙ new (l .k) (c .before .before .loop-test .taken)) o (omega arith),
     )
 
--- src/rows.rt:56:1
 returns : tie.Need-returns Inv-loop μ-loop
 returns c = λ p u shape rules pair old o h.
     let g = c .before .before .grants in
