@@ -42,6 +42,13 @@ first-is f n r l =
     let b : ¬ (r < first f n) = λ h. never (f r) (l .hit (omega arith)) (s .before r h) in
     omega arith
 
+-- tests that agree have the same first number
+pub first-same : (f g : ℕ → Bool) (n : ℕ) → ((k : ℕ) → k < n → f k ≡ g k) → first f n ≡ first g n
+first-same f g n h =
+    let s = first-least g n in
+    first-is f n (first g n)
+    (record { within = s .within; before = λ k l. h k (omega (arith, s .within)) ∙ s .before k l; hit = λ l. h _ l ∙ s .hit l })
+
 -- ---- count
 
 count-step : (b : Bool) (c : ℕ) → c ≤ cond b (suc c) c

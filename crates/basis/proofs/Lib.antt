@@ -1,6 +1,7 @@
 pub mod Bools
 pub mod Choice
 pub mod Counting
+pub mod Filled
 pub mod Lists
 pub mod Numbers
 pub mod Over

@@ -102,7 +102,7 @@ module _ (high low n v : ℕ) (fits : low < 2 ^ n) where
 
 -- ---- a set is its members
 
-digit-eq : (x y : ℕ) → x < 2 → y < 2 → eqb x 1 ≡ eqb y 1 → x ≡ y
+pub digit-eq : (x y : ℕ) → x < 2 → y < 2 → eqb x 1 ≡ eqb y 1 → x ≡ y
 digit-eq zero zero h k e = refl
 digit-eq zero (suc zero) h k e = cc
 digit-eq zero (suc (suc y)) h k e = omega arith
@@ -197,6 +197,10 @@ has-setOf-none f n v h = has-none n (setOf f n) v (setOf-lt f n) h
 -- a set of the first n values is the set of those that pass f where it has just these
 pub setOf-is : (f : ℕ → Bool) (n s : ℕ) → s < 2 ^ n → ((v : ℕ) → v < n → has s v ≡ f v) → setOf f n ≡ s
 setOf-is f n s h e = same-below n (setOf f n) s (setOf-lt f n) h (λ v l. has-setOf f n v l ∙ sym (e v l))
+
+-- two tests that agree below n have the same set
+pub setOf-same : (f g : ℕ → Bool) (n : ℕ) → ((v : ℕ) → v < n → f v ≡ g v) → setOf f n ≡ setOf g n
+setOf-same f g n h = setOf-is f n (setOf g n) (setOf-lt g n) (λ v l. has-setOf g n v l ∙ sym (h v l))
 
 pub setOf-has : (n s : ℕ) → s < 2 ^ n → setOf (has s) n ≡ s
 setOf-has n s h = setOf-is (has s) n s h (λ v l. refl)
