@@ -1,13 +1,13 @@
 -- How many values a set of the first n values has, and the lowest of them: what a count of a number's set digits, and of the zeros below
 -- them, says value by value.
 use mathlib.Core.Path.{_≡_, refl, sym, ap, ap₂, _∙_}
-use mathlib.Core.Bool.{Bool, true, false, cond}
-use Prim.Native.Nat.{ℕ, zero, suc, _+_, _*_, _/_, _%_, _^_, _<_, _≤_}
+use mathlib.Core.Bool.{true, false, cond}
+use Prim.Native.Nat.{ℕ, zero, suc, _+_, _/_, _%_, _^_, _<_}
 use native.Mathlib.Nat.{mod-lt, not-suc-le-zero, le-of-suc-le-suc, div-one, div-add-mod'}
 use native.Mathlib.Numerals.{add-one, one-add}
 use native.Mathlib.Omega.{arith}
 use lib.Arith.{lt-one}
-use lib.Count.{ones, ones-step, ones-cat, trailingZeros, under}
+use lib.Count.{ones, ones-cat, trailingZeros, under}
 use lib.Dec.{eqb, lit<}
 use lib.Pow.{pow-pos, shr-shr, shr-lt, split}
 use Rattle.basis.specs.Numbers.{count}
