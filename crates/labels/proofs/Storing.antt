@@ -70,9 +70,11 @@ module _ (p : Policy) (us os ts : List ℕ) where
 
   none-short : sets (p .user) ≤ length us → sets (p .object) ≤ length os → NU p * NO p ≤ length ts → tooShort p (lent us os ts) ≡ false
   none-short a b c =
-      rw (le-ltb (length us) (length (userResult p)) (rw (length-userResult p) a),
-      le-ltb (length os) (length (objectResult p)) (rw (length-objectResult p) b),
-      le-ltb (length ts) (length (tableResult p)) (rw (length-tableResult p) c))
+      rw (
+        le-ltb (length us) (length (userResult p)) (rw (length-userResult p) a),
+        le-ltb (length os) (length (objectResult p)) (rw (length-objectResult p) b),
+        le-ltb (length ts) (length (tableResult p)) (rw (length-tableResult p) c),
+      )
 
 -- a refusal changes nothing
 pub refused-value : (v : PolicyValue) (us os ts : List ℕ) → valid v ≡ false → Compiles v (lent us os ts) (Refused InvalidState) (lent us os ts)

@@ -43,12 +43,10 @@ fn tell(from: Source, n: usize, u: u32, w: u32) -> Apartness
         return Apartness::Alike;
     }
     let action = first_action(row[o], other[o]);
-    Apartness::Apart(
-        Witness {
-            action,
-            object: o as u32,
-        },
-    )
+    Apartness::Apart(Witness {
+        action,
+        object: o as u32,
+    })
 }
 
 // Whether no action and no object set tells two user sets apart, or else some that do: the lowest object set, and at it the lowest action.

@@ -42,7 +42,14 @@ fn put_labels(buffer: &mut [u8], labels: &[u8; SETS], n: usize)
 }
 
 // Puts the table at the start of a lent buffer: at two labels, the entry of their leaders.
-fn put_table(buffer: &mut [u8], grid: &[u8; PLACES], view: View, users: &[u8; SETS], objects: &[u8; SETS], counts: Counts)
+fn put_table(
+    buffer: &mut [u8],
+    grid: &[u8; PLACES],
+    view: View,
+    users: &[u8; SETS],
+    objects: &[u8; SETS],
+    counts: Counts,
+)
     requires { ⌜ Inside view × (counts .users ≤ mostSets) × (counts .objects ≤ mostSets) × (counts .users * counts .objects ≤ length (now buffer)) ⌝ }
     requires { ⌜ ((l : ℕ) → l < counts .users → getD (now users) l 0 < view .rows) × ((l : ℕ) → l < counts .objects → getD (now objects) l 0 < view .columns) ⌝ }
     ensures { λ _. ⌜ ((f : ℕ → ℕ → ℕ) → ((ul ol : ℕ) → ul < counts .users → ol < counts .objects → cell (now (grid .entry)) view (getD (now (users .entry)) ul 0) (getD (now (objects .entry)) ol 0) ≡ f ul ol) → now (buffer .exit) ≡ over (upTo (λ i. f (i / counts .objects) (i % counts .objects)) (counts .users * counts .objects)) (now (buffer .entry))) ⌝ }
@@ -60,7 +67,13 @@ fn put_table(buffer: &mut [u8], grid: &[u8; PLACES], view: View, users: &[u8; SE
 }
 
 // The labels of a valid policy's grid and their table, into the three buffers if these are long enough.
-fn store(grid: &[u8; PLACES], view: View, users: &mut [u8], objects: &mut [u8], table: &mut [u8]) -> Compiled
+fn store(
+    grid: &[u8; PLACES],
+    view: View,
+    users: &mut [u8],
+    objects: &mut [u8],
+    table: &mut [u8],
+) -> Compiled
     requires { ⌜ Inside view ⌝ }
     ensures { λ r. ⌜ ((v : PolicyValue) → valid v ≡ true → GridOf (policyOf v) (now (grid .entry)) view → Compiles v (lent (now (users .entry)) (now (objects .entry)) (now (table .entry))) r (lent (now (users .exit)) (now (objects .exit)) (now (table .exit)))) ⌝ }
 {
@@ -93,7 +106,12 @@ fn store(grid: &[u8; PLACES], view: View, users: &mut [u8], objects: &mut [u8], 
 }
 
 // Fills the three lent buffers with the user labels, the object labels and the table of a policy.
-pub fn compile(policy: PolicyValue, users: &mut [u8], objects: &mut [u8], table: &mut [u8]) -> Compiled
+pub fn compile(
+    policy: PolicyValue,
+    users: &mut [u8],
+    objects: &mut [u8],
+    table: &mut [u8],
+) -> Compiled
     ensures { λ r. ⌜ Compiles policy (lent (now (users .entry)) (now (objects .entry)) (now (table .entry))) r (lent (now (users .exit)) (now (objects .exit)) (now (table .exit))) ⌝ }
 {
     if !validity::check(policy) {

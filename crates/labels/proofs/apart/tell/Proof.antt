@@ -46,7 +46,7 @@ returns-2 c = λ v e s q.
     let b = c .before .before .before .before .before .row2 in (
       e,
       rows-tell-apart (policyOf v) _ _ _ (a .result) (b .result) q (λ o h. a .ensures _ o s h) (λ o h. b .ensures _ o s h) _ (c .before .before .first-unlike .ensures)
-      _ (c .first-action .ensures) (c .before .if1 .left),
+          _ (c .first-action .ensures) (c .before .if1 .left),
     )
 
 pub tell-spec : {M : Type 1} → statement M

@@ -67,10 +67,11 @@ entry-requires : tie.Need-entry-requires Inv-loop2 μ-loop2 Inv-loop μ-loop
 entry-requires c κs =
     let k = c .before .before .before in
     let m = k .before .before in
-    let s = m .before .before .before .before .before .pre in
-    (s .0 .0,
-    rw (m .wide .ensures .0) (s .1 .0 (m .before .before .before .loop .ul) (m .before .before .loop-test .taken)),
-    rw (c .before .wide2 .ensures .0) (s .1 .1 (k .before .loop2 .ol) (k .loop2-test .taken)))
+    let s = m .before .before .before .before .before .pre in (
+      s .0 .0,
+      rw (m .wide .ensures .0) (s .1 .0 (m .before .before .before .loop .ul) (m .before .before .loop-test .taken)),
+      rw (c .before .wide2 .ensures .0) (s .1 .1 (k .before .loop2 .ol) (k .loop2-test .taken)),
+    )
 
 -- the place is in the buffer
 room : (c : tie.After-entry Inv-loop2 μ-loop2 Inv-loop μ-loop)
@@ -99,12 +100,12 @@ loop2-again c =
     let ul = m .before .before .before .loop .ul in (
       omega arith,
       further-count
-      (further-more (k .before .loop2 .inv .1) (c .before .place .ensures) (room c)
-      (c .entry .ensures
-      ∙ ap₂ (cell (now (a .grid)) (a .view))
-      (m .wide .ensures .0 ∙ ap (λ (x : ℕ). getD (now (a .users)) x 0) (sym (digits-div ul h)))
-      (c .before .before .wide2 .ensures .0 ∙ ap (λ (x : ℕ). getD (now (a .objects)) x 0) (sym (digits-mod ul h)))))
-      (omega arith),
+          (further-more (k .before .loop2 .inv .1) (c .before .place .ensures) (room c)
+          (c .entry .ensures
+          ∙ ap₂ (cell (now (a .grid)) (a .view))
+          (m .wide .ensures .0 ∙ ap (λ (x : ℕ). getD (now (a .users)) x 0) (sym (digits-div ul h)))
+          (c .before .before .wide2 .ensures .0 ∙ ap (λ (x : ℕ). getD (now (a .objects)) x 0) (sym (digits-mod ul h)))))
+          (omega arith),
     )
 
 add-ul : tie.Need-add-ul Inv-loop2 μ-loop2 Inv-loop μ-loop
@@ -127,11 +128,11 @@ returns c =
     let n = s .args .counts in
     let q : c .before .loop .ul ≡ s .args .counts .users = omega arith in
     λ f h.
-        filled-over
-        (filled-same (filled-count (c .before .loop .inv .1) (ap (λ (x : ℕ). x * n .objects) q)) (λ i l.
-        let r = in-row (n .users) (n .objects) i l in
-        h _ _ (r .0) (r .1)))
-        (s .pre .0 .3)
+    filled-over
+    (filled-same (filled-count (c .before .loop .inv .1) (ap (λ (x : ℕ). x * n .objects) q)) (λ i l.
+    let r = in-row (n .users) (n .objects) i l in
+    h _ _ (r .0) (r .1)))
+    (s .pre .0 .3)
 
 pub put-table-spec : {M : Type 1} → statement M
 put-table-spec =

@@ -90,8 +90,8 @@ returns-4 c =
     let e = u .before .before .before .before in
     let k = e .before .before .before .before .before in
     λ v ok G.
-        stored-all v ok _ _ _ G (record { users = _; objects = _ }) (users-are k) (objects-are k) _ _ _
-        (e .before .before .before .if1 .left) (e .before .if2 .left) (e .if3 .left) (u .put-labels .ensures) (o .put-labels2 .ensures) (t .put-table .ensures)
+    stored-all v ok _ _ _ G (record { users = _; objects = _ }) (users-are k) (objects-are k) _ _ _
+    (e .before .before .before .if1 .left) (e .before .if2 .left) (e .if3 .left) (u .put-labels .ensures) (o .put-labels2 .ensures) (t .put-table .ensures)
 
 pub store-spec : {M : Type 1} → statement M
 store-spec =
