@@ -1,7 +1,7 @@
 -- The lines of a text from a place on, by where the next line feed was found, and what reading makes of the first of them.
 use Prim.Native.Nat.{ℕ, suc, _+_, _≤_, _<_}
 use mathlib.Core.Path.{_≡_, refl, ap, _∙_}
-use mathlib.Core.Bool.{true, false}
+use mathlib.Core.Bool.{false}
 use mathlib.Core.List.{List, [], _∷_}
 use mathlib.Core.Option.{Option, none, some}
 use native.Mathlib.Omega.{arith}
@@ -15,8 +15,8 @@ use Rattle.text.specs.declared.kind.Named.the-variants.{Is, Unknown}
 use Rattle.text.proofs.Split.{split-pos, part-next, part-last}
 use Rattle.text.proofs.RoundTrip.{endedLine, lines-cons}
 use Rattle.policy.specs.Policy.{Policy}
-use Rattle.policy.specs.Read.{Refused, State, checksOf, refusalOf, lineRefusal, lineAfter, ending, readLines}
-use Rattle.reader.proofs.Fields.{between}
+use Rattle.policy.specs.Read.{Refused, State, checksOf, refusalOf, lineRefusal, lineAfter, readLines}
+use Rattle.line.proofs.Fields.{between}
 
 -- ---- lines
 

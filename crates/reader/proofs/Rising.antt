@@ -1,5 +1,5 @@
 -- A line rises above the last of its kind exactly where it rises above the line before it, if that is of its kind: lines of a kind stand together.
-use Prim.Native.Nat.{ℕ, suc, _≤_, _<_}
+use Prim.Native.Nat.{ℕ, suc, _≤_}
 use mathlib.Core.Path.{_≡_, refl, sym, ap, _∙_}
 use mathlib.Core.Bool.{Bool, true, false}
 use mathlib.Core.List.{List}
@@ -19,8 +19,8 @@ use Rattle.policy.specs.Line.{allowed}
 use Rattle.policy.specs.Checks.{pairRises, entryRises, ruleRises, rises, extended}
 use Rattle.policy.proofs.Order.{allowed-order, cut}
 use Rattle.policy.proofs.Reading.{Reading}
-use Rattle.reader.specs.Admit.{risesAfter}
-use Rattle.reader.specs.declared.line.Before.the-variants.{After}
+use Rattle.line.specs.Admit.{risesAfter}
+use Rattle.line.specs.declared.numbers.Before.the-variants.{After}
 
 -- the line before is of the kind: it is the last
 rises-last : (k : Kind) (a b : ℕ) (ws : List Word) (p : Policy) (m n : ℕ) → risesAfter (After k a b) k m n ≡ rises k (extended k a b ws p) m n

@@ -1,17 +1,15 @@
 -- What the loop over the lines holds stands for the state of reading at its place, and each line keeps it so.
-use Prim.Native.Nat.{ℕ, suc, _+_, _^_, _≤_, _<_}
+use Prim.Native.Nat.{ℕ, _+_, _^_, _≤_, _<_}
 use mathlib.Core.Path.{_≡_, refl, sym, ap, _∙_}
 use mathlib.Core.Bool.{Bool, true, false}
-use mathlib.Core.List.{List, [], _∷_, _++_}
-use mathlib.Core.Option.{Option, none, some}
+use mathlib.Core.List.{List, []}
+use mathlib.Core.Option.{none, some}
 use native.Mathlib.Numerals.{add-one}
 use native.Mathlib.Omega.{arith}
 use borrow.Author.Tests.{le-ltb, lt-ltb}
 use lib.ListN.{length, take, drop}
 use Rattle.basis.specs.Choice.{given}
 use Rattle.basis.specs.Lists.{last, sum}
-use Rattle.basis.proofs.Snoc.{length-snoc}
-use Rattle.seniority.specs.Seniority.{direct}
 use Rattle.text.specs.Kind.{isKind}
 use Rattle.text.specs.Number.{valueOf as numberOfField}
 use Rattle.text.specs.Parts.{Line as TextLine, lineFeed, fields, lines, Found}
@@ -22,35 +20,32 @@ use Rattle.text.specs.declared.kind.Named.the-variants.{Is as IsKind}
 use Rattle.text.proofs.RoundTrip.{endedLine}
 use Rattle.words.specs.declared.Word.{Word}
 use Rattle.policy.specs.Limits.{textBytes, values}
-use Rattle.policy.specs.Policy.{Side, Rule, Policy, blank, total}
+use Rattle.policy.specs.Policy.{Side, Policy, blankSide, blank, total}
 use Rattle.policy.specs.Line.{countFits, fieldAt, lineOf, plain}
-use Rattle.policy.specs.Checks.{rises, pairRises, entryRises, ruleRises, withWidth, withLine, withEntry, extended}
+use Rattle.policy.specs.Checks.{rises, pairRises, entryRises, ruleRises, extended}
 use Rattle.policy.specs.Read.{Accepted, Refused, kindOf, State, start, after, lineRefusal, lineAfter, ending, readLines, readText}
-use Rattle.policy.specs.Value.{widthPlaces, linePlaces, entryPlaces, rulePlaces, sideValue, register, ruleValue, rulesValue, valueOf}
-use Rattle.policy.specs.Answers.{numberOf, valueIn, ReadAs}
+use Rattle.policy.specs.Value.{widthPlaces, sideValue, register, rulesValue, valueOf}
+use Rattle.policy.specs.Answers.{numberOf}
 use Rattle.policy.specs.declared.refusal.Refusal.{Refusal}
-use Rattle.policy.specs.declared.value.Entry.{Entry}
 use Rattle.policy.specs.declared.value.SideValue.{SideValue}
 use Rattle.policy.specs.declared.value.Register.{Register}
 use Rattle.policy.specs.declared.value.Rules.{Rules}
-use Rattle.policy.specs.declared.value.PolicyValue.{PolicyValue}
 use Rattle.policy.proofs.Parts.{SideParts, parts}
 use Rattle.policy.proofs.Bounds.{total-most, attributes-few}
-use Rattle.policy.proofs.Reading.{Reading, reading-start, reading-next, reading-within}
+use Rattle.policy.proofs.Reading.{Reading, reading-start, reading-next}
 use Rattle.checks.specs.Sides.{Shaped}
 use Rattle.checks.specs.declared.side.Shape.{Shape}
-use Rattle.reader.specs.Line.{numberIn, beforeOf, parsedAs}
-use Rattle.reader.specs.Admit.{Sized, Sides, risesAfter, checkedAs, ruleOf, admittedRule}
-use Rattle.reader.specs.declared.fault.Fault.the-variants.{None, Is}
-use Rattle.reader.specs.declared.line.Before.{Before}
-use Rattle.reader.specs.declared.line.Before.the-variants.{Start, After}
-use Rattle.reader.specs.declared.line.Line.{Line}
-use Rattle.reader.specs.declared.rule.RuleLine.{RuleLine}
-use Rattle.reader.proofs.Fields.{between}
+use Rattle.line.specs.Line.{numberIn, beforeOf, parsedAs}
+use Rattle.line.specs.Admit.{Sized, Sides, risesAfter, checkedAs, ruleOf, admittedRule}
+use Rattle.line.specs.declared.fault.Fault.the-variants.{None, Is}
+use Rattle.line.specs.declared.numbers.Before.{Before}
+use Rattle.line.specs.declared.numbers.Before.the-variants.{Start, After}
+use Rattle.line.specs.declared.numbers.Line.{Line}
+use Rattle.line.specs.declared.rule.RuleLine.{RuleLine}
+use Rattle.line.proofs.Fields.{between}
 use Rattle.reader.proofs.Stored.{side-widths}
-use Rattle.reader.proofs.Faults.{Rises, Known, line-known, line-refused, line-taken, rule-answer}
+use Rattle.line.proofs.Faults.{Rises, Known, line-known, line-refused, line-taken, rule-answer}
 use Rattle.reader.proofs.Places.{next-line, open-line, no-line, reads-refused, reads-on, reads-open}
-use Rattle.reader.proofs.Rising.{rises-after}
 
 -- what the loop holds
 pub record Held : Type 0 where
@@ -128,33 +123,20 @@ rises-blank Object m n a = refl
 rises-blank RuleKind m n a = refl
 rises-blank End m n a = refl
 
-module _ (v : PolicyValue) (e : v ≡ valueOf blank) where
-  pub blank-user : v .user ≡ sideValue (blank .user)
-  unfolding valueOf
-  blank-user = ap (λ (x : PolicyValue). x .user) e
+module _ (x : SideValue) (e : x ≡ sideValue blankSide) where
+  pub blank-sized : (x .attributes ≤ widthPlaces) × (sum (take (x .attributes) (x .widths)) < 2 ^ 32)
+  unfolding blank
+  blank-sized = value-sized 0 blankSide (parts blank (reading-start .lists) .user) x e
 
-  pub blank-sized : (v .user .attributes ≤ widthPlaces) × (sum (take (v .user .attributes) (v .user .widths)) < 2 ^ 32)
-  blank-sized = value-sized 0 (blank .user) (parts blank (reading-start .lists) .user) (v .user) blank-user
-
-  pub at-start : (t : List ℕ) → length t ≤ textBytes → (u : Shape) → ((s : Side) → v .user ≡ sideValue s → Shaped u s)
-      → At t
-      (record { form = v .form; user = v .user; object = v .object; users = v .users; objects = v .objects; rules = v .rules; userShape = u; objectShape = u; last = Start })
-      0 0
-  unfolding valueOf blank readText
-  at-start t h u f =
+  pub at-start : (t : List ℕ) → length t ≤ textBytes → (y : Register) → y ≡ register [] → (z : Rules) → z ≡ rulesValue []
+      → (u : Shape) → ((s : Side) → x ≡ sideValue s → Shaped u s)
+      → At t (record { form = 0; user = x; object = x; users = y; objects = y; rules = z; userShape = u; objectShape = u; last = Start }) 0 0
+  unfolding blank readText
+  at-start t h y f z g u k =
       record {
         state = start;
         reading = reading-start;
-        values = record {
-          form = ap (λ (x : PolicyValue). x .form) e;
-          user = blank-user;
-          object = ap (λ (x : PolicyValue). x .object) e;
-          users = ap (λ (x : PolicyValue). x .users) e;
-          objects = ap (λ (x : PolicyValue). x .objects) e;
-          rules = ap (λ (x : PolicyValue). x .rules) e;
-          userShape = f (blank .user) blank-user;
-          objectShape = f (blank .object) blank-user;
-        };
+        values = record { form = refl; user = e; object = e; users = f; objects = f; rules = g; userShape = k blankSide e; objectShape = k blankSide e };
         last = refl;
         rising = rises-blank;
         within = omega arith;
@@ -191,13 +173,21 @@ module _ {t : List ℕ} {h : Held} {at n : ℕ} (i : At t h at n) where
   unfolding valueOf
   at-value = let v = i .values in rw (v .form, v .user, v .object, v .users, v .objects, v .rules)
 
--- ---- an ended line, in which the code has found nothing broken so far
+pub ended-is : (b : Before) (k : Kind) (m n : ℕ) (r : Bool) → b ≡ After k m n → r ≡ isKind End k → r ≡ given (beforeOf b) false (isKind End)
+ended-is b k m n r e q = rw e q
+
+-- ---- an ended line, and what the code finds in it
 
 pub record Step (t : List ℕ) (h : Held) (at n e : ℕ) (x : Line) : Type 0 where
   pub here : At t h at n
   pub found : Found t at lineFeed e
   pub ended : e ≡ length t → ⊥
   pub checked : x ≡ checkedAs (h .last) (here .state .policy) (parsedAs (beforeOf (h .last)) (kindOf (between t at e)) (fields (between t at e)))
+
+-- and nothing is broken up to check 7, but for a rule's words
+pub record Taken (t : List ℕ) (h : Held) (at n e : ℕ) (x : Line) : Type 0 where
+  pub step : Step t h at n e x
+  pub fine : x .fault ≡ None
 
 -- one line more: the state after it, and what is left to read
 pub record Next (t : List ℕ) (s : State) (n e : ℕ) (k : Kind) (a b : ℕ) (ws : List Word) : Type 0 where
@@ -246,33 +236,39 @@ module _ {t : List ℕ} {h : Held} {at n e : ℕ} {x : Line} (i : Step t h at n 
             ∙ (rw (f, add-one n));
       }
 
-  module _ (z : x .fault ≡ None) where
-    pub known : Known (h .last) (kindOf (between t at e)) parts-of x
-    known = line-known (h .last) (state .policy) parts-of (kindOf (between t at e)) x (i .checked) z
+module _ {t : List ℕ} {h : Held} {at n e : ℕ} {x : Line} (j : Taken t h at n e x) where
+  abbrev here : State
+  here = j .step .here .state
 
-    -- a rule has fields enough
-    pub rule-counted : x .kind ≡ RuleKind → countFits RuleKind (length parts-of) ≡ true
-    rule-counted q = ap (λ (k : Kind). countFits k (length parts-of)) (sym q) ∙ known .count
+  abbrev fields-of : List (List ℕ)
+  fields-of = fields (between t at e)
 
-    -- a line without words
-    pub plain-next : (k : Kind) → x .kind ≡ k → (k ≡ RuleKind → ⊥) → Next t state n e k (x .first) (x .second) []
-    plain-next k q d =
+  pub known : Known (h .last) (kindOf (between t at e)) fields-of x
+  known = line-known (h .last) (here .policy) fields-of (kindOf (between t at e)) x (j .step .checked) (j .fine)
+
+  -- a rule has fields enough
+  pub rule-counted : x .kind ≡ RuleKind → countFits RuleKind (length fields-of) ≡ true
+  rule-counted q = ap (λ (k : Kind). countFits k (length fields-of)) (sym q) ∙ known .count
+
+  -- a line without words
+  pub plain-next : (k : Kind) → x .kind ≡ k → (k ≡ RuleKind → ⊥) → Next t here n e k (x .first) (x .second) []
+  plain-next k q d =
+      let m = known in
+      next-at (j .step) k (x .first) (x .second) []
+      (rw (j .step .here .last) at (line-taken (h .last) (here .policy) fields-of (kindOf (between t at e)) x (j .step .checked) (j .step .here .rising) (j .fine) (λ r. d (sym q ∙ r))))
+      (after-plain here (kindOf (between t at e)) fields-of (x .kind) k (x .first) (x .second) (m .named) q (m .line (λ r. d (sym q ∙ r))))
+
+  -- a rule, whose words decide
+  module _ (q : x .kind ≡ RuleKind) (y : RuleLine) (f : y ≡ admittedRule (h .last) (here .policy) (x .first) (drop 2 fields-of)) where
+    rule-by : numberIn (y .fault) ≡ lineRefusal here (endedLine (between t at e))
+    rule-by = rw (j .step .here .last) at (rule-answer (h .last) (here .policy) fields-of (kindOf (between t at e)) x (j .step .checked) (j .step .here .rising) (j .fine) q y f)
+
+    pub rule-refused : (r : Refusal) → y .fault ≡ Is r → readText t ≡ Refused (numberOf r) n
+    rule-refused r g = refused-at (j .step) (numberOf r) (sym rule-by ∙ ap numberIn g)
+
+    pub rule-next : y .fault ≡ None → Next t here n e RuleKind (x .first) (x .second) (ruleOf (x .first) (drop 2 fields-of) .words)
+    rule-next g =
         let m = known in
-        next-at k (x .first) (x .second) []
-        (rw (i .here .last) at (line-taken (h .last) (state .policy) parts-of (kindOf (between t at e)) x (i .checked) (i .here .rising) z (λ r. d (sym q ∙ r))))
-        (after-plain state (kindOf (between t at e)) parts-of (x .kind) k (x .first) (x .second) (m .named) q (m .line (λ r. d (sym q ∙ r))))
-
-    -- a rule, whose words decide
-    module _ (q : x .kind ≡ RuleKind) (y : RuleLine) (f : y ≡ admittedRule (h .last) (state .policy) (x .first) (drop 2 parts-of)) where
-      rule-by : numberIn (y .fault) ≡ lineRefusal state line
-      rule-by = rw (i .here .last) at (rule-answer (h .last) (state .policy) parts-of (kindOf (between t at e)) x (i .checked) (i .here .rising) z q y f)
-
-      pub rule-refused : (r : Refusal) → y .fault ≡ Is r → readText t ≡ Refused (numberOf r) n
-      rule-refused r g = refused-at (numberOf r) (sym rule-by ∙ ap numberIn g)
-
-      pub rule-next : y .fault ≡ None → Next t state n e RuleKind (x .first) (x .second) (ruleOf (x .first) (drop 2 parts-of) .words)
-      rule-next g =
-          let m = known in
-          let a = m .action q in
-          next-at RuleKind (x .first) (x .second) (ruleOf (x .first) (drop 2 parts-of) .words) (sym rule-by ∙ ap numberIn g)
-          (after-rule state (kindOf (between t at e)) parts-of (x .kind) RuleKind (x .first) (x .second) (m .named) q refl (a .0) (a .1))
+        let a = m .action q in
+        next-at (j .step) RuleKind (x .first) (x .second) (ruleOf (x .first) (drop 2 fields-of) .words) (sym rule-by ∙ ap numberIn g)
+        (after-rule here (kindOf (between t at e)) fields-of (x .kind) RuleKind (x .first) (x .second) (m .named) q refl (a .0) (a .1))

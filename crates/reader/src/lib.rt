@@ -1,31 +1,25 @@
-// Reading a policy text.
+// Reading a policy text: its value, or the first refusal and its line.
 ghost use mathlib.Core.Path.{_≡_};
 ghost use mathlib.Core.Bool.{false};
 ghost use Rattle.basis.specs.Choice.{given};
 ghost use Rattle.text.specs.Kind.{isKind};
-ghost use Rattle.text.specs.Parts.{fields};
 ghost use Rattle.text.specs.declared.kind.Kind.the-variants as kind;
 ghost use Rattle.policy.specs.Answers.{numberOf, ReadAs};
-ghost use Rattle.policy.specs.Policy as policy;
-ghost use Rattle.policy.specs.Read.{Refused, kindOf, readText};
-ghost use Rattle.reader.specs.Admit.{Sized, Sides, checkedAs};
-ghost use Rattle.reader.specs.Line.{beforeOf, parsedAs};
+ghost use Rattle.policy.specs.Read.{Refused, readText};
+ghost use Rattle.line.specs.Line.{beforeOf};
 
-mod admit;
-mod fault;
-mod line;
-mod rule;
 mod value;
 
-use crate::fault::Fault;
-use crate::line::Before;
-use crate::line::Line;
-use checks::side::Shape;
+use line::fault::Fault;
+use line::numbers::Before;
 use policy::refusal::Refusal;
 use policy::value::PolicyValue;
 use policy::value::Reading;
 use policy::value::Verdict;
 use text::kind::Kind;
+
+// The longest text.
+const MOST_BYTES: usize = 8192;
 
 fn refused(r: Refusal, line: usize) -> Reading
     ensures { λ x. ⌜ ReadAs (Refused (numberOf r) line) x ⌝ }
@@ -34,25 +28,6 @@ fn refused(r: Refusal, line: usize) -> Reading
     Reading {
         verdict: Verdict::Refused(r, line),
         policy,
-    }
-}
-
-fn checked(before: Before, line: &[u8], form: u32, user: Shape, object: Shape) -> Line
-    requires { ⌜ Sized user × Sized object ⌝ }
-    ensures { λ r. ⌜ ((p : policy.Policy) → Sides form user object p → r ≡ checkedAs before p (parsedAs (beforeOf before) (kindOf (now (line .entry))) (fields (now (line .entry))))) ⌝ }
-{
-    let x = line::parse(before, line);
-    let f = x.fault;
-    let Fault::None = f else {
-        return x;
-    };
-    let kind = x.kind;
-    let fault = admit::admit(kind, x.first, x.second, before, form, user, object);
-    Line {
-        fault,
-        kind,
-        first: x.first,
-        second: x.second,
     }
 }
 
@@ -70,18 +45,17 @@ fn ended(before: Before) -> bool
 pub fn read(text: &[u8]) -> Reading
     ensures { λ r. ⌜ ReadAs (readText (now (text .entry))) r ⌝ }
 {
-    if 8192 < text.len() {
+    if MOST_BYTES < text.len() {
         return refused(Refusal::TextTooLong, 0);
     }
-    let blank = value::blank();
-    let mut form = blank.form;
-    let mut user = blank.user;
-    let mut object = blank.object;
-    let mut users = blank.users;
-    let mut objects = blank.objects;
-    let mut rules = blank.rules;
-    let mut u = value::shape(user);
-    let mut o = u;
+    let mut form = 0;
+    let mut user = value::no_lines();
+    let mut object = user;
+    let mut users = value::no_entries();
+    let mut objects = users;
+    let mut rules = value::no_rules();
+    let mut user_shape = value::shape(user);
+    let mut object_shape = user_shape;
     let mut last = Before::Start;
     let mut at = 0;
     let mut n = 0;
@@ -91,35 +65,34 @@ pub fn read(text: &[u8]) -> Reading
             return refused(Refusal::LineFeedMissing, n);
         }
         let line = &text[at..e];
-        let x = checked(last, line, form, u, o);
+        let x = line::check(last, line, form, user_shape, object_shape);
         let f = x.fault;
         if let Fault::Is(r) = f {
             return refused(r, n);
         }
         let k = x.kind;
-        let a = x.first;
-        let b = x.second;
-        let prior = last;
+        let before = last;
         let here = n;
-        last = Before::After(k, a, b);
+        // From here on `last`, `at` and `n` are the next line's.
+        last = Before::After(k, x.first, x.second);
         at = e + 1;
         n += 1;
         match k {
-            Kind::Policy => form = a,
+            Kind::Policy => form = x.first,
             Kind::Uattr => {
-                user = value::with_width(user, a);
-                u = value::shape(user);
+                user = value::with_width(user, x.first);
+                user_shape = value::shape(user);
             }
             Kind::Oattr => {
-                object = value::with_width(object, a);
-                o = value::shape(object);
+                object = value::with_width(object, x.first);
+                object_shape = value::shape(object);
             }
-            Kind::Usen => user = value::with_line(user, a, b),
-            Kind::Osen => object = value::with_line(object, a, b),
-            Kind::User => users = value::with_entry(users, a, b),
-            Kind::Object => objects = value::with_entry(objects, a, b),
+            Kind::Usen => user = value::with_line(user, x.first, x.second),
+            Kind::Osen => object = value::with_line(object, x.first, x.second),
+            Kind::User => users = value::with_entry(users, x.first, x.second),
+            Kind::Object => objects = value::with_entry(objects, x.first, x.second),
             Kind::Rule => {
-                let y = rule::admit(a, line, prior, form, u, o);
+                let y = line::rule::admit(x.first, line, before, form, user_shape, object_shape);
                 let g = y.fault;
                 if let Fault::Is(r) = g {
                     return refused(r, here);

@@ -20,37 +20,53 @@ use policy::value::Slot;
 use seniority::Direct;
 use words::Word;
 
-pub fn blank() -> PolicyValue
-    ensures { λ r. ⌜ r ≡ valueOf policy.blank ⌝ }
+pub fn no_lines() -> SideValue
+    ensures { λ r. ⌜ r ≡ sideValue policy.blankSide ⌝ }
 {
-    let words = [Slot { word: Word::True }; 32];
-    let rules = [RuleValue {
-        action: 0,
-        count: 0,
-        words,
-    }; 8];
     let seniority = [Direct {
         senior: 0,
         junior: 0,
     }; 21];
-    let side = SideValue {
+    SideValue {
         attributes: 0,
         widths: [0; 7],
         lines: 0,
         seniority,
-    };
+    }
+}
+
+pub fn no_entries() -> Register
+    ensures { λ r. ⌜ r ≡ register [] ⌝ }
+{
     let entries = [Entry { number: 0, set: 0 }; 64];
-    let register = Register { count: 0, entries };
+    Register { count: 0, entries }
+}
+
+pub fn no_rules() -> Rules
+    ensures { λ r. ⌜ r ≡ rulesValue [] ⌝ }
+{
+    let words = [Slot { word: Word::True }; 32];
+    let entries = [RuleValue {
+        action: 0,
+        count: 0,
+        words,
+    }; 8];
+    Rules { count: 0, entries }
+}
+
+pub fn blank() -> PolicyValue
+    ensures { λ r. ⌜ r ≡ valueOf policy.blank ⌝ }
+{
+    let side = no_lines();
+    let entries = no_entries();
+    let rules = no_rules();
     PolicyValue {
         form: 0,
         user: side,
         object: side,
-        users: register,
-        objects: register,
-        rules: Rules {
-            count: 0,
-            entries: rules,
-        },
+        users: entries,
+        objects: entries,
+        rules,
     }
 }
 

@@ -1,5 +1,5 @@
 -- `reader::ended` meets its contract.
-use Rattle.reader.proofs.Admitted.{ended-is}
+use Rattle.reader.proofs.States.{ended-is}
 use borrow.Author.Needs.{needs}
 use Rattle.reader.proofs.ended.Statement.{statement}
 use Rattle.reader.proofs.ended.Tie as tie

@@ -6,13 +6,13 @@ use borrow.Author.Needs.{needs}
 use denote.Ref.{now}
 use lib.ListN.{length}
 use Rattle.policy.specs.Answers.{valueIn}
-use Rattle.reader.proofs.States.{Held, At, Step, at-sides, at-sized, blank-sized, at-start, too-long, at-open, at-ended, at-unended, at-value, step-refused, rule-counted, rule-refused}
+use Rattle.reader.proofs.States.{Held, At, Step, Taken, at-sides, at-sized, blank-sized, at-start, too-long, at-open, at-ended, at-unended, at-value, step-refused, rule-counted, rule-refused}
 use Rattle.reader.proofs.Turns.{at-form, uattr-room, uattr-sized, at-uattr, oattr-room, oattr-sized, at-oattr, usen-room, at-usen, osen-room, at-osen, user-room, at-user, object-room, at-object, rule-room, at-rule, at-end}
 use Rattle.reader.proofs.read.Statement.{statement}
 use Rattle.reader.proofs.read.Tie as tie
 
 abbrev Inv-loop : tie.InvT-loop
-Inv-loop text form₀ user₀ object₀ users₀ objects₀ rules₀ u₀ o₀ last₀ at₀ n₀ form user object users objects rules u o last at n =
+Inv-loop text form₀ user₀ object₀ users₀ objects₀ rules₀ user-shape₀ object-shape₀ last₀ at₀ n₀ form user object users objects rules user-shape object-shape last at n =
     At text
     (record {
       form = form;
@@ -21,31 +21,39 @@ Inv-loop text form₀ user₀ object₀ users₀ objects₀ rules₀ u₀ o₀ l
       users = users;
       objects = objects;
       rules = rules;
-      userShape = u;
-      objectShape = o;
+      userShape = user-shape;
+      objectShape = object-shape;
       last = last;
     })
     at n
 
 abbrev μ-loop : tie.MeasureT-loop
-μ-loop text form₀ user₀ object₀ users₀ objects₀ rules₀ u₀ o₀ last₀ at₀ n₀ form user object users objects rules u o last at n = length text - at
+μ-loop text form₀ user₀ object₀ users₀ objects₀ rules₀ user-shape₀ object-shape₀ last₀ at₀ n₀ form user object users objects rules user-shape object-shape last at n = length text - at
 
 refused-requires : tie.Need-refused-requires Inv-loop μ-loop
 refused-requires c κs = search needs
 
 returns : tie.Need-returns Inv-loop μ-loop
-returns c = rw (too-long (now (c .before .before .before .args .text)) (c .before .if1 .taken)) (c .refused .ensures)
+returns c = rw (too-long (now (c .before .before .before .args .text)) (omega arith)) (c .refused .ensures)
 
-blank-requires : tie.Need-blank-requires Inv-loop μ-loop
-blank-requires c κs = search needs
+no-lines-requires : tie.Need-no-lines-requires Inv-loop μ-loop
+no-lines-requires c κs = search needs
+
+no-entries-requires : tie.Need-no-entries-requires Inv-loop μ-loop
+no-entries-requires c κs = search needs
+
+no-rules-requires : tie.Need-no-rules-requires Inv-loop μ-loop
+no-rules-requires c κs = search needs
 
 shape-requires : tie.Need-shape-requires Inv-loop μ-loop
-shape-requires c κs = blank-sized (c .before .before .before .before .before .blank .result) (c .before .before .before .before .before .blank .ensures)
+shape-requires c κs = blank-sized (c .before .before .no-lines .result) (c .before .before .no-lines .ensures)
 
 loop-holds : tie.Need-loop-holds Inv-loop μ-loop
 loop-holds c =
-    let v = c .before .before .before .before .before .before .blank in
-    at-start (v .result) (v .ensures) (now (c .before .before .before .before .before .before .before .before .before .args .text)) (c .before .before .before .before .before .before .before .if1 .left) (c .shape .result) (c .shape .ensures)
+    let s = c .before .before .before .no-lines in
+    let r = c .before .before .no-entries in
+    let z = c .before .no-rules in
+    at-start (s .result) (s .ensures) (now (c .before .before .before .before .before .before .args .text)) (omega arith) (r .result) (r .ensures) (z .result) (z .ensures) (c .shape .result) (c .shape .ensures)
 
 find-requires : tie.Need-find-requires Inv-loop μ-loop
 find-requires c κs = c .before .loop .inv .within
@@ -65,11 +73,11 @@ part-line-start c = search needs
 part-line-end : tie.Need-part-line-end Inv-loop μ-loop
 part-line-end c = search needs
 
-checked-requires : tie.Need-checked-requires Inv-loop μ-loop
-checked-requires c κs = at-sized (c .before .before .before .before .loop .inv)
+check-requires : tie.Need-check-requires Inv-loop μ-loop
+check-requires c κs = at-sized (c .before .before .before .before .loop .inv)
 
 -- what is held where a line was checked, and that line
-abbrev held : tie.After-checked Inv-loop μ-loop → Held
+abbrev held : tie.After-check Inv-loop μ-loop → Held
 held c =
     let l = c .before .before .before .before .before .loop in
     record {
@@ -79,20 +87,20 @@ held c =
       users = l .users;
       objects = l .objects;
       rules = l .rules;
-      userShape = l .u;
-      objectShape = l .o;
+      userShape = l .user-shape;
+      objectShape = l .object-shape;
       last = l .last;
     }
 
-step : (c : tie.After-checked Inv-loop μ-loop)
-    → Step (now (c .before .before .before .before .before .before .before .before .before .before .before .before .before .before .before .args .text)) (held c) (c .before .before .before .before .before .loop .at) (c .before .before .before .before .before .loop .n) (c .before .before .before .find .result) (c .checked .result)
+step : (c : tie.After-check Inv-loop μ-loop)
+    → Step (now (c .before .before .before .before .before .before .before .before .before .before .before .before .args .text)) (held c) (c .before .before .before .before .before .loop .at) (c .before .before .before .before .before .loop .n) (c .before .before .before .find .result) (c .check .result)
 step c =
     let i = c .before .before .before .before .before .loop .inv in
     record {
       here = i;
       found = c .before .before .before .find .ensures;
       ended = c .before .before .if2 .left;
-      checked = c .checked .ensures (i .state .policy) (at-sides i);
+      checked = c .check .ensures (i .state .policy) (at-sides i);
     }
 
 enum-known-f : tie.Need-enum-known-f Inv-loop μ-loop
@@ -107,6 +115,11 @@ returns-3 c = rw (step-refused (step (c .before .before .before .before)) _ (c .
 enum-told : tie.Need-enum-told Inv-loop μ-loop
 enum-told c = search needs
 
+-- in which nothing was found to be broken
+taken : (c : tie.After-enum-told Inv-loop μ-loop)
+    → Taken (now (c .before .before .before .before .before .before .before .before .before .before .before .before .before .before .args .text)) (held (c .before .before)) (c .before .before .before .before .before .before .before .loop .at) (c .before .before .before .before .before .before .before .loop .n) (c .before .before .before .before .before .find .result) (c .before .before .check .result)
+taken c = record { step = step (c .before .before); fine = c .enum-told .given .1 }
+
 add-at : tie.Need-add-at Inv-loop μ-loop
 add-at c = search needs
 
@@ -120,94 +133,94 @@ loop-less : tie.Need-loop-less Inv-loop μ-loop
 loop-less c = search needs
 
 loop-again : tie.Need-loop-again Inv-loop μ-loop
-loop-again c = at-form (step (c .before .before .before .before)) (c .before .before .enum-told .given .1) (c .enum-told2 .given .1)
+loop-again c = at-form (taken (c .before .before)) (c .enum-told2 .given .1)
 
 enum-told-3 : tie.Need-enum-told-3 Inv-loop μ-loop
 enum-told-3 c = search needs
 
 with-width-requires : tie.Need-with-width-requires Inv-loop μ-loop
-with-width-requires c κs = uattr-room (step (c .before .before .before .before)) (c .before .before .enum-told .given .1) (c .enum-told3 .given .1)
+with-width-requires c κs = uattr-room (taken (c .before .before)) (c .enum-told3 .given .1)
 
 shape-requires-2 : tie.Need-shape-requires-2 Inv-loop μ-loop
-shape-requires-2 c κs = uattr-sized (step (c .before .before .before .before .before)) (c .before .before .before .enum-told .given .1) (c .before .enum-told3 .given .1) (c .with-width .result) (c .with-width .ensures)
+shape-requires-2 c κs = uattr-sized (taken (c .before .before .before)) (c .before .enum-told3 .given .1) _ (c .with-width .ensures)
 
 loop-less-2 : tie.Need-loop-less-2 Inv-loop μ-loop
 loop-less-2 c = search needs
 
 loop-again-2 : tie.Need-loop-again-2 Inv-loop μ-loop
-loop-again-2 c = at-uattr (step (c .before .before .before .before .before .before)) (c .before .before .before .before .enum-told .given .1) (c .before .before .enum-told3 .given .1) (c .before .with-width .result) (c .before .with-width .ensures) (c .shape2 .result) (c .shape2 .ensures)
+loop-again-2 c = at-uattr (taken (c .before .before .before .before)) (c .before .before .enum-told3 .given .1) _ (c .before .with-width .ensures) _ (c .shape2 .ensures)
 
 enum-told-4 : tie.Need-enum-told-4 Inv-loop μ-loop
 enum-told-4 c = search needs
 
 with-width-requires-2 : tie.Need-with-width-requires-2 Inv-loop μ-loop
-with-width-requires-2 c κs = oattr-room (step (c .before .before .before .before)) (c .before .before .enum-told .given .1) (c .enum-told4 .given .1)
+with-width-requires-2 c κs = oattr-room (taken (c .before .before)) (c .enum-told4 .given .1)
 
 shape-requires-3 : tie.Need-shape-requires-3 Inv-loop μ-loop
-shape-requires-3 c κs = oattr-sized (step (c .before .before .before .before .before)) (c .before .before .before .enum-told .given .1) (c .before .enum-told4 .given .1) (c .with-width2 .result) (c .with-width2 .ensures)
+shape-requires-3 c κs = oattr-sized (taken (c .before .before .before)) (c .before .enum-told4 .given .1) _ (c .with-width2 .ensures)
 
 loop-less-3 : tie.Need-loop-less-3 Inv-loop μ-loop
 loop-less-3 c = search needs
 
 loop-again-3 : tie.Need-loop-again-3 Inv-loop μ-loop
-loop-again-3 c = at-oattr (step (c .before .before .before .before .before .before)) (c .before .before .before .before .enum-told .given .1) (c .before .before .enum-told4 .given .1) (c .before .with-width2 .result) (c .before .with-width2 .ensures) (c .shape3 .result) (c .shape3 .ensures)
+loop-again-3 c = at-oattr (taken (c .before .before .before .before)) (c .before .before .enum-told4 .given .1) _ (c .before .with-width2 .ensures) _ (c .shape3 .ensures)
 
 enum-told-5 : tie.Need-enum-told-5 Inv-loop μ-loop
 enum-told-5 c = search needs
 
 with-line-requires : tie.Need-with-line-requires Inv-loop μ-loop
-with-line-requires c κs = usen-room (step (c .before .before .before .before)) (c .before .before .enum-told .given .1) (c .enum-told5 .given .1)
+with-line-requires c κs = usen-room (taken (c .before .before)) (c .enum-told5 .given .1)
 
 loop-less-4 : tie.Need-loop-less-4 Inv-loop μ-loop
 loop-less-4 c = search needs
 
 loop-again-4 : tie.Need-loop-again-4 Inv-loop μ-loop
-loop-again-4 c = at-usen (step (c .before .before .before .before .before)) (c .before .before .before .enum-told .given .1) (c .before .enum-told5 .given .1) (c .with-line .result) (c .with-line .ensures)
+loop-again-4 c = at-usen (taken (c .before .before .before)) (c .before .enum-told5 .given .1) _ (c .with-line .ensures)
 
 enum-told-6 : tie.Need-enum-told-6 Inv-loop μ-loop
 enum-told-6 c = search needs
 
 with-line-requires-2 : tie.Need-with-line-requires-2 Inv-loop μ-loop
-with-line-requires-2 c κs = osen-room (step (c .before .before .before .before)) (c .before .before .enum-told .given .1) (c .enum-told6 .given .1)
+with-line-requires-2 c κs = osen-room (taken (c .before .before)) (c .enum-told6 .given .1)
 
 loop-less-5 : tie.Need-loop-less-5 Inv-loop μ-loop
 loop-less-5 c = search needs
 
 loop-again-5 : tie.Need-loop-again-5 Inv-loop μ-loop
-loop-again-5 c = at-osen (step (c .before .before .before .before .before)) (c .before .before .before .enum-told .given .1) (c .before .enum-told6 .given .1) (c .with-line2 .result) (c .with-line2 .ensures)
+loop-again-5 c = at-osen (taken (c .before .before .before)) (c .before .enum-told6 .given .1) _ (c .with-line2 .ensures)
 
 enum-told-7 : tie.Need-enum-told-7 Inv-loop μ-loop
 enum-told-7 c = search needs
 
 with-entry-requires : tie.Need-with-entry-requires Inv-loop μ-loop
-with-entry-requires c κs = user-room (step (c .before .before .before .before)) (c .before .before .enum-told .given .1) (c .enum-told7 .given .1)
+with-entry-requires c κs = user-room (taken (c .before .before)) (c .enum-told7 .given .1)
 
 loop-less-6 : tie.Need-loop-less-6 Inv-loop μ-loop
 loop-less-6 c = search needs
 
 loop-again-6 : tie.Need-loop-again-6 Inv-loop μ-loop
-loop-again-6 c = at-user (step (c .before .before .before .before .before)) (c .before .before .before .enum-told .given .1) (c .before .enum-told7 .given .1) (c .with-entry .result) (c .with-entry .ensures)
+loop-again-6 c = at-user (taken (c .before .before .before)) (c .before .enum-told7 .given .1) _ (c .with-entry .ensures)
 
 enum-told-8 : tie.Need-enum-told-8 Inv-loop μ-loop
 enum-told-8 c = search needs
 
 with-entry-requires-2 : tie.Need-with-entry-requires-2 Inv-loop μ-loop
-with-entry-requires-2 c κs = object-room (step (c .before .before .before .before)) (c .before .before .enum-told .given .1) (c .enum-told8 .given .1)
+with-entry-requires-2 c κs = object-room (taken (c .before .before)) (c .enum-told8 .given .1)
 
 loop-less-7 : tie.Need-loop-less-7 Inv-loop μ-loop
 loop-less-7 c = search needs
 
 loop-again-7 : tie.Need-loop-again-7 Inv-loop μ-loop
-loop-again-7 c = at-object (step (c .before .before .before .before .before)) (c .before .before .before .enum-told .given .1) (c .before .enum-told8 .given .1) (c .with-entry2 .result) (c .with-entry2 .ensures)
+loop-again-7 c = at-object (taken (c .before .before .before)) (c .before .enum-told8 .given .1) _ (c .with-entry2 .ensures)
 
 enum-told-9 : tie.Need-enum-told-9 Inv-loop μ-loop
 enum-told-9 c = search needs
 
 admit-requires : tie.Need-admit-requires Inv-loop μ-loop
 admit-requires c κs =
-    let i = step (c .before .before .before .before) in
-    let s = at-sized (i .here) in
-    (rule-counted i (c .before .before .enum-told .given .1) (c .enum-told9 .given .1), s .0, s .1)
+    let j = taken (c .before .before) in
+    let s = at-sized (j .step .here) in
+    (rule-counted j (c .enum-told9 .given .1), s .0, s .1)
 
 enum-known-g : tie.Need-enum-known-g Inv-loop μ-loop
 enum-known-g c = search needs
@@ -217,24 +230,24 @@ refused-requires-4 c κs = search needs
 
 returns-4 : tie.Need-returns-4 Inv-loop μ-loop
 returns-4 c =
-    let i = step (c .before .before .before .before .before .before .before .before .before) in
-    rw (rule-refused i (c .before .before .before .before .before .before .before .enum-told .given .1) (c .before .before .before .before .before .enum-told9 .given .1) _ (c .before .before .before .before .admit .ensures (i .here .state .policy) (at-sides (i .here))) _ (c .before .before .g .given .1)) (c .refused4 .ensures)
+    let j = taken (c .before .before .before .before .before .before .before) in
+    rw (rule-refused j (c .before .before .before .before .before .enum-told9 .given .1) _ (c .before .before .before .before .admit .ensures (j .step .here .state .policy) (at-sides (j .step .here))) _ (c .before .before .g .given .1)) (c .refused4 .ensures)
 
 enum-told-10 : tie.Need-enum-told-10 Inv-loop μ-loop
 enum-told-10 c = search needs
 
 with-rule-requires : tie.Need-with-rule-requires Inv-loop μ-loop
 with-rule-requires c κs =
-    let i = step (c .before .before .before .before .before .before .before .before) in
-    rule-room i (c .before .before .before .before .before .before .enum-told .given .1) (c .before .before .before .before .enum-told9 .given .1) _ (c .before .before .before .admit .ensures (i .here .state .policy) (at-sides (i .here))) (c .before .enum-told10 .given .1)
+    let j = taken (c .before .before .before .before .before .before) in
+    rule-room j (c .before .before .before .before .enum-told9 .given .1) _ (c .before .before .before .admit .ensures (j .step .here .state .policy) (at-sides (j .step .here))) (c .before .enum-told10 .given .1)
 
 loop-less-8 : tie.Need-loop-less-8 Inv-loop μ-loop
 loop-less-8 c = search needs
 
 loop-again-8 : tie.Need-loop-again-8 Inv-loop μ-loop
 loop-again-8 c =
-    let i = step (c .before .before .before .before .before .before .before .before .before) in
-    at-rule i (c .before .before .before .before .before .before .before .enum-told .given .1) (c .before .before .before .before .before .enum-told9 .given .1) _ (c .before .before .before .before .admit .ensures (i .here .state .policy) (at-sides (i .here))) (c .before .before .enum-told10 .given .1) (c .with-rule .result) (c .with-rule .ensures)
+    let j = taken (c .before .before .before .before .before .before .before) in
+    at-rule j (c .before .before .before .before .before .enum-told9 .given .1) _ (c .before .before .before .before .admit .ensures (j .step .here .state .policy) (at-sides (j .step .here))) (c .before .before .enum-told10 .given .1) _ (c .with-rule .ensures)
 
 enum-told-11 : tie.Need-enum-told-11 Inv-loop μ-loop
 enum-told-11 c = search needs
@@ -243,7 +256,7 @@ loop-less-9 : tie.Need-loop-less-9 Inv-loop μ-loop
 loop-less-9 c = search needs
 
 loop-again-9 : tie.Need-loop-again-9 Inv-loop μ-loop
-loop-again-9 c = at-end (step (c .before .before .before .before)) (c .before .before .enum-told .given .1) (c .enum-told11 .given .1)
+loop-again-9 c = at-end (taken (c .before .before)) (c .enum-told11 .given .1)
 
 ended-requires : tie.Need-ended-requires Inv-loop μ-loop
 ended-requires c κs = search needs
@@ -266,7 +279,9 @@ read-spec =
     μ-loop
     refused-requires
     returns
-    blank-requires
+    no-lines-requires
+    no-entries-requires
+    no-rules-requires
     shape-requires
     loop-holds
     find-requires
@@ -275,7 +290,7 @@ read-spec =
     sub-line
     part-line-start
     part-line-end
-    checked-requires
+    check-requires
     enum-known-f
     refused-requires-3
     returns-3

@@ -1,0 +1,4 @@
+pub mod Fields
+pub mod Admitted
+pub mod Rules
+pub mod Faults
