@@ -1,0 +1,4 @@
+pub mod Short
+pub mod Tuples
+pub mod Reading
+pub mod Examples
