@@ -8,9 +8,8 @@ use native.Mathlib.Omega.{arith}
 use borrow.Rule.Slice.PartMut.{putMid}
 use lib.ListN.{length, getD, take, drop, length-append, length-drop, take-append-drop}
 use lib.Seq.{drop-drop, getD-drop}
-use Rattle.basis.proofs.Over.{over-long}
 use Rattle.writer.specs.Put.{Put, each}
-use Rattle.writer.proofs.Putting.{put-none, Next, next-put, each-append, each-next}
+use Rattle.writer.proofs.Putting.{put-none, put-fits, Next, next-put, each-append, each-next}
 use Rattle.report.specs.Lines.{lineRoom, Some}
 use Rattle.report.specs.declared.Lines.{Lines}
 
@@ -29,7 +28,7 @@ module _ {line : ℕ → List ℕ} {tuples : List ℕ} {from : ℕ} {b : List �
 
   module _ {m : List ℕ} {at next : ℕ} (x : Going line tuples from b m at next) where
     pub going-fits : at ≤ length m
-    going-fits = omega (arith, x .put .count, ap length (x .put .bytes), over-long (each line (take (next - from) (drop from tuples))) b)
+    going-fits = omega (arith, x .put .long, put-fits (x .put))
 
     -- all lines are put
     pub going-all : length tuples ≤ next → Some line tuples from b m (record { at = at; next = next })

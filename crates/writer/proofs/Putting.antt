@@ -8,6 +8,7 @@ use borrow.Rule.Slice.PartMut.{putMid}
 use lib.ListN.{length, getD, take, drop, set, length-append, length-set, length-drop, drop-of-length-le}
 use lib.Seq.{append-snoc, drop-at, drop-cons, drop-drop, getD-take, length-take-le, set-at, split-at, take-all, take-at, take-suc, take-take}
 use Rattle.basis.specs.Lists.{over}
+use Rattle.basis.proofs.Over.{over-long}
 use Rattle.text.specs.Parts.{lineFeed}
 use Rattle.writer.specs.Put.{Room, Put, each, ended}
 
@@ -22,6 +23,9 @@ shorter s t h = record { fits = omega (arith, h .fits, length-append s t) }
 pub put-taken : {t b m : List ℕ} {r : ℕ} → Put t b m r → take r m ≡ t
 unfolding over
 put-taken {t} {b} {m} {r} p = ap (take r) (p .bytes) ∙ take-at t (drop (length t) b) r (sym (p .count))
+
+pub put-fits : {t b m : List ℕ} {r : ℕ} → Put t b m r → r ≤ length b
+put-fits {t} {b} p = omega (arith, p .count, p .long, ap length (p .bytes), over-long t b)
 
 -- s was put into b, which is m now; t comes next and has room
 pub record Next (s t b m : List ℕ) (r : ℕ) : Type 0 where
