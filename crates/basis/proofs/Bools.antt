@@ -25,6 +25,10 @@ pub or-right : (a b : Bool) → b ≡ true → (a || b) ≡ true
 or-right true b q = refl
 or-right false b q = q
 
+pub or-neither : (a b : Bool) → (a || b) ≡ false → (a ≡ false) × (b ≡ false)
+or-neither true b e = absurd (true≢false e)
+or-neither false b e = (refl, e)
+
 -- no test both passes and fails
 pub never : (a : Bool) → a ≡ true → a ≡ false → ⊥
 never a p q = true≢false (sym p ∙ q)

@@ -3,8 +3,9 @@ use Prim.Native.Nat.{ℕ, zero, suc, _+_, _≤_, _<_, zero-le}
 use mathlib.Core.Path.{_≡_, refl, sym, ap, _∙_}
 use mathlib.Core.Bool.{Bool, true, false, cond, _&&_, true≢false}
 use mathlib.Core.Logic.{_↔_, ⊎-elim}
-use mathlib.Core.List.{[], _∷_, List·Memᴰ, List·Memᴰ·head, List·Memᴰ·not-nil, List·Memᴰ·append-cases, List·Memᴰ·eq-of-singleton, Memᴰ·append-left, Memᴰ·append-right}
-use native.Mathlib.Nat.{le-refl, le-of-suc-le-suc, not-suc-le-zero, eq-or-lt-of-le}
+use mathlib.Core.List.{[], _∷_, _++_, append-nil, List·Memᴰ, List·Memᴰ·head, List·Memᴰ·not-nil, List·Memᴰ·append-cases, List·Memᴰ·eq-of-singleton, Memᴰ·append-left, Memᴰ·append-right}
+use native.Mathlib.Nat.{le-refl, le-of-suc-le-suc, not-suc-le-zero, eq-or-lt-of-le, add-zero, add-suc}
+use native.Mathlib.Numerals.{add-one}
 use native.Mathlib.Decide.{le-ind}
 use native.Mathlib.Omega.{arith}
 use lib.ListN.{length, getD, length-append, List·getD-append}
@@ -40,6 +41,13 @@ first-is f n r l =
     let a : ¬ (first f n < r) = λ h. never (f (first f n)) (s .hit (omega arith)) (l .before _ h) in
     let b : ¬ (r < first f n) = λ h. never (f r) (l .hit (omega arith)) (s .before r h) in
     omega arith
+
+-- tests that agree have the same first number
+pub first-same : (f g : ℕ → Bool) (n : ℕ) → ((k : ℕ) → k < n → f k ≡ g k) → first f n ≡ first g n
+first-same f g n h =
+    let s = first-least g n in
+    first-is f n (first g n)
+    (record { within = s .within; before = λ k l. h k (omega (arith, s .within)) ∙ s .before k l; hit = λ l. h _ l ∙ s .hit l })
 
 -- ---- count
 
@@ -176,3 +184,35 @@ pub every-fails : (f : ℕ → Bool) (n : ℕ) → every f n ≡ false → (k : 
 unfolding every
 every-fails f zero h = absurd (true≢false h)
 every-fails f (suc n) h = every-fails-at f n (every f n) (f n) refl (every-fails f n) h
+
+-- ---- tests that agree, and blocks of numbers
+
+pub select-same : (f g : ℕ → Bool) (n : ℕ) → ((k : ℕ) → k < n → f k ≡ g k) → select f n ≡ select g n
+unfolding select
+select-same f g zero e = refl
+select-same f g (suc n) e = rw (select-same f g n (λ k h. e k (omega arith)), e n (omega arith))
+
+pub count-same : (f g : ℕ → Bool) (n : ℕ) → ((k : ℕ) → k < n → f k ≡ g k) → count f n ≡ count g n
+count-same f g n e = sym (length-select f n) ∙ ap length (select-same f g n e) ∙ length-select g n
+
+-- numbers that do not pass are not selected
+pub select-skip : (f : ℕ → Bool) (n m : ℕ) → n ≤ m → ((k : ℕ) → n ≤ k → k < m → f k ≡ false) → select f m ≡ select f n
+unfolding select
+select-skip f n =
+    le-ind (λ (m : ℕ). ((k : ℕ) → n ≤ k → k < m → f k ≡ false) → select f m ≡ select f n) (λ e. refl)
+    (λ m l ih e. rw (e m l (omega arith), append-nil) (ih (λ k a b. e k a (omega arith))))
+
+-- one that passes is
+pub select-next : (f : ℕ → Bool) (n : ℕ) → f n ≡ true → select f (n + 1) ≡ select f n ++ (n ∷ [])
+unfolding select
+select-next f n e = rw (add-one n, e)
+
+count-at : (b : Bool) (c d : ℕ) → cond b (suc (c + d)) (c + d) ≡ c + cond b (suc d) d
+count-at true c d = omega arith
+count-at false c d = refl
+
+-- those below n and the next m are counted apart
+pub count-block : (f : ℕ → Bool) (n m : ℕ) → count f (n + m) ≡ count f n + count (λ k. f (n + k)) m
+unfolding count
+count-block f n zero = rw (add-zero n) (omega arith)
+count-block f n (suc m) = rw (add-suc n m, count-block f n m) (count-at (f (n + m)) (count f n) (count (λ k. f (n + k)) m))

@@ -1,9 +1,12 @@
 pub mod Bools
+pub mod Choice
 pub mod Counting
+pub mod Filled
 pub mod Lists
 pub mod Numbers
 pub mod Over
 pub mod Padded
+pub mod Places
 pub mod Same
 pub mod Snoc
 pub mod Table

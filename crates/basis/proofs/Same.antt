@@ -16,6 +16,13 @@ agree-eq true false e = absurd (false≢true e)
 agree-eq false true e = absurd (false≢true e)
 agree-eq false false e = refl
 
+pub eq-agree : (a b : Bool) → a ≡ b → agree a b ≡ true
+eq-agree a b q = rw q (self b)
+  where
+    self : (c : Bool) → agree c c ≡ true
+    self true = refl
+    self false = refl
+
 module _ {A : Type 0} (e : A → A → Bool) where
   pub same-length : (a b : List A) → (length a ≡ length b → ⊥) → same e a b ≡ false
   unfolding same

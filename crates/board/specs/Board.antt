@@ -14,6 +14,7 @@ use Rattle.policy.specs.Valid.{valid}
 use Rattle.policy.specs.Answers.{numberOf, Reply, done, granted, denied, refused, decided}
 use Rattle.policy.specs.declared.value.PolicyValue.{PolicyValue}
 use Rattle.labels.specs.Compile.{Buffers}
+use Rattle.labels.specs.declared.Counts.{Counts}
 use Rattle.board.specs.Machine.{Entry, Call, opens, adds, drops, closes, requests, sessionNumbers, sessionOf, reachOf, objectSet, checks, entry, entryAfter, heldIn, Out}
 use Rattle.board.specs.declared.Session.{Session}
 use Rattle.board.specs.declared.Board.{Board}
@@ -71,6 +72,10 @@ pub record Labels : Type 0 where
   pub buffers : Buffers
   pub nu : ℕ
   pub no : ℕ
+
+abbrev pub labelsOf : Counts → List ℕ → List ℕ → List ℕ → Labels
+labelsOf n users objects table =
+    record { buffers = record { users = users; objects = objects; table = table }; nu = n .users; no = n .objects }
 
 -- "the held set's label ul, the object set's label ol, and the table byte at ul × NO + ol"
 abbrev pub userLabelAt : Labels → ℕ → ℕ

@@ -1,5 +1,24 @@
-// The board of staff sessions.
+// The board of staff sessions: its five calls.
+ghost use mathlib.Core.Path.{_≡_};
+ghost use mathlib.Core.Option.{none};
+ghost use Prim.Native.Nat.{_<_};
+ghost use Rattle.board.specs.Machine.{sessionNumbers, opens, adds, drops, closes, requests};
+ghost use Rattle.board.specs.Board.{Labels, labelsOf, outOf, fresh, boardStep};
+ghost use Rattle.board.specs.Inner.{refusalOf, settled};
+use crate::rulings::Ruling;
+use labels::Counts;
 use policy::refusal::Refusal;
+use policy::value::PolicyValue;
+
+mod asking;
+mod buffers;
+mod entries;
+mod fit;
+mod reach;
+mod rulings;
+
+// Session numbers are 0 to 31.
+const SESSION_NUMBERS: u32 = 32;
 
 // The entry of a session number: while it is live, which document 01 calls open, its user and the set it holds.
 pub struct Session {
@@ -25,4 +44,118 @@ pub enum Answer {
 pub struct Step {
     pub answer: Answer,
     pub board: Board,
+}
+
+// A board that holds no session.
+pub fn fresh() -> Board
+    ensures { λ r. ⌜ r ≡ fresh ⌝ }
+{
+    let none = entries::closed();
+    let sessions = [none; 32];
+    Board { sessions: sessions }
+}
+
+// The step of a call that changes a session: refused, or done with the entry that the session gets.
+fn settle(board: Board, session: u32, ruling: Ruling, entry: Session) -> Step
+    requires { ⌜ (refusalOf ruling ≡ none → session < sessionNumbers) ⌝ }
+    ensures { λ r. ⌜ outOf r ≡ settled board session (refusalOf ruling) entry ⌝ }
+{
+    match ruling {
+        Ruling::Allowed => {
+            let i = session as usize;
+            let mut after = board;
+            after.sessions[i] = entry;
+            Step {
+                answer: Answer::Done,
+                board: after,
+            }
+        }
+        Ruling::Refused(why) => Step {
+            answer: Answer::Refused(why),
+            board: board,
+        },
+    }
+}
+
+// Opens a session of the user that holds the set.
+pub fn open(board: Board, policy: PolicyValue, user: u32, session: u32, set: u32) -> Step
+    ensures { λ r. ⌜ ((l : Labels) → outOf r ≡ boardStep policy l (opens user session set) board) ⌝ }
+{
+    let ruling = rulings::of_open(board, policy, user, session, set);
+    let entry = Session {
+        live: true,
+        user: user,
+        held: set,
+    };
+    settle(board, session, ruling, entry)
+}
+
+// The session's held set gains these values.
+pub fn add(board: Board, policy: PolicyValue, user: u32, session: u32, set: u32) -> Step
+    ensures { λ r. ⌜ ((l : Labels) → outOf r ≡ boardStep policy l (adds user session set) board) ⌝ }
+{
+    let ruling = rulings::of_change(board, policy, user, session, set);
+    let before = entries::at(board, session);
+    let held = sets::union(before.held, set);
+    let entry = Session {
+        live: true,
+        user: before.user,
+        held: held,
+    };
+    settle(board, session, ruling, entry)
+}
+
+// The session's held set loses these values.
+pub fn drop(board: Board, policy: PolicyValue, user: u32, session: u32, set: u32) -> Step
+    ensures { λ r. ⌜ ((l : Labels) → outOf r ≡ boardStep policy l (drops user session set) board) ⌝ }
+{
+    let ruling = rulings::of_change(board, policy, user, session, set);
+    let before = entries::at(board, session);
+    let held = sets::minus(before.held, set);
+    let entry = Session {
+        live: true,
+        user: before.user,
+        held: held,
+    };
+    settle(board, session, ruling, entry)
+}
+
+// Closes the session: its entry goes, and its number may be opened again.
+pub fn close(board: Board, policy: PolicyValue, user: u32, session: u32) -> Step
+    ensures { λ r. ⌜ ((l : Labels) → outOf r ≡ boardStep policy l (closes user session) board) ⌝ }
+{
+    let ruling = rulings::of_close(board, policy, user, session);
+    let gone = entries::closed();
+    settle(board, session, ruling, gone)
+}
+
+// Grants or denies an action on an object by the labels of the held set and the object's set: reads one byte of each lent buffer.
+pub fn request(
+    board: Board,
+    policy: PolicyValue,
+    counts: Counts,
+    users: &[u8],
+    objects: &[u8],
+    table: &[u8],
+    session: u32,
+    action: u32,
+    object: u32,
+) -> Step
+    ensures { λ r. ⌜ outOf r ≡ boardStep policy (labelsOf counts (now (users .entry)) (now (objects .entry)) (now (table .entry))) (requests session action object) board ⌝ }
+{
+    let answer = asking::ask(
+        board,
+        policy,
+        counts,
+        users,
+        objects,
+        table,
+        session,
+        action,
+        object,
+    );
+    Step {
+        answer: answer,
+        board: board,
+    }
 }

@@ -1,3 +1,6 @@
 pub mod Demand1
-pub mod Serving
+pub mod Demand2
+pub mod Demand3
 pub mod Examples
+pub mod OneRequest
+pub mod Serving

@@ -45,7 +45,7 @@ module _ (p : Policy) (b : Buffers) (u o : ℕ) (hu : u < sets (p .user)) (ho : 
       let x : u < length (over (userResult p) (b .users)) = omega (arith, over-long (userResult p) (b .users), length-userResult p) in
       let y : o < length (over (objectResult p) (b .objects)) = omega (arith, over-long (objectResult p) (b .objects), length-objectResult p) in
       let z : placeAt (serving p b) u o < length (over (tableResult p) (b .table)) =
-        rw place-is (omega (arith, over-long (tableResult p) (b .table), place-inside)) in
+      rw place-is (omega (arith, over-long (tableResult p) (b .table), place-inside)) in
       rw (lt-leb _ u x, lt-leb _ o y, lt-leb _ (placeAt (serving p b) u o) z)
 
   pub decides : (a : ℕ) → a < actions (p .form) → grantsByLabels (serving p b) a u o ≡ grants p a u o

@@ -2,21 +2,21 @@
 -- its sessions; tuples and labels are exactly document 01's, labels as few as any labelling that grants alike." One claim.
 use Prim.Native.Nat.{ℕ, _≤_, _<_}
 use mathlib.Core.Path.{_≡_}
-use mathlib.Core.Bool.{Bool, true, false, not}
+use mathlib.Core.Bool.{true, false, not}
 use mathlib.Core.List.{List, [], _∷_}
 use mathlib.Core.Logic.{_↔_}
-use mathlib.Core.Option.{Option, none}
+use mathlib.Core.Option.{none}
 use lib.ListN.{length, getD}
-use Rattle.basis.specs.Choice.{gives, Check, check, lowest}
-use Rattle.basis.specs.Lists.{any, over}
+use Rattle.basis.specs.Choice.{gives, check, lowest}
+use Rattle.basis.specs.Lists.{over}
 use Rattle.policy.specs.Limits.{actions}
 use Rattle.policy.specs.Policy.{Policy, sets}
 use Rattle.policy.specs.Read.{Accepted, readText}
 use Rattle.policy.specs.Value.{valueOf, policyOf}
-use Rattle.policy.specs.Answers.{Reply, granted, denied, refused, decided}
+use Rattle.policy.specs.Answers.{granted, refused, decided}
 use Rattle.policy.specs.declared.value.PolicyValue.{PolicyValue}
 use Rattle.formula.specs.Truth.{grants}
-use Rattle.tuples.specs.Tuples.{stored, tuples, list, listBuffer, decideByTuples}
+use Rattle.tuples.specs.Tuples.{tuples, list, listBuffer, decideByTuples}
 use Rattle.labels.specs.Labelling.{Labelling, userLabels, objectLabels, GrantsAlike}
 use Rattle.labels.specs.Compile.{Buffers, tooShort, NU, NO, userResult, objectResult, tableResult, compile, compileBuffers, compiled}
 use Rattle.board.specs.Machine.{Call, requests, run, machine, checks, heldIn, objectSet, Out}
@@ -84,17 +84,21 @@ Claim = (t : List ℕ) (p : Policy) → readText t ≡ Accepted p → Demand3 t 
 abbrev pub heldAt : Board → ℕ → ℕ
 heldAt b s = heldIn (entryAt b s)
 
+abbrev pub objectAt : PolicyValue → ℕ → ℕ
+objectAt v n = objectSet (policyOf v) n
+
+abbrev pub answered : PolicyValue → Labels → Board → ℕ → ℕ → ℕ → Out Board
+answered v l b s a n = boardStep v l (requests s a n) b
+
 pub record OneRequest (v : PolicyValue) (l : Labels) (b : Board) (s a n : ℕ) : Type 0 where
   -- a request that is not refused is granted exactly when the bit at the labels is set
-  pub by-bit : lowest (check 11 (not (fits v b)) ∷ checks (policyOf v) (requests s a n) (entryAt b s)) ≡ none
-      → pastEnd l (heldAt b s) (objectSet (policyOf v) n) ≡ false
-      → boardStep v l (requests s a n) b .reply ≡ decided (grantsByLabels l a (heldAt b s) (objectSet (policyOf v) n))
-  -- any of the three places past its buffer's end gets 20
+  pub by-bit : ((k : ℕ) → answered v l b s a n .reply ≡ refused k → ⊥)
+      → (answered v l b s a n .reply ≡ granted) ↔ (grantsByLabels l a (heldAt b s) (objectAt v n) ≡ true)
+  -- where no lower refusal applies, it gets 20 exactly when one of the three places lies past its buffer's end
   pub past-end : lowest (check 11 (not (fits v b)) ∷ checks (policyOf v) (requests s a n) (entryAt b s)) ≡ none
-      → pastEnd l (heldAt b s) (objectSet (policyOf v) n) ≡ true
-      → boardStep v l (requests s a n) b .reply ≡ refused 20
+      → (answered v l b s a n .reply ≡ refused 20) ↔ (pastEnd l (heldAt b s) (objectAt v n) ≡ true)
   -- and the board stays
-  pub kept : boardStep v l (requests s a n) b .state ≡ b
+  pub kept : answered v l b s a n .state ≡ b
 
 abbrev pub RequestClaim : Type 0
 RequestClaim = (v : PolicyValue) (l : Labels) (b : Board) (s a n : ℕ) → OneRequest v l b s a n

@@ -2,12 +2,11 @@
 -- laws of object sets are those of user sets with the two sides changed over.
 use Prim.Native.Nat.{ℕ, suc, _+_, _≤_, _<_}
 use mathlib.Core.Path.{_≡_, refl, sym, ap, _∙_}
-use mathlib.Core.Bool.{Bool, true, false}
+use mathlib.Core.Bool.{Bool, true}
 use mathlib.Core.Logic.{_↔_, Iff·trans}
 use native.Mathlib.Omega.{arith}
-use Rattle.basis.specs.Numbers.{agree}
 use Rattle.basis.proofs.Numbers.{every-at, every-of}
-use Rattle.basis.proofs.Same.{agree-eq}
+use Rattle.basis.proofs.Same.{agree-eq, eq-agree}
 use Rattle.labels.specs.Labels.{label, labelCount}
 use Rattle.labels.specs.Labelling.{usersAlike, objectsAlike, Labelling, userLabels, objectLabels, GrantsAlike}
 use Rattle.labels.proofs.Labels.{Equivalence, label-iff, different-least}
@@ -19,15 +18,8 @@ UsersSame g k n u v = (a o : ℕ) → a < k → o < n → g a u o ≡ g a v o
 abbrev pub ObjectsSame : (ℕ → ℕ → ℕ → Bool) → ℕ → ℕ → ℕ → ℕ → Type 0
 ObjectsSame g k m o p = (a u : ℕ) → a < k → u < m → g a u o ≡ g a u p
 
-eq-agree : (a b : Bool) → a ≡ b → agree a b ≡ true
-eq-agree a b q = rw q (self b)
-  where
-    self : (c : Bool) → agree c c ≡ true
-    self true = refl
-    self false = refl
-
 -- what is granted, with the two sides changed over
-abbrev turned : (ℕ → ℕ → ℕ → Bool) → ℕ → ℕ → ℕ → Bool
+abbrev pub turned : (ℕ → ℕ → ℕ → Bool) → ℕ → ℕ → ℕ → Bool
 turned g a o u = g a u o
 
 -- ---- user sets
@@ -64,7 +56,7 @@ module _ (g : ℕ → ℕ → ℕ → Bool) (k n : ℕ) where
 -- ---- object sets
 
 module _ (g : ℕ → ℕ → ℕ → Bool) (k m : ℕ) where
-  objectsAlike-turned : objectsAlike g k m ≡ usersAlike (turned g) k m
+  pub objectsAlike-turned : objectsAlike g k m ≡ usersAlike (turned g) k m
   unfolding objectsAlike usersAlike
   objectsAlike-turned = refl
 

@@ -10,7 +10,7 @@ use lib.Dec.{eqb}
 use borrow.Author.Tests.{eqb-true, eq-eqb, ne-eqb}
 use Rattle.basis.specs.Numbers.{first, count}
 use Rattle.basis.proofs.Bools.{never}
-use Rattle.basis.proofs.Counting.{Least, first-least, first-is, count-strict, count-mono, count-under, count-le, nth}
+use Rattle.basis.proofs.Counting.{Least, first-least, first-is, first-same, count-strict, count-mono, count-under, count-le, nth}
 use Rattle.labels.specs.Labels.{lowestLike, leads, labelCount, label, leader, different}
 
 -- like is an equivalence on the sets below m
@@ -43,11 +43,11 @@ module _ (like : ℕ → ℕ → Bool) where
   unfolding labelCount count lowestLike first
   labelCount-positive m h = count-strict (leads like) 0 m (is-leads 0 refl) h
 
-  labelCount-mono : (a b : ℕ) → a ≤ b → labelCount like a ≤ labelCount like b
+  pub labelCount-mono : (a b : ℕ) → a ≤ b → labelCount like a ≤ labelCount like b
   unfolding labelCount
   labelCount-mono = count-mono (leads like)
 
-  labelCount-strict : (a b : ℕ) → leads like a ≡ true → a < b → labelCount like a < labelCount like b
+  pub labelCount-strict : (a b : ℕ) → leads like a ≡ true → a < b → labelCount like a < labelCount like b
   unfolding labelCount
   labelCount-strict = count-strict (leads like)
 
@@ -62,6 +62,27 @@ labelCount-finer like finer m h =
     let none : ¬ (lowestLike finer u < u) = λ s.
     never (like (lowestLike finer u) u) (h _ u (omega arith) b (f .hit s)) (lowest-least like u .before _ (omega arith)) in
     is-leads finer u (omega (arith, f .within)))
+
+-- tests that agree on the sets below m give them the same labels
+module _ (like other : ℕ → ℕ → Bool) (m : ℕ) (same : (u v : ℕ) → u < m → v < m → like u v ≡ other u v) where
+  pub lowestLike-same : (u : ℕ) → u < m → lowestLike like u ≡ lowestLike other u
+  unfolding lowestLike
+  lowestLike-same u h = first-same _ _ u (λ v l. same v u (omega arith) h)
+
+  pub labelCount-same : (n : ℕ) → n ≤ m → labelCount like n ≡ labelCount other n
+  labelCount-same n h =
+      let a = labelCount-finer like other n (λ u v hu hv e. same u v (omega arith) (omega arith) ∙ e) in
+      let b = labelCount-finer other like n (λ u v hu hv e. sym (same u v (omega arith) (omega arith)) ∙ e) in
+      omega arith
+
+  pub label-same : (u : ℕ) → u < m → label like u ≡ label other u
+  unfolding label
+  label-same u h =
+      labelCount-same (lowestLike like u) (omega (arith, lowest-least like u .within)) ∙ ap (labelCount other) (lowestLike-same u h)
+
+  pub leader-same : (l : ℕ) → leader like m l ≡ leader other m l
+  unfolding leader
+  leader-same l = first-same _ _ m (λ u h. ap (λ (x : ℕ). eqb x l) (label-same u h))
 
 -- so does a numbering that keeps unlike sets apart
 pub different-least : (like : ℕ → ℕ → Bool) (f : ℕ → ℕ) (m : ℕ)
@@ -90,7 +111,7 @@ pub record Leader (like : ℕ → ℕ → Bool) (m l r : ℕ) : Type 0 where
   pub rank : labelCount like r ≡ l
 
 module _ {like : ℕ → ℕ → Bool} {m : ℕ} (E : Equivalence like m) where
-  lowest-below : (u : ℕ) → u < m → lowestLike like u < m
+  pub lowest-below : (u : ℕ) → u < m → lowestLike like u < m
   lowest-below u h = omega (arith, lowest-least like u .within)
 
   pub lowest-like : (u : ℕ) → u < m → like (lowestLike like u) u ≡ true

@@ -1,5 +1,11 @@
 pub mod Labels
 pub mod Labelling
+pub mod Alike
+pub mod Entries
+pub mod Grids
+pub mod Turn
 pub mod Compile
-pub mod Apart
+pub mod Storing
+pub mod Telling
+pub mod Separation
 pub mod Examples

@@ -1,5 +1,6 @@
 -- Compiling: "three byte buffers: 2^U user labels, 2^O object labels, and a table of NU × NO bytes".
 use Prim.Native.Nat.{ℕ, _+_, _*_, _/_, _%_}
+use mathlib.Core.Path.{_≡_}
 use mathlib.Core.Bool.{Bool, not, _||_}
 use mathlib.Core.List.{List, [], _∷_}
 use lib.Dec.{ltb}
@@ -74,6 +75,9 @@ pub record Buffers : Type 0 where
   pub objects : List ℕ
   pub table : List ℕ
 
+abbrev pub lent : List ℕ → List ℕ → List ℕ → Buffers
+lent us os ts = record { users = us; objects = os; table = ts }
+
 -- 20: some buffer is shorter than its result
 abbrev pub tooShort : Policy → Buffers → Bool
 tooShort p b =
@@ -102,3 +106,8 @@ compileBuffers v b =
       table = over (tableResult (policyOf v)) (b .table);
     })
     (λ n. b)
+
+-- what a call answers and leaves in the buffers
+pub record Compiles (v : PolicyValue) (before : Buffers) (r : Compiled) (after : Buffers) : Type 0 where
+  pub answer : stored r ≡ compile v before
+  pub buffers : after ≡ compileBuffers v before

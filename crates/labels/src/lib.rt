@@ -1,6 +1,12 @@
 // Labels: sets that no formula parts share one.
 use policy::refusal::Refusal;
 
+pub mod apart;
+pub mod classify;
+pub mod compiler;
+pub mod grid;
+pub mod rows;
+
 // The label of a user set, and that of an object set: two sorts, so that neither stands where the other is due.
 pub struct UserLabel(pub u8);
 

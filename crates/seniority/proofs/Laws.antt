@@ -133,7 +133,7 @@ module _ (n : ℕ) (p : Direct) (ls : List Direct) (o : Ordered n (p ∷ ls)) wh
 
 -- ---- a set with all juniors, or all seniors, of its values
 
-has-extended : (s a b v : ℕ) → has (extended s a b) v ≡ (has s v || (has s a && eqb v b))
+pub has-extended : (s a b v : ℕ) → has (extended s a b) v ≡ (has s v || (has s a && eqb v b))
 has-extended s a b v = go (has s a)
   where
     go : (h : Bool) → has (cond h (union s (2 ^ b)) s) v ≡ (has s v || (h && eqb v b))
@@ -268,6 +268,11 @@ module _ (n : ℕ) (ls : List Direct) (o : Ordered n ls) where
     heldOrSenior-none v l =
         fails (heldOrSenior ls s v)
         (λ e. ⊎-elim (λ p. never (has s v) p (has-none n s v h l)) (λ t. let b = senior-bounds n ls o (t .2) in omega arith) (heldOrSenior-iff s v .0 e))
+
+    pub heldOrJunior-none : (v : ℕ) → n ≤ v → heldOrJunior ls s v ≡ false
+    heldOrJunior-none v l =
+        fails (heldOrJunior ls s v)
+        (λ e. ⊎-elim (λ p. never (has s v) p (has-none n s v h l)) (λ t. let b = senior-bounds n ls o (t .2) in omega arith) (heldOrJunior-iff s v .0 e))
 
     pub has-reach : (v : ℕ) → has (reach ls n s) v ≡ heldOrSenior ls s v
     unfolding reach

@@ -1,18 +1,18 @@
 -- The laws of sets as numbers: what each operation does value by value, that a set is its members, and which numbers are sets of the first n values.
 use mathlib.Core.Path.{_≡_, refl, sym, ap, ap₂, _∙_}
 use mathlib.Core.Bool.{Bool, true, false, not, cond, _&&_, _||_, and-true, and-false, or-false}
-use mathlib.Core.Logic.{_↔_}
-use Prim.Native.Nat.{ℕ, zero, suc, _+_, _*_, _/_, _%_, _^_, _<_, _≤_, zero-le}
+use mathlib.Core.Logic.{_↔_, ⊎-elim}
+use Prim.Native.Nat.{ℕ, zero, suc, _+_, _-_, _*_, _/_, _%_, _^_, _<_, _≤_, zero-le}
 use native.Mathlib.Nat.{mod-lt, mod-eq-of-lt, div-eq-of-lt, lt-of-lt-of-le, div-add-mod', div-one, pow-suc, mul-mod-left, mul-div-cancel, one-mul}
 use native.Mathlib.Numerals.{one-add, add-one}
 use native.Mathlib.Decide.{ℕ-discrete, decLt}
 use native.Mathlib.Omega.{arith}
 use lib.Arith.{lt-one}
-use lib.Bits.{bitOr, bitAnd, bitXor, or-shr, or-mod, and-shr, and-mod, xor-shr, xor-mod, or-shifted-r, or-zero-r, and-mask}
+use lib.Bits.{bitOr, bitAnd, bitXor, or-shr, or-mod, and-shr, and-mod, xor-shr, xor-mod, or-shifted-r, or-zero-r, and-mask, and-le-r}
 use lib.Dec.{eqb, ltb, lit<, eqb·suc-zero, eqb·zero-suc, eqb·suc-suc}
-use lib.Pow.{pow-mono, pow-pos, shr-shr, shr-lt}
+use lib.Pow.{pow-mono, pow-pos, shr-shr, shr-lt, field, mod-mod-pow, low as lowPart, high as highPart}
 use borrow.Author.Tests.{eqb-true, eq-eqb, ne-eqb, lt-ltb, le-ltb}
-use Rattle.basis.proofs.Bools.{and-right}
+use Rattle.basis.proofs.Bools.{and-left, and-right, or-cases}
 use Rattle.sets.specs.Set.{has, setOf, union, minus, within, mask}
 
 -- ---- value by value
@@ -40,12 +40,15 @@ module _ (op : ℕ → ℕ → ℕ) (f : Bool → Bool → Bool)
 pub has-union : (a b v : ℕ) → has (union a b) v ≡ (has a v || has b v)
 has-union = by-digit bitOr (λ x y. x || y) or-shr or-mod refl refl refl refl
 
-has-meet : (a b v : ℕ) → has (bitAnd a b) v ≡ (has a v && has b v)
+pub has-meet : (a b v : ℕ) → has (bitAnd a b) v ≡ (has a v && has b v)
 has-meet = by-digit bitAnd (λ x y. x && y) and-shr and-mod refl refl refl refl
 
-abbrev differs : Bool → Bool → Bool
+abbrev pub differs : Bool → Bool → Bool
 differs a true = not a
 differs a false = a
+
+pub has-xor : (a b v : ℕ) → has (bitXor a b) v ≡ differs (has a v) (has b v)
+has-xor = by-digit bitXor differs xor-shr xor-mod refl refl refl refl
 
 less : (a b : Bool) → differs a (a && b) ≡ (a && not b)
 less true true = refl
@@ -54,8 +57,7 @@ less false b = refl
 
 pub has-minus : (a b v : ℕ) → has (minus a b) v ≡ (has a v && not (has b v))
 has-minus a b v =
-    by-digit bitXor differs xor-shr xor-mod refl refl refl refl a (bitAnd a b) v
-    ∙ ap (differs (has a v)) (has-meet a b v) ∙ less (has a v) (has b v)
+    has-xor a (bitAnd a b) v ∙ ap (differs (has a v)) (has-meet a b v) ∙ less (has a v) (has b v)
 
 -- nothing at or above a bound
 pub has-none : (n s v : ℕ) → s < 2 ^ n → n ≤ v → has s v ≡ false
@@ -77,9 +79,30 @@ has-one (suc n) (suc v) =
     has-half (2 ^ suc n) v ∙ ap (λ (x : ℕ). has (x / 2) v) (pow-suc 2 n) ∙ ap (λ (x : ℕ). has x v) (mul-div-cancel (2 ^ n) (lit< tt))
     ∙ has-one n v ∙ sym (eqb·suc-suc v n)
 
+-- ---- the lowest n values
+
+pub has-mod : (s n v : ℕ) → v < n → has (s % 2 ^ n) v ≡ has s v
+has-mod s n v h =
+    let e : n ≡ n - suc v + 1 + v = omega arith in
+    ap (λ (x : ℕ). eqb (s % 2 ^ x / 2 ^ v % 2) 1) e
+    ∙ ap (λ (x : ℕ). eqb (x % 2) 1) (field s (n - suc v + 1) v)
+    ∙ ap (λ (x : ℕ). eqb x 1) (mod-mod-pow (s / 2 ^ v) (n - suc v) 1)
+
+-- a number of two parts has the values of its low part below n, and those of its high part from n on
+module _ (high low n v : ℕ) (fits : low < 2 ^ n) where
+  pub has-low : v < n → has (high * 2 ^ n + low) v ≡ has low v
+  has-low h = sym (has-mod (high * 2 ^ n + low) n v h) ∙ ap (λ (x : ℕ). has x v) (lowPart high n fits)
+
+  pub has-high : n ≤ v → has (high * 2 ^ n + low) v ≡ has high (v - n)
+  has-high h =
+      let e : v ≡ n + (v - n) = omega arith in
+      ap (has (high * 2 ^ n + low)) e
+      ∙ ap (λ (x : ℕ). eqb (x % 2) 1) (sym (shr-shr (high * 2 ^ n + low) n (v - n)))
+      ∙ ap (λ (x : ℕ). has x (v - n)) (highPart high n fits)
+
 -- ---- a set is its members
 
-digit-eq : (x y : ℕ) → x < 2 → y < 2 → eqb x 1 ≡ eqb y 1 → x ≡ y
+pub digit-eq : (x y : ℕ) → x < 2 → y < 2 → eqb x 1 ≡ eqb y 1 → x ≡ y
 digit-eq zero zero h k e = refl
 digit-eq zero (suc zero) h k e = cc
 digit-eq zero (suc (suc y)) h k e = omega arith
@@ -123,6 +146,19 @@ within-iff a b = (
   (λ f. eq-eqb (bitAnd a b) a (same-set (bitAnd a b) a (λ v. has-meet a b v ∙ absorbed (has a v) (has b v) (f v)))),
 )
 
+-- what is within a set stays so with more of its values and with fewer, and is no greater a number
+pub within-union : (a b r : ℕ) → within a r ≡ true → within b r ≡ true → within (union a b) r ≡ true
+within-union a b r p q =
+    within-iff (union a b) r .1
+    (λ v h. ⊎-elim (within-iff a r .0 p v) (within-iff b r .0 q v) (or-cases (has a v) (has b v) (sym (has-union a b v) ∙ h)))
+
+pub within-minus : (a b r : ℕ) → within a r ≡ true → within (minus a b) r ≡ true
+within-minus a b r p =
+    within-iff (minus a b) r .1 (λ v h. within-iff a r .0 p v (and-left (has a v) (not (has b v)) (sym (has-minus a b v) ∙ h)))
+
+pub within-le : (a r : ℕ) → within a r ≡ true → a ≤ r
+within-le a r p = omega (arith, and-le-r a r, eqb-true (bitAnd a r) a p)
+
 -- ---- the values below n that pass a test
 
 module _ (n s : ℕ) (h : s < 2 ^ n) where
@@ -161,6 +197,10 @@ has-setOf-none f n v h = has-none n (setOf f n) v (setOf-lt f n) h
 -- a set of the first n values is the set of those that pass f where it has just these
 pub setOf-is : (f : ℕ → Bool) (n s : ℕ) → s < 2 ^ n → ((v : ℕ) → v < n → has s v ≡ f v) → setOf f n ≡ s
 setOf-is f n s h e = same-below n (setOf f n) s (setOf-lt f n) h (λ v l. has-setOf f n v l ∙ sym (e v l))
+
+-- two tests that agree below n have the same set
+pub setOf-same : (f g : ℕ → Bool) (n : ℕ) → ((v : ℕ) → v < n → f v ≡ g v) → setOf f n ≡ setOf g n
+setOf-same f g n h = setOf-is f n (setOf g n) (setOf-lt g n) (λ v l. has-setOf g n v l ∙ sym (h v l))
 
 pub setOf-has : (n s : ℕ) → s < 2 ^ n → setOf (has s) n ≡ s
 setOf-has n s h = setOf-is (has s) n s h (λ v l. refl)

@@ -297,7 +297,7 @@ join-split b (x ∷ t) = join-onto (eqb x b) b x (split b t) refl (split-pos b t
 abbrev pub endedLine : List ℕ → Line
 endedLine l = record { bytes = l; ended = true }
 
-lines-cons : (p : List ℕ) (ps : List (List ℕ)) → 0 < length ps → linesOf (p ∷ ps) ≡ endedLine p ∷ linesOf ps
+pub lines-cons : (p : List ℕ) (ps : List (List ℕ)) → 0 < length ps → linesOf (p ∷ ps) ≡ endedLine p ∷ linesOf ps
 unfolding linesOf
 lines-cons p [] h = absurd (omega arith)
 lines-cons [] (q ∷ ps) h = refl

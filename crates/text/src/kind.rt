@@ -3,7 +3,7 @@ ghost use mathlib.Core.Path.{_≡_};
 ghost use lib.Dec.{eqb};
 ghost use lib.ListN.{drop};
 ghost use Rattle.basis.specs.Lists.{same};
-ghost use Rattle.text.specs.Kind.{kinds, namedIn, named, placeOf, follows};
+ghost use Rattle.text.specs.Kind.{kinds, namedIn, named, placeOf, isKind, follows};
 
 pub enum Kind {
     Policy,
@@ -95,6 +95,12 @@ fn place(k: Kind) -> usize
         Kind::Rule => 7,
         Kind::End => 8,
     }
+}
+
+pub fn same(j: Kind, k: Kind) -> bool
+    ensures { λ r. ⌜ r ≡ isKind j k ⌝ }
+{
+    place(j) == place(k)
 }
 
 // Row by the kind before, column by the kind after.

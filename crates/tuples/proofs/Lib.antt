@@ -1,2 +1,6 @@
 pub mod Tuples
+pub mod Marked
+pub mod Numbering
+pub mod Pairs
+pub mod Answers
 pub mod Examples

@@ -1,1 +1,3 @@
 pub mod Tuples
+pub mod Marks
+pub mod Blocks

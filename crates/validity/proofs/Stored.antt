@@ -2,21 +2,20 @@
 use Prim.Native.Nat.{ℕ, _≤_, _<_}
 use mathlib.Core.Path.{_≡_, refl, sym, _∙_}
 use mathlib.Core.Bool.{Bool, true, false, _&&_, and-false, and-true}
-use mathlib.Core.List.{List, [], _∷_, map, map-map, map-id}
+use mathlib.Core.List.{List, [], map-map, map-id}
 use mathlib.Core.Option.{none}
 use native.Mathlib.Omega.{arith}
 use borrow.Author.Tests.{eq-eqb, ne-eqb, eqb-true, lt-leb, le-leb}
-use lib.Dec.{eqb, leb, ltb}
+use lib.Dec.{eqb}
 use lib.ListN.{length, take, drop, length-map, length-take}
 use lib.Seq.{length-take-le}
-use Rattle.basis.specs.Lists.{all, same, padded}
+use Rattle.basis.specs.Lists.{all, same}
 use Rattle.basis.proofs.Bools.{both-ways}
 use Rattle.basis.proofs.Padded.{same-padded}
 use Rattle.basis.proofs.Same.{same-self}
 use Rattle.seniority.specs.Seniority.{direct}
 use Rattle.seniority.specs.declared.Direct.{Direct}
 use Rattle.words.specs.Word.{written}
-use Rattle.words.specs.declared.Word.{Word}
 use Rattle.words.specs.declared.Word.the-variants.{True, Holds, Compares}
 use Rattle.words.specs.declared.Holding.{Holding}
 use Rattle.words.specs.declared.Holding.the-variants.{User, Object}
@@ -28,10 +27,9 @@ use Rattle.policy.specs.Valid.{sameLine, sameEntry, sameSlot, sameRegister, sam
 use Rattle.policy.specs.declared.value.Entry.{Entry}
 use Rattle.policy.specs.declared.value.Register.{Register}
 use Rattle.policy.specs.declared.value.RuleValue.{RuleValue}
-use Rattle.policy.specs.declared.value.Slot.{Slot}
 use Rattle.policy.proofs.Same.{exact-number, exact-line, exact-entry, exact-slot}
-use Rattle.policy.proofs.Sound.{widthsSound, linesSound, entriesSound}
-use Rattle.validity.specs.Parts.{holds, widthsValid, linesValid, registerValid}
+use Rattle.policy.proofs.Sound.{widthsSound, entriesSound}
+use Rattle.validity.specs.Parts.{holds, widthsValid, registerValid}
 
 -- ---- any list
 
@@ -46,9 +44,7 @@ module _ {A : Type 0} (e : A → A → Bool) (blank : A) (xs : List A) (n m : �
   unfolding holds
   holds-in r h =
       let l : length (take n xs) ≡ n = length-take-le n xs (omega arith) in
-      let s : same e (padded (length xs) blank (take n xs)) xs ≡ (same e (take n xs) (take (length (take n xs)) xs) && all (e blank) (drop (length (take n xs)) xs))
-            = same-padded e blank (take n xs) xs (omega arith) in
-      rw (eq-eqb (length (take n xs)) n l, ← k, s, l, same-self e r (take n xs))
+      rw (eq-eqb (length (take n xs)) n l, ← k, same-padded e blank (take n xs) xs (omega arith), l, same-self e r (take n xs))
 
 -- ---- a blank place
 
@@ -87,15 +83,18 @@ module _ (most : ℕ) (ws : List ℕ) (n : ℕ) (k : length ws ≡ widthPlaces) 
   unfolding widthsValid
   widths-unsound q e = rw (← q, e, and-false, and-false)
 
-  pub widths-stored : 1 ≤ n → n ≤ widthPlaces → {b r : Bool} → b ≡ widthsSound most 0 (take n ws) → b ≡ true → r ≡ all (eqb 0) (drop n ws) → r ≡ widthsValid most ws n
+  pub widths-stored : 1 ≤ n → n ≤ widthPlaces → {b r : Bool} → b ≡ widthsSound most 0 (take n ws) → b ≡ true
+      → r ≡ all (eqb 0) (drop n ws) → r ≡ widthsValid most ws n
   unfolding widthsValid
   widths-stored h g q e t =
       rw (← q, e, le-leb 1 (length (take n ws)) (omega (arith, length-take n ws)), and-true, holds-in eqb 0 ws n widthPlaces k (exact-number .self) g) t
 
-pub lines-stored : (ls : List Direct) (n : ℕ) → length ls ≡ linePlaces → n ≤ linePlaces → holds sameLine linePlaces (direct 0 0) ls n ≡ all (sameLine (direct 0 0)) (drop n ls)
+pub lines-stored : (ls : List Direct) (n : ℕ) → length ls ≡ linePlaces → n ≤ linePlaces
+    → holds sameLine linePlaces (direct 0 0) ls n ≡ all (sameLine (direct 0 0)) (drop n ls)
 lines-stored ls n k h = holds-in sameLine (direct 0 0) ls n linePlaces k (exact-line .self) h
 
-pub entries-stored : (es : List Entry) (n : ℕ) → length es ≡ entryPlaces → n ≤ entryPlaces → holds sameEntry entryPlaces noEntry es n ≡ all (sameEntry noEntry) (drop n es)
+pub entries-stored : (es : List Entry) (n : ℕ) → length es ≡ entryPlaces → n ≤ entryPlaces
+    → holds sameEntry entryPlaces noEntry es n ≡ all (sameEntry noEntry) (drop n es)
 entries-stored es n k h = holds-in sameEntry noEntry es n entryPlaces k (exact-entry .self) h
 
 pub register-is : (most : ℕ) (s : Side) (x : Register)
@@ -123,6 +122,7 @@ module _ (x : RuleValue) where
   unfolding sameRule noRule
   blank-count a h = rw (a, ne-eqb 0 (x .count) (λ q. h (sym q)))
 
-  pub blank-words : length (x .words) ≡ wordPlaces → x .action ≡ 0 → x .count ≡ 0 → {r : Bool} → r ≡ all (sameSlot (slot True)) (x .words) → r ≡ sameRule noRule x
+  pub blank-words : length (x .words) ≡ wordPlaces → x .action ≡ 0 → x .count ≡ 0 → {r : Bool}
+      → r ≡ all (sameSlot (slot True)) (x .words) → r ≡ sameRule noRule x
   unfolding sameRule noRule same
   blank-words k a h q = rw (a, h, ← k, same-padded sameSlot (slot True) [] (x .words) (omega arith)) q

@@ -1,34 +1,34 @@
 -- Check 11 by its parts: a side by its widths and lines, the rules by each rule and what is behind the last, and the value by its sides and lists.
-use Prim.Native.Nat.{ℕ, _^_, _≤_, _<_}
+use Prim.Native.Nat.{ℕ, _≤_, _<_}
 use mathlib.Core.Path.{_≡_, refl, sym, _∙_}
-use mathlib.Core.Bool.{Bool, true, false, _&&_, and-false, and-true, and-comm, and-assoc}
-use mathlib.Core.List.{List, [], _∷_, map, map-map}
+use mathlib.Core.Bool.{Bool, true, false, not, _&&_, and-false}
+use mathlib.Core.List.{List, map, map-map}
 use mathlib.Core.Option.{none}
-use native.Mathlib.Nat.{zero-add}
 use native.Mathlib.Omega.{arith}
-use borrow.Author.Tests.{eq-eqb, ne-eqb, le-leb, leb-true, eqb-true}
+use borrow.Author.Tests.{eq-eqb, ne-eqb, le-leb, eqb-true, not-true, not-false}
 use lib.Dec.{eqb, leb, ltb}
 use lib.ListN.{length, take, drop, length-map, length-take}
 use lib.Seq.{length-take-le}
-use Rattle.basis.specs.Lists.{all, same, padded, sum}
+use Rattle.basis.specs.Lists.{all, sum}
 use Rattle.basis.proofs.Bools.{and-left, and-right}
 use Rattle.basis.proofs.Padded.{same-padded, same-map}
-use Rattle.words.specs.declared.Word.the-variants.{True}
+use Rattle.sets.specs.Set.{masks}
 use Rattle.policy.specs.Limits.{isForm, values, actions, userNumbers, objectNumbers, mostWords}
 use Rattle.policy.specs.Policy.{Side, Policy, total}
 use Rattle.policy.specs.Checks.{wordFits, widthsEqual, balanced}
-use Rattle.policy.specs.Value.{widthPlaces, wordPlaces, rulePlaces, slot, noRule, register, sideOf, sideValue, entriesOf, ruleOf, ruleValue, rulesOf, rulesValue, policyOf, valueOf}
-use Rattle.policy.specs.Valid.{sameSlot, sameSide, sameRegister, sameRule, sameRules, sameValue, valid}
+use Rattle.policy.specs.Value.{widthPlaces, wordPlaces, rulePlaces, noRule, register, sideOf, sideValue, entriesOf, ruleOf, ruleValue, rulesOf, rulesValue, policyOf, valueOf}
+use Rattle.policy.specs.Valid.{sameSide, sameRegister, sameRule, sameRules, sameValue, valid}
 use Rattle.policy.specs.declared.value.SideValue.{SideValue}
 use Rattle.policy.specs.declared.value.RuleValue.{RuleValue}
 use Rattle.policy.specs.declared.value.Rules.{Rules}
 use Rattle.policy.specs.declared.value.PolicyValue.{PolicyValue}
 use Rattle.policy.proofs.Parts.{actionAbove, rules-rising}
 use Rattle.policy.proofs.Valid.{valid-sound}
-use Rattle.policy.proofs.Sound.{widthsSound, linesSound, sideSound, entriesSound, ruleSound, rulesSound, listsSound, sound}
+use Rattle.policy.proofs.Sound.{widthsSound, sideSound, entriesSound, ruleSound, listsSound, sound}
 use Rattle.checks.specs.Sides.{Shaped, wordsIn}
 use Rattle.checks.specs.declared.side.Shape.{Shape}
-use Rattle.validity.specs.Parts.{holds, widthsValid, linesValid, sideValid, registerValid, ruleValid, rulesRising, rulesValid, listsValid}
+use Rattle.checks.proofs.Laws.{measured-places, measured-total}
+use Rattle.validity.specs.Parts.{holds, widthsValid, linesValid, sideValid, SmallShape, registerValid, ShapedBy, ruleValid, rulesRising, rulesValid, SidesValid, listsValid}
 use Rattle.validity.proofs.Rising.{rising-map, rising-all}
 use Rattle.validity.proofs.Widths.{sound-sum}
 
@@ -72,9 +72,9 @@ side-small most x k e =
 
 pub rule-is : (p : Policy) (x : RuleValue) → x .count ≤ wordPlaces
     → ruleSound p (ruleOf x)
-      ≡ (ltb (x .action) (actions (p .form))
-      && (all (wordFits p) (wordsIn (x .words) (x .count))
-      && (all (widthsEqual p) (wordsIn (x .words) (x .count)) && balanced 0 (wordsIn (x .words) (x .count)))))
+    ≡ (ltb (x .action) (actions (p .form))
+    && (all (wordFits p) (wordsIn (x .words) (x .count))
+    && (all (widthsEqual p) (wordsIn (x .words) (x .count)) && balanced 0 (wordsIn (x .words) (x .count)))))
 unfolding ruleSound ruleOf
 rule-is p x h = rw (le-leb (length (wordsIn (x .words) (x .count))) mostWords (rw length-map (omega (arith, length-take (x .count) (x .words)))))
 
@@ -91,31 +91,71 @@ module _ (p : Policy) (x : Rules) (k : length (x .entries) ≡ rulePlaces) where
 
   rules-stored : x .count ≤ rulePlaces
       → sameRules (rulesValue (rulesOf x)) x
-        ≡ (all (λ y. sameRule (ruleValue (ruleOf y)) y) (take (x .count) (x .entries)) && all (sameRule noRule) (drop (x .count) (x .entries)))
+      ≡ (all (λ y. sameRule (ruleValue (ruleOf y)) y) (take (x .count) (x .entries)) && all (sameRule noRule) (drop (x .count) (x .entries)))
   unfolding sameRules rulesValue rulesOf
   rules-stored h =
       let zs = take (x .count) (x .entries) in
       let l : length zs ≡ x .count = length-take-le (x .count) (x .entries) (omega arith) in
       let m : length (map (λ y. ruleValue (ruleOf y)) zs) ≡ x .count = length-map zs (λ y. ruleValue (ruleOf y)) ∙ l in
-      rw (length-map, eq-eqb (length zs) (x .count) l, map-map, ← k,
-        same-padded sameRule noRule (map (λ y. ruleValue (ruleOf y)) zs) (x .entries) (omega arith), m, same-map)
+      rw (
+        length-map,
+        eq-eqb (length zs) (x .count) l,
+        map-map,
+        ← k,
+        same-padded sameRule noRule (map (λ y. ruleValue (ruleOf y)) zs) (x .entries) (omega arith),
+        m,
+        same-map,
+      )
 
   pub rules-in : x .count ≤ rulePlaces
       → rulesValid p x ≡ (all (sameRule noRule) (drop (x .count) (x .entries)) && rulesRising p (take (x .count) (x .entries)))
   unfolding rulesValid rulesOf ruleOf ruleValid
   rules-in h =
-      rw (rules-stored h, rules-order (all (λ y. sameRule (ruleValue (ruleOf y)) y) (take (x .count) (x .entries))), rules-rising p none (map ruleOf (take (x .count) (x .entries))), rising-map (ruleSound p) actionAbove ruleOf none, rising-all)
+      let zs = take (x .count) (x .entries) in
+      rw (
+        rules-stored h,
+        rules-order (all (λ y. sameRule (ruleValue (ruleOf y)) y) zs),
+        rules-rising p none (map ruleOf zs),
+        rising-map (ruleSound p) actionAbove ruleOf none,
+        rising-all,
+      )
 
 -- ---- the value
 
--- a side's own shape
-pub own-shape : (x : SideValue) (r : Shape) → ((s : Side) → s .widths ≡ take (x .attributes) (x .widths) → Shaped r s) → Shaped r (sideOf x)
+-- what `measure` ensures is the shape of the side itself
+pub own-shape : (x : SideValue) (r : Shape) → ((s : Side) → s .widths ≡ take (x .attributes) (x .widths) → Shaped r s)
+    → (x .attributes ≤ widthPlaces) × (sum (take (x .attributes) (x .widths)) < masks) → SmallShape r (sideOf x)
 unfolding sideOf
-own-shape x r f = f (sideOf x) refl
+own-shape x r f h =
+    record {
+      shape = f (sideOf x) refl;
+      places = measured-places r (x .widths) (x .attributes) f widthPlaces (h .0);
+      small = rw (measured-total r (x .widths) (x .attributes) f) (h .1);
+    }
+
+-- the answers about the lists
+module _ (v : PolicyValue) (u : Shape) (x : SmallShape u (sideOf (v .user)))
+    (a : Bool) (f : (s : Side) → u .total ≡ total s → a ≡ registerValid userNumbers s (v .users)) where
+  pub users-not : not a ≡ true → false ≡ listsValid v
+  unfolding listsValid
+  users-not e = rw (← f (sideOf (v .user)) (x .shape .total), not-true a e)
+
+  module _ (e : not a ≡ false) (o : Shape) (y : SmallShape o (sideOf (v .object)))
+      (b : Bool) (g : (s : Side) → o .total ≡ total s → b ≡ registerValid objectNumbers s (v .objects)) where
+    pub objects-not : not b ≡ true → false ≡ listsValid v
+    unfolding listsValid
+    objects-not h = rw (← f (sideOf (v .user)) (x .shape .total), not-false a e, ← g (sideOf (v .object)) (y .shape .total), not-true b h)
+
+    pub rules-left : not b ≡ false → (n : ℕ) (r : Bool) → n ≡ actions (v .form)
+        → ((p : Policy) → ShapedBy n u o p → r ≡ rulesValid p (v .rules)) → r ≡ listsValid v
+    unfolding listsValid policyOf
+    rules-left h n r q t =
+        rw (← f (sideOf (v .user)) (x .shape .total), not-false a e, ← g (sideOf (v .object)) (y .shape .total), not-false b h)
+        (t (policyOf v) (record { actions = q; user = x .shape; object = y .shape }))
 
 value-order : (su so ru ro rr f lu lo ku ko eu eo er : Bool)
     → ((su && (so && (ru && (ro && rr)))) && (f && (lu && (lo && (ku && (ko && (eu && (eo && er))))))))
-      ≡ (f && ((su && (lu && ku)) && ((so && (lo && ko)) && ((ru && eu) && ((ro && eo) && (rr && er))))))
+    ≡ (f && ((su && (lu && ku)) && ((so && (lo && ko)) && ((ru && eu) && ((ro && eo) && (rr && er))))))
 value-order false so ru ro rr f lu lo ku ko eu eo er = simp and-false
 value-order true false ru ro rr f lu lo ku ko eu eo er = simp and-false
 value-order true true false ro rr f lu lo ku ko eu eo er = simp and-false
@@ -127,7 +167,7 @@ value-order true true true true true f true true ku ko eu eo er = refl
 
 value-parts : (v : PolicyValue)
     → (sameValue (valueOf (policyOf v)) v && sound (policyOf v))
-      ≡ (isForm (v .form) && (sideValid (values (v .form)) (v .user) && (sideValid (values (v .form)) (v .object) && listsValid v)))
+    ≡ (isForm (v .form) && (sideValid (values (v .form)) (v .user) && (sideValid (values (v .form)) (v .object) && listsValid v)))
 unfolding sameValue valueOf policyOf sound listsSound sideValid registerValid rulesValid listsValid
 value-parts v =
     rw (eq-eqb (v .form) (v .form) refl)
@@ -146,6 +186,31 @@ value-parts v =
     (entriesSound objectNumbers (sideOf (v .object)) none (entriesOf (v .objects)))
     _)
 
-pub valid-by-parts : (v : PolicyValue)
+valid-parts : (v : PolicyValue)
     → valid v ≡ (isForm (v .form) && (sideValid (values (v .form)) (v .user) && (sideValid (values (v .form)) (v .object) && listsValid v)))
-valid-by-parts v = valid-sound v ∙ value-parts v
+valid-parts v = valid-sound v ∙ value-parts v
+
+-- the answers about the value
+module _ (v : PolicyValue) (a : Bool) (f : a ≡ isForm (v .form)) where
+  pub form-not : not a ≡ true → false ≡ valid v
+  form-not e = sym (valid-parts v ∙ rw (← f, not-true a e))
+
+  module _ (e : not a ≡ false) (m : ℕ) (k : m ≡ values (v .form)) (b : Bool) (g : b ≡ sideValid m (v .user)) where
+    user : b ≡ sideValid (values (v .form)) (v .user)
+    user = rw k at g
+
+    pub user-not : not b ≡ true → false ≡ valid v
+    user-not h = sym (valid-parts v ∙ rw (← f, not-false a e, ← user, not-true b h))
+
+    module _ (h : not b ≡ false) (d : Bool) (t : d ≡ sideValid m (v .object)) where
+      object : d ≡ sideValid (values (v .form)) (v .object)
+      object = rw k at t
+
+      pub object-not : not d ≡ true → false ≡ valid v
+      object-not l = sym (valid-parts v ∙ rw (← f, not-false a e, ← user, not-false b h, ← object, not-true d l))
+
+      pub sides-valid : not d ≡ false → SidesValid v
+      sides-valid l = record { user = sym user ∙ not-false b h; object = sym object ∙ not-false d l }
+
+      pub lists-left : not d ≡ false → (r : Bool) → r ≡ listsValid v → r ≡ valid v
+      lists-left l r q = q ∙ sym (valid-parts v ∙ rw (← f, not-false a e, ← user, not-false b h, ← object, not-false d l))

@@ -1,5 +1,5 @@
 -- The parts of check 11, a test for each list of a policy value: it is what the lists read from it are stored as, and these pass their checks.
-use Prim.Native.Nat.{ℕ}
+use Prim.Native.Nat.{ℕ, _≤_, _<_}
 use mathlib.Core.Path.{_≡_}
 use mathlib.Core.Bool.{Bool, true, _&&_}
 use mathlib.Core.List.{List}
@@ -7,6 +7,7 @@ use mathlib.Core.Option.{none}
 use lib.Dec.{eqb, leb, ltb}
 use lib.ListN.{length, take}
 use Rattle.basis.specs.Lists.{same, padded}
+use Rattle.sets.specs.Set.{masks}
 use Rattle.seniority.specs.Seniority.{direct}
 use Rattle.seniority.specs.declared.Direct.{Direct}
 use Rattle.policy.specs.Limits.{values, actions, userNumbers, objectNumbers}
@@ -37,6 +38,12 @@ linesValid s ls n = holds sameLine linePlaces (direct 0 0) ls n && linesSound s 
 
 unfoldable pub sideValid : ℕ → SideValue → Bool
 sideValid most x = sameSide (sideValue (sideOf x)) x && (leb 1 (length (sideOf x .widths)) && sideSound most (sideOf x))
+
+-- the shape of a valid side: its attributes are in their places, and its sum has a mask
+pub record SmallShape (x : Shape) (s : Side) : Type 0 where
+  pub shape : Shaped x s
+  pub places : x .attributes ≤ widthPlaces
+  pub small : x .total < masks
 
 -- ---- users or objects
 

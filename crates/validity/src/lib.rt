@@ -3,27 +3,23 @@ ghost use mathlib.Core.Path.{_≡_};
 ghost use Rattle.policy.specs.Valid.{valid};
 ghost use Rattle.validity.specs.Parts.{SidesValid, listsValid};
 
-pub mod order;
-pub mod register;
-pub mod rules;
-pub mod side;
+mod order;
+mod register;
+mod rules;
+mod side;
 
 use checks::limits;
 use policy::value::PolicyValue;
 
-// The lists of a policy whose sides are sound.
+// The users, the objects and the rules of a policy value with valid sides.
 fn lists_valid(v: PolicyValue) -> bool
     requires { ⌜ SidesValid v ⌝ }
     ensures { λ r. ⌜ r ≡ listsValid v ⌝ }
 {
     let user = v.user;
-    let n = user.attributes;
-    let widths = user.widths;
-    let u = checks::side::measure(widths, n);
+    let u = side::shape(user);
     let object = v.object;
-    let m = object.attributes;
-    let others = object.widths;
-    let o = checks::side::measure(others, m);
+    let o = side::shape(object);
     let users = v.users;
     if !register::register_valid(limits::USER_NUMBERS, u.total, users) {
         return false;
@@ -36,6 +32,7 @@ fn lists_valid(v: PolicyValue) -> bool
     rules::rules_valid(limits::actions(v.form), u, o, rules)
 }
 
+// Check 11.
 pub fn check(v: PolicyValue) -> bool
     ensures { λ r. ⌜ r ≡ valid v ⌝ }
 {

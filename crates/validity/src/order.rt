@@ -3,7 +3,6 @@ ghost use mathlib.Core.Path.{_≡_};
 ghost use mathlib.Core.Bool.{_||_};
 ghost use lib.Dec.{eqb, ltb};
 ghost use Rattle.policy.specs.Checks.{pairAbove};
-
 use seniority::Direct;
 
 // Check 7 of a user, an object or a rule.

@@ -10,7 +10,6 @@ ghost use Rattle.policy.specs.Value.{entryPlaces, noEntry};
 ghost use Rattle.policy.specs.Valid.{sameEntry};
 ghost use Rattle.policy.proofs.Sound.{entriesSound};
 ghost use Rattle.validity.specs.Parts.{registerValid};
-
 use policy::value::Entry;
 use policy::value::Register;
 
@@ -47,6 +46,7 @@ fn no_entry(e: Entry) -> bool
     false
 }
 
+// Every entry from place n on is blank.
 fn entries_blank(entries: [Entry; 64], n: usize) -> bool
     ensures { λ r. ⌜ r ≡ all (sameEntry noEntry) (drop n entries) ⌝ }
 {

@@ -1,6 +1,5 @@
 // The rules and their words.
 ghost use mathlib.Core.Path.{_≡_};
-ghost use mathlib.Core.Option.{none};
 ghost use Prim.Native.Nat.{_≤_};
 ghost use lib.ListN.{take, drop};
 ghost use Rattle.basis.specs.Lists.{all};
@@ -10,7 +9,6 @@ ghost use Rattle.policy.specs.Value.{widthPlaces, wordPlaces, rulePlaces, slot,
 ghost use Rattle.policy.specs.Valid.{sameSlot, sameRule};
 ghost use Rattle.policy.proofs.Sound.{ruleSound};
 ghost use Rattle.validity.specs.Parts.{ShapedBy, ruleValid, rulesRising, rulesValid};
-
 use checks::side::Shape;
 use policy::value::RuleValue;
 use policy::value::Rules;
@@ -19,8 +17,10 @@ use words::Word;
 
 // The places of the arrays.
 const WORDS: usize = 32;
+
 const RULES: usize = 8;
 
+// A blank place holds the word `t`.
 fn no_word(w: Word) -> bool
     ensures { λ r. ⌜ r ≡ sameSlot (slot word.True) (slot w) ⌝ }
 {
@@ -35,6 +35,7 @@ fn no_word(w: Word) -> bool
     }
 }
 
+// Every word from place n on is blank.
 fn words_blank(slots: [Slot; 32], n: usize) -> bool
     ensures { λ r. ⌜ r ≡ all (sameSlot (slot word.True)) (drop n slots) ⌝ }
 {
@@ -50,7 +51,7 @@ fn words_blank(slots: [Slot; 32], n: usize) -> bool
     true
 }
 
-// A rule's checks but that it rises.
+// A rule's checks, but that it rises.
 fn rule_sound(actions: u32, user: Shape, object: Shape, x: RuleValue) -> bool
     requires { ⌜ (x .count ≤ wordPlaces) × (user .attributes ≤ widthPlaces) × (object .attributes ≤ widthPlaces) ⌝ }
     ensures { λ r. ⌜ ((p : Policy) → ShapedBy actions user object p → r ≡ ruleSound p (ruleOf x)) ⌝ }
@@ -119,6 +120,7 @@ fn no_rule(x: RuleValue) -> bool
     words_blank(slots, 0)
 }
 
+// Every rule from place n on is blank.
 fn rules_blank(rules: [RuleValue; 8], n: usize) -> bool
     ensures { λ r. ⌜ r ≡ all (sameRule noRule) (drop n rules) ⌝ }
 {

@@ -1,25 +1,25 @@
 // The lists of a side: its widths and its direct seniorities.
 ghost use mathlib.Core.Path.{_≡_};
-ghost use mathlib.Core.Bool.{_&&_};
 ghost use mathlib.Core.Option.{none};
-ghost use Prim.Native.Nat.{_≤_};
-ghost use lib.Dec.{eqb, leb};
-ghost use lib.ListN.{take, drop, length};
-ghost use Rattle.basis.specs.Lists.{all};
+ghost use Prim.Native.Nat.{_≤_, _<_};
+ghost use lib.Dec.{eqb};
+ghost use lib.ListN.{take, drop};
+ghost use Rattle.basis.specs.Lists.{all, sum};
+ghost use Rattle.sets.specs.Set.{masks};
 ghost use Rattle.seniority.specs.Seniority.{direct};
 ghost use Rattle.policy.specs.Policy as policy;
-ghost use Rattle.policy.specs.Value.{widthPlaces, linePlaces};
+ghost use Rattle.policy.specs.Value.{widthPlaces, linePlaces, sideOf};
 ghost use Rattle.policy.specs.Valid.{sameLine};
 ghost use Rattle.policy.proofs.Sound.{widthsSound, linesSound};
 ghost use Rattle.checks.specs.Sides.{Shaped};
-ghost use Rattle.validity.specs.Parts.{widthsValid, linesValid, sideValid};
-
+ghost use Rattle.validity.specs.Parts.{widthsValid, linesValid, sideValid, SmallShape};
 use checks::side::Shape;
 use policy::value::SideValue;
 use seniority::Direct;
 
 // The places of the arrays.
 const WIDTHS: usize = 7;
+
 const LINES: usize = 21;
 
 // The first n widths pass their check one after the other.
@@ -40,6 +40,7 @@ fn widths_sound(most: u32, widths: [u32; 7], n: usize) -> bool
     true
 }
 
+// Every width from place n on is 0.
 fn widths_blank(widths: [u32; 7], n: usize) -> bool
     ensures { λ r. ⌜ r ≡ all (eqb 0) (drop n widths) ⌝ }
 {
@@ -75,7 +76,10 @@ fn lines_sound(side: Shape, lines: [Direct; 21], n: usize) -> bool
     requires { ⌜ (n ≤ linePlaces) × (side .attributes ≤ widthPlaces) ⌝ }
     ensures { λ r. ⌜ ((s : policy.Side) → Shaped side s → r ≡ linesSound s none (take n lines)) ⌝ }
 {
-    let mut last = Direct { senior: 0, junior: 0 };
+    let mut last = Direct {
+        senior: 0,
+        junior: 0,
+    };
     let mut i = 0;
     while i < n {
         let l = lines[i];
@@ -100,6 +104,7 @@ fn no_line(l: Direct) -> bool
     false
 }
 
+// Every line from place n on is blank.
 fn lines_blank(lines: [Direct; 21], n: usize) -> bool
     ensures { λ r. ⌜ r ≡ all (sameLine (direct 0 0)) (drop n lines) ⌝ }
 {
@@ -132,13 +137,20 @@ fn lines_valid(side: Shape, lines: [Direct; 21], n: usize) -> bool
 pub fn side_valid(most: u32, x: SideValue) -> bool
     ensures { λ r. ⌜ r ≡ sideValid most x ⌝ }
 {
-    let n = x.attributes;
     let widths = x.widths;
-    if !widths_valid(most, widths, n) {
+    if !widths_valid(most, widths, x.attributes) {
         return false;
     }
-    let shape = checks::side::measure(widths, n);
-    let m = x.lines;
+    let shape = checks::side::measure(widths, x.attributes);
     let lines = x.seniority;
-    lines_valid(shape, lines, m)
+    lines_valid(shape, lines, x.lines)
+}
+
+// The shape of a valid side.
+pub fn shape(x: SideValue) -> Shape
+    requires { ⌜ (x .attributes ≤ widthPlaces) × (sum (take (x .attributes) (x .widths)) < masks) ⌝ }
+    ensures { λ r. ⌜ SmallShape r (sideOf x) ⌝ }
+{
+    let widths = x.widths;
+    checks::side::measure(widths, x.attributes)
 }

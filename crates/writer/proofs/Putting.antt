@@ -60,7 +60,7 @@ module _ {s t b m : List ℕ} {r : ℕ} (x : Next s t b m r) where
         let z : length (drop r m) ≤ length m - r = omega (arith, length-drop r m) in
         let e : ys ≡ t ++ drop (length s + length t) b = y .bytes ∙ rw (take-all (length m - r) (drop r m) z, left, drop-drop) in
         let k : putMid r (length m - r) m ys ≡ (s ++ t) ++ drop (length (s ++ t)) b =
-            rw (drop-of-length-le (drop r m) z, append-nil, put-taken (x .put), e, length-append) (sym (append-assoc s t (drop (length s + length t) b))) in
+        rw (drop-of-length-le (drop r m) z, append-nil, put-taken (x .put), e, length-append) (sym (append-assoc s t (drop (length s + length t) b))) in
         record {
           bytes = k;
           count = omega (arith, x .put .count, y .count, length-append s t);
@@ -74,8 +74,8 @@ next-byte {s} {b} {m} {r} {c} x =
     let h : length s < length b = omega (arith, x .room .fits, length-append s (c ∷ [])) in
     record {
       bytes =
-        rw (x .put .bytes, drop-cons b (length s) 0 h, set-at s (getD b (length s) 0) (drop (suc (length s)) b) c r (sym (x .put .count)), length-append, add-one (length s))
-        (sym (append-snoc s c (drop (suc (length s)) b)));
+          rw (x .put .bytes, drop-cons b (length s) 0 h, set-at s (getD b (length s) 0) (drop (suc (length s)) b) c r (sym (x .put .count)), length-append, add-one (length s))
+          (sym (append-snoc s c (drop (suc (length s)) b)));
       count = omega (arith, x .put .count, length-append s (c ∷ []));
       long = length-set m r c ∙ x .put .long;
     }
@@ -148,7 +148,7 @@ module _ {A : Type 0} {f : A → List ℕ} {xs : List A} {n : ℕ} {b : List ℕ
       run-next =
           let l : length (take n xs) ≡ n = length-take-le n xs (x .places) in
           let e : each f (take n xs) ≡ (each f (take i xs) ++ f (getD xs i d)) ++ each f (drop (suc i) (take n xs)) =
-              ap (each f) (split-at (take n xs) i d (omega arith)) ∙ rw (take-take i n xs (omega arith), getD-take n xs i d h, each-append) (sym (append-assoc (each f (take i xs)) (f (getD xs i d)) (each f (drop (suc i) (take n xs))))) in
+          ap (each f) (split-at (take n xs) i d (omega arith)) ∙ rw (take-take i n xs (omega arith), getD-take n xs i d h, each-append) (sym (append-assoc (each f (take i xs)) (f (getD xs i d)) (each f (drop (suc i) (take n xs))))) in
           record { put = x .put; room = shorter (each f (take i xs) ++ f (getD xs i d)) (each f (drop (suc i) (take n xs))) (rw e at (x .room)) }
 
       pub run-put : {ys : List ℕ} {q : ℕ} → Put (f (getD xs i d)) (take (length m - at) (drop at m)) ys q → Run f xs n b (i + 1) (putMid at (length m - at) m ys) (at + q)

@@ -41,8 +41,8 @@ module _ (p : Policy) (t : Parts p) where
       record {
         entries = h;
         words =
-          rw (take-padded-map ruleValue rulePlaces noRule (p .rules), all-map ruleWritable ruleValue (p .rules))
-          (all-of (λ r. ruleWritable (ruleValue r)) (p .rules) (λ r m. rule-writable r (rule-bounds p (p .rules) (t .rules) r m)));
+            rw (take-padded-map ruleValue rulePlaces noRule (p .rules), all-map ruleWritable ruleValue (p .rules))
+            (all-of (λ r. ruleWritable (ruleValue r)) (p .rules) (λ r m. rule-writable r (rule-bounds p (p .rules) (t .rules) r m)));
       }
 
   value-writable : Writable (valueOf p)

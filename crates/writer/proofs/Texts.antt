@@ -80,8 +80,8 @@ valueText v =
 pub text-is : (v : PolicyValue) → textOf (policyOf v) ≡ valueText v
 unfolding textOf linesOf policyOf sideOf entriesOf rulesOf laterFields
 text-is v =
-    rw
-    (said-next,
+    rw (
+      said-next,
       one PolicyKind (v .form) refl,
       said-list (λ w. plain Uattr w 0) (oneLine (bytes "uattr")) (λ w. one Uattr w refl),
       said-list (λ w. plain Oattr w 0) (oneLine (bytes "oattr")) (λ w. one Oattr w refl),
@@ -90,5 +90,6 @@ text-is v =
       said-list (λ (e : Entry). plain User (e .number) (e .set)) (entryLine (bytes "user")) (λ e. two User (e .number) (e .set) refl),
       said-list (λ (e : Entry). plain Object (e .number) (e .set)) (entryLine (bytes "object")) (λ e. two Object (e .number) (e .set) refl),
       said-rules,
-      said-end)
+      said-end,
+    )
     (simp append-assoc)

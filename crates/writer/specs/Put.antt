@@ -39,8 +39,8 @@ fiveDigits n =
 
 -- a word's bytes
 pub record Spelt (t : List ℕ) (s : Spelling) : Type 0 where
-  pub most : s .count ≤ length (s .bytes)
-  pub bytes : take (s .count) (s .bytes) ≡ t
+  pub most : s .1 ≤ length (s .0)
+  pub bytes : take (s .1) (s .0) ≡ t
 
 -- the texts of some things, one after the other
 unfoldable pub each : {A : Type 0} → (A → List ℕ) → List A → List ℕ

@@ -2,7 +2,6 @@
 ghost use mathlib.Core.Path.{_≡_};
 ghost use Rattle.policy.specs.Write as spec;
 ghost use Rattle.writer.specs.Answer.{answerOf};
-
 use policy::refusal::Refusal;
 use policy::value::PolicyValue;
 

@@ -7,7 +7,6 @@ ghost use lib.ListN.{take};
 ghost use Rattle.text.specs.Number.{decimal};
 ghost use Rattle.policy.specs.Value.{wordPlaces};
 ghost use Rattle.writer.specs.Put.{Room, Put, field, allInDigits, wordFields, oneLine, twoLine, wordsLine};
-
 use crate::bytes;
 use crate::number;
 use crate::word;

@@ -6,7 +6,6 @@ ghost use lib.ListN.{take};
 ghost use Rattle.basis.specs.Lists.{all};
 ghost use Rattle.policy.specs.Value.{widthPlaces, linePlaces, entryPlaces, rulePlaces};
 ghost use Rattle.writer.specs.Put.{Room, Put, each, oneLine, pairLine, entryLine, ruleLine, ruleWritable};
-
 use crate::line;
 use policy::value::Entry;
 use policy::value::RuleValue;

@@ -5,7 +5,6 @@ ghost use lib.ListN.{drop};
 ghost use Rattle.basis.specs.Bytes.{byte};
 ghost use Rattle.text.specs.Number.{decimal};
 ghost use Rattle.writer.specs.Put.{Room, Put, field, fiveDigits};
-
 use crate::bytes;
 
 // The byte of the last digit of n.

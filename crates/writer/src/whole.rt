@@ -7,7 +7,6 @@ ghost use Rattle.policy.specs.Text.{textOf};
 ghost use Rattle.policy.specs.Value.{policyOf};
 ghost use Rattle.writer.specs.Put.{Room, Put};
 ghost use Rattle.writer.specs.Whole.{SideWithin, RegisterWithin, RulesWithin, Writable, widthsText, seniorityText, registeredText, rulesText};
-
 use crate::bytes;
 use crate::line;
 use crate::lines;

@@ -4,36 +4,32 @@ ghost use mathlib.Core.Bool.{true};
 ghost use Rattle.words.specs.Word.{written};
 ghost use Rattle.words.proofs.RoundTrip.{inDigits};
 ghost use Rattle.writer.specs.Put.{Room, Put, field, Spelt};
-
 use crate::bytes;
 use words::Comparison;
 use words::Holding;
 use words::Word;
 
-// A word's bytes: the first `count`.
-struct Spelling {
-    bytes: [u8; 3],
-    count: usize,
-}
+// A word's bytes, and how many they are.
+struct Spelling([u8; 3], usize);
 
 fn spell(w: Word) -> Spelling
     requires { ⌜ inDigits w ≡ true ⌝ }
     ensures { λ r. ⌜ Spelt (written w) r ⌝ }
 {
     match w {
-        Word::True => Spelling { bytes: [b't', 0, 0], count: 1 },
-        Word::False => Spelling { bytes: [b'f', 0, 0], count: 1 },
+        Word::True => Spelling([b't', 0, 0], 1),
+        Word::False => Spelling([b'f', 0, 0], 1),
         Word::Holds(h) => match h {
-            Holding::User(v) => Spelling { bytes: [b'u', b'0' + v, 0], count: 2 },
-            Holding::Object(v) => Spelling { bytes: [b'o', b'0' + v, 0], count: 2 },
+            Holding::User(v) => Spelling([b'u', b'0' + v, 0], 2),
+            Holding::Object(v) => Spelling([b'o', b'0' + v, 0], 2),
         },
         Word::Compares(c) => match c {
-            Comparison::Dominates(i, j) => Spelling { bytes: [b'd', b'0' + i, b'0' + j], count: 3 },
-            Comparison::Equals(i, j) => Spelling { bytes: [b'q', b'0' + i, b'0' + j], count: 3 },
+            Comparison::Dominates(i, j) => Spelling([b'd', b'0' + i, b'0' + j], 3),
+            Comparison::Equals(i, j) => Spelling([b'q', b'0' + i, b'0' + j], 3),
         },
-        Word::Not => Spelling { bytes: [b'n', 0, 0], count: 1 },
-        Word::And => Spelling { bytes: [b'a', 0, 0], count: 1 },
-        Word::Or => Spelling { bytes: [b'r', 0, 0], count: 1 },
+        Word::Not => Spelling([b'n', 0, 0], 1),
+        Word::And => Spelling([b'a', 0, 0], 1),
+        Word::Or => Spelling([b'r', 0, 0], 1),
     }
 }
 
@@ -43,7 +39,7 @@ pub fn put(w: Word, buf: &mut [u8]) -> usize
     ensures { λ r. ⌜ Put (field (written w)) (now (buf .entry)) (now (buf .exit)) r ⌝ }
 {
     let s = spell(w);
-    let bytes = s.bytes;
-    let n = s.count;
-    bytes::put_field(&bytes[..n], buf)
+    let spelt = s.0;
+    let n = s.1;
+    bytes::put_field(&spelt[..n], buf)
 }

@@ -1,8 +1,8 @@
 -- `checks::formula::all_equal` meets its contract: the words before place i pass.
 use Prim.Native.Nat.{_-_}
+use borrow.Author.Needs.{needs}
 use Rattle.policy.specs.Checks.{widthsEqual}
 use Rattle.checks.proofs.Words.{Passed, passed-none, passed-all, passed-more, passed-not}
-use borrow.Author.Needs.{needs}
 use Rattle.checks.proofs.formula.all_equal.Statement.{statement}
 use Rattle.checks.proofs.formula.all_equal.Tie as tie
 

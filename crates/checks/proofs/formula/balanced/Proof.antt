@@ -1,7 +1,7 @@
 -- `checks::formula::balanced` meets its contract: the words before place i leave `depth` truth values.
 use Prim.Native.Nat.{_-_}
-use Rattle.checks.proofs.Words.{Leaves, leaves-none, leaves-one, leaves-more, leaves-few}
 use borrow.Author.Needs.{needs}
+use Rattle.checks.proofs.Words.{Leaves, leaves-none, leaves-one, leaves-more, leaves-few}
 use Rattle.checks.proofs.formula.balanced.Statement.{statement}
 use Rattle.checks.proofs.formula.balanced.Tie as tie
 

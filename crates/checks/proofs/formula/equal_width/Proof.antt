@@ -1,6 +1,6 @@
 -- `checks::formula::equal_width` meets its contract: both widths are those of the sides.
-use Rattle.checks.proofs.Words.{both-widths}
 use borrow.Author.Needs.{needs}
+use Rattle.checks.proofs.Words.{both-widths}
 use Rattle.checks.proofs.formula.equal_width.Statement.{statement}
 use Rattle.checks.proofs.formula.equal_width.Tie as tie
 

@@ -1,6 +1,6 @@
 -- `checks::formula::width` meets its contract: attribute i is among the side's, or its width is 0.
-use Rattle.checks.proofs.Words.{width-there, width-none}
 use borrow.Author.Needs.{needs}
+use Rattle.checks.proofs.Words.{width-there, width-none}
 use Rattle.checks.proofs.formula.width.Statement.{statement}
 use Rattle.checks.proofs.formula.width.Tie as tie
 

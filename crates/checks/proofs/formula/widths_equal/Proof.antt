@@ -1,6 +1,6 @@
 -- `checks::formula::widths_equal` meets its contract: by the word, and by the comparison.
-use Rattle.checks.proofs.Words.{equal-dominates, equal-equals}
 use borrow.Author.Needs.{needs}
+use Rattle.checks.proofs.Words.{equal-dominates, equal-equals}
 use Rattle.checks.proofs.formula.widths_equal.Statement.{statement}
 use Rattle.checks.proofs.formula.widths_equal.Tie as tie
 

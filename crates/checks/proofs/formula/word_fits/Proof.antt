@@ -1,6 +1,6 @@
 -- `checks::formula::word_fits` meets its contract: by the word, and by what it names.
-use Rattle.checks.proofs.Words.{fits-user, fits-object, fits-dominates, fits-equals}
 use borrow.Author.Needs.{needs}
+use Rattle.checks.proofs.Words.{fits-user, fits-object, fits-dominates, fits-equals}
 use Rattle.checks.proofs.formula.word_fits.Statement.{statement}
 use Rattle.checks.proofs.formula.word_fits.Tie as tie
 

@@ -3,15 +3,16 @@ use Prim.Native.Nat.{suc, _+_, _-_, _≤_}
 use mathlib.Core.Path.{_≡_, _∙_}
 use native.Mathlib.Omega.{arith}
 use borrow.Author.Tests.{lt-ltb, le-ltb}
+use borrow.Author.Needs.{needs}
 use lib.ListN.{getD, take, drop}
 use Rattle.policy.specs.Policy.{attributeOf}
 use Rattle.checks.proofs.Laws.{attribute-next, attribute-end}
-use borrow.Author.Needs.{needs}
 use Rattle.checks.proofs.side.attribute_of.Statement.{statement}
 use Rattle.checks.proofs.side.attribute_of.Tie as tie
 
 abbrev Inv-loop : tie.InvT-loop
-Inv-loop attributes v widths left₀ i₀ left i = (i ≤ attributes) × (attributeOf (take attributes widths) v ≡ i + attributeOf (drop i (take attributes widths)) left)
+Inv-loop attributes v widths left₀ i₀ left i =
+    (i ≤ attributes) × (attributeOf (take attributes widths) v ≡ i + attributeOf (drop i (take attributes widths)) left)
 
 abbrev μ-loop : tie.MeasureT-loop
 μ-loop attributes v widths left₀ i₀ left i = attributes - i

@@ -1,6 +1,6 @@
 -- `checks::side::entry_fits` meets its contract: a set is below 2^U where it is at most the mask of U values.
-use Rattle.checks.proofs.Laws.{entry-set, entry-out}
 use borrow.Author.Needs.{needs}
+use Rattle.checks.proofs.Laws.{entry-set, entry-out}
 use Rattle.checks.proofs.side.entry_fits.Statement.{statement}
 use Rattle.checks.proofs.side.entry_fits.Tie as tie
 

@@ -1,6 +1,6 @@
 -- `checks::side::measure` meets its contract: the widths are the side's, and so is their sum.
-use Rattle.checks.proofs.Laws.{measured}
 use borrow.Author.Needs.{needs}
+use Rattle.checks.proofs.Laws.{measured}
 use Rattle.checks.proofs.side.measure.Statement.{statement}
 use Rattle.checks.proofs.side.measure.Tie as tie
 

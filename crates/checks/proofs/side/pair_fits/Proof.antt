@@ -1,6 +1,6 @@
 -- `checks::side::pair_fits` meets its contract: V is there, J below it, and so there, and both are in one attribute.
-use Rattle.checks.proofs.Laws.{pair-attributes, pair-level, pair-out}
 use borrow.Author.Needs.{needs}
+use Rattle.checks.proofs.Laws.{pair-attributes, pair-level, pair-out}
 use Rattle.checks.proofs.side.pair_fits.Statement.{statement}
 use Rattle.checks.proofs.side.pair_fits.Tie as tie
 

@@ -5,7 +5,7 @@ use Rattle.validity.proofs.order.pair_rises.Statement.{statement}
 use Rattle.validity.proofs.order.pair_rises.Tie as tie
 
 returns : tie.Need-returns
-returns c = search (eq-eqb, ne-eqb)
+returns c = search eq-eqb
 
 pair-above-requires : tie.Need-pair-above-requires
 pair-above-requires c κs = search needs

@@ -1,10 +1,10 @@
 -- `validity::register::entries_blank` meets its contract: the entries from place n to i are blank.
 use Prim.Native.Nat.{_-_}
 use borrow.Author.Tests.{not-true, not-false}
+use borrow.Author.Needs.{needs}
 use Rattle.policy.specs.Value.{noEntry}
 use Rattle.policy.specs.Valid.{sameEntry}
 use Rattle.validity.proofs.Blank.{BlankTo, blank-none, blank-all, blank-more, blank-not}
-use borrow.Author.Needs.{needs}
 use Rattle.validity.proofs.register.entries_blank.Statement.{statement}
 use Rattle.validity.proofs.register.entries_blank.Tie as tie
 

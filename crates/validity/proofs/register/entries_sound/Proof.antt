@@ -1,22 +1,24 @@
 -- `validity::register::entries_sound` meets its contract: the entries before place i pass and rise.
 use Prim.Native.Nat.{_-_}
-use borrow.Author.Tests.{not-true, not-false}
 use mathlib.Core.Path.{_≡_}
 use mathlib.Core.Option.{none}
+use borrow.Author.Tests.{not-true, not-false}
+use borrow.Author.Needs.{needs}
 use lib.Dec.{ltb}
 use lib.ListN.{take}
 use Rattle.policy.specs.Policy as policy
 use Rattle.policy.specs.Value.{noEntry}
 use Rattle.policy.specs.declared.value.Entry.{Entry}
 use Rattle.policy.proofs.Sound.{entriesSound}
-use Rattle.validity.proofs.Rising.{Risen, risen-none, risen-all, risen-unfit, risen-falls, risen-more}
 use Rattle.policy.proofs.Parts.{numberFits, entries-rising}
-use borrow.Author.Needs.{needs}
+use Rattle.validity.proofs.Rising.{Risen, risen-none, risen-all, risen-unfit, risen-falls, risen-more}
 use Rattle.validity.proofs.register.entries_sound.Statement.{statement}
 use Rattle.validity.proofs.register.entries_sound.Tie as tie
 
 abbrev Inv-loop : tie.InvT-loop
-Inv-loop most total n entries last₀ i₀ last i = Risen (λ s. total ≡ policy.total s) (λ s. entriesSound most s none (take n entries)) (numberFits most) (λ (e : Entry). e .number) (λ k (e : Entry). ltb k (e .number)) entries n i last
+Inv-loop most total n entries last₀ i₀ last i =
+    Risen (λ s. total ≡ policy.total s) (λ s. entriesSound most s none (take n entries)) (numberFits most)
+    (λ (e : Entry). e .number) (λ k (e : Entry). ltb k (e .number)) entries n i last
 
 abbrev μ-loop : tie.MeasureT-loop
 μ-loop most total n entries last₀ i₀ last i = n - i
@@ -40,7 +42,7 @@ number-rises-requires : tie.Need-number-rises-requires Inv-loop μ-loop
 number-rises-requires c κs = search needs
 
 returns-2 : tie.Need-returns-2 Inv-loop μ-loop
-returns-2 c = 
+returns-2 c =
     risen-falls (c .before .before .before .before .before .before .loop .inv) noEntry (search needs) (search needs)
     (c .before .before .before .entry-fits .ensures) (not-false _ (c .before .before .if1 .left)) (c .before .number-rises .ensures) (not-true _ (c .if2 .taken))
 
@@ -51,7 +53,7 @@ loop-less : tie.Need-loop-less Inv-loop μ-loop
 loop-less c = search needs
 
 loop-again : tie.Need-loop-again Inv-loop μ-loop
-loop-again c = 
+loop-again c =
     risen-more (c .before .before .before .before .before .before .loop .inv) noEntry (search needs) (search needs)
     (c .before .before .before .entry-fits .ensures) (not-false _ (c .before .before .if1 .left)) (c .before .number-rises .ensures) (not-false _ (c .if2 .left))
 

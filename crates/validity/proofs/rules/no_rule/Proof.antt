@@ -1,7 +1,7 @@
 -- `validity::rules::no_rule` meets its contract: its numbers are 0 and its words blank.
+use borrow.Author.Needs.{needs}
 use Rattle.basis.proofs.Lists.{long}
 use Rattle.validity.proofs.Stored.{blank-action, blank-count, blank-words}
-use borrow.Author.Needs.{needs}
 use Rattle.validity.proofs.rules.no_rule.Statement.{statement}
 use Rattle.validity.proofs.rules.no_rule.Tie as tie
 

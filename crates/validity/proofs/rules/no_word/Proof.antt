@@ -1,8 +1,8 @@
 -- `validity::rules::no_word` meets its contract: by the word.
+use borrow.Author.Needs.{needs}
 use Rattle.basis.specs.Lists.{same}
 use Rattle.words.specs.Word.{written}
 use Rattle.validity.proofs.Stored.{no-holding, no-comparison}
-use borrow.Author.Needs.{needs}
 use Rattle.validity.proofs.rules.no_word.Statement.{statement}
 use Rattle.validity.proofs.rules.no_word.Tie as tie
 

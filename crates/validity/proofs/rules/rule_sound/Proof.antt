@@ -1,8 +1,8 @@
 -- `validity::rules::rule_sound` meets its contract: its checks in turn.
 use native.Mathlib.Omega.{arith}
 use borrow.Author.Tests.{not-true, not-false, lt-ltb, le-ltb}
-use Rattle.validity.proofs.Whole.{rule-is}
 use borrow.Author.Needs.{needs}
+use Rattle.validity.proofs.Whole.{rule-is}
 use Rattle.validity.proofs.rules.rule_sound.Statement.{statement}
 use Rattle.validity.proofs.rules.rule_sound.Tie as tie
 
@@ -28,8 +28,14 @@ returns-3 c = λ p q.
     let x = c .before .before .before .before .before .before .before .args .x in
     let f = c .before .before .before .all-fit in
     let e = c .before .all-equal in
-    rw (rule-is p x (search needs), lt-ltb (x .action) 8 (omega arith), ← f .ensures p (q .user) (q .object), not-false (f .result) (c .before .before .if2 .left),
-      ← e .ensures p (q .user) (q .object), not-true (e .result) (c .if3 .taken))
+    rw (
+      rule-is p x (search needs),
+      lt-ltb (x .action) 8 (omega arith),
+      ← f .ensures p (q .user) (q .object),
+      not-false (f .result) (c .before .before .if2 .left),
+      ← e .ensures p (q .user) (q .object),
+      not-true (e .result) (c .if3 .taken),
+    )
 
 balanced-requires : tie.Need-balanced-requires
 balanced-requires c κs = search needs
@@ -39,8 +45,14 @@ returns-4 c = λ p q.
     let x = c .before .before .before .before .before .before .before .before .args .x in
     let f = c .before .before .before .before .all-fit in
     let e = c .before .before .all-equal in
-    rw (rule-is p x (search needs), lt-ltb (x .action) 8 (omega arith), ← f .ensures p (q .user) (q .object), not-false (f .result) (c .before .before .before .if2 .left),
-      ← e .ensures p (q .user) (q .object), not-false (e .result) (c .before .if3 .left))
+    rw (
+      rule-is p x (search needs),
+      lt-ltb (x .action) 8 (omega arith),
+      ← f .ensures p (q .user) (q .object),
+      not-false (f .result) (c .before .before .before .if2 .left),
+      ← e .ensures p (q .user) (q .object),
+      not-false (e .result) (c .before .if3 .left),
+    )
     (c .balanced .ensures)
 
 pub rule-sound-spec : {M : Type 1} → statement M

@@ -1,10 +1,10 @@
 -- `validity::rules::rule_valid` meets its contract: too many words, a rule that does not pass, and else what is behind its words.
 use mathlib.Core.Bool.{and-false, and-true}
 use borrow.Author.Tests.{not-true, not-false}
+use borrow.Author.Needs.{needs}
 use Rattle.basis.proofs.Lists.{long}
 use Rattle.validity.specs.Parts.{ruleValid}
 use Rattle.validity.proofs.Stored.{rule-out, rule-stored}
-use borrow.Author.Needs.{needs}
 use Rattle.validity.proofs.rules.rule_valid.Statement.{statement}
 use Rattle.validity.proofs.rules.rule_valid.Tie as tie
 

@@ -1,10 +1,10 @@
 -- `validity::rules::rules_blank` meets its contract: the rules from place n to i are blank.
 use Prim.Native.Nat.{_-_}
 use borrow.Author.Tests.{not-true, not-false}
+use borrow.Author.Needs.{needs}
 use Rattle.policy.specs.Value.{noRule}
 use Rattle.policy.specs.Valid.{sameRule}
 use Rattle.validity.proofs.Blank.{BlankTo, blank-none, blank-all, blank-more, blank-not, emptyRule}
-use borrow.Author.Needs.{needs}
 use Rattle.validity.proofs.rules.rules_blank.Statement.{statement}
 use Rattle.validity.proofs.rules.rules_blank.Tie as tie
 

@@ -2,18 +2,20 @@
 use Prim.Native.Nat.{_-_}
 use mathlib.Core.Path.{refl}
 use borrow.Author.Tests.{not-true, not-false}
+use borrow.Author.Needs.{needs}
 use lib.Dec.{ltb}
 use lib.ListN.{take}
 use Rattle.policy.specs.declared.value.RuleValue.{RuleValue}
 use Rattle.validity.specs.Parts.{ShapedBy, ruleValid, rulesRising}
 use Rattle.validity.proofs.Rising.{Risen, risen-none, risen-all, risen-unfit, risen-falls, risen-more}
 use Rattle.validity.proofs.Blank.{emptyRule}
-use borrow.Author.Needs.{needs}
 use Rattle.validity.proofs.rules.rules_sound.Statement.{statement}
 use Rattle.validity.proofs.rules.rules_sound.Tie as tie
 
 abbrev Inv-loop : tie.InvT-loop
-Inv-loop actions user object n rules last₀ i₀ last i = Risen (ShapedBy actions user object) (λ p. rulesRising p (take n rules)) ruleValid (λ (x : RuleValue). x .action) (λ a (x : RuleValue). ltb a (x .action)) rules n i last
+Inv-loop actions user object n rules last₀ i₀ last i =
+    Risen (ShapedBy actions user object) (λ p. rulesRising p (take n rules)) ruleValid
+    (λ (x : RuleValue). x .action) (λ a (x : RuleValue). ltb a (x .action)) rules n i last
 
 abbrev μ-loop : tie.MeasureT-loop
 μ-loop actions user object n rules last₀ i₀ last i = n - i
@@ -37,7 +39,7 @@ number-rises-requires : tie.Need-number-rises-requires Inv-loop μ-loop
 number-rises-requires c κs = search needs
 
 returns-2 : tie.Need-returns-2 Inv-loop μ-loop
-returns-2 c = 
+returns-2 c =
     risen-falls (c .before .before .before .before .before .before .loop .inv) emptyRule (search needs) (search needs)
     (c .before .before .before .rule-valid .ensures) (not-false _ (c .before .before .if1 .left)) (c .before .number-rises .ensures) (not-true _ (c .if2 .taken))
 
@@ -48,7 +50,7 @@ loop-less : tie.Need-loop-less Inv-loop μ-loop
 loop-less c = search needs
 
 loop-again : tie.Need-loop-again Inv-loop μ-loop
-loop-again c = 
+loop-again c =
     risen-more (c .before .before .before .before .before .before .loop .inv) emptyRule (search needs) (search needs)
     (c .before .before .before .rule-valid .ensures) (not-false _ (c .before .before .if1 .left)) (c .before .number-rises .ensures) (not-false _ (c .if2 .left))
 

@@ -1,11 +1,11 @@
 -- `validity::rules::words_blank` meets its contract: the words from place n to i are blank.
 use Prim.Native.Nat.{_-_}
 use borrow.Author.Tests.{not-true, not-false}
+use borrow.Author.Needs.{needs}
 use Rattle.words.specs.declared.Word.the-variants.{True}
 use Rattle.policy.specs.Value.{slot}
 use Rattle.policy.specs.Valid.{sameSlot}
 use Rattle.validity.proofs.Blank.{BlankTo, blank-none, blank-all, blank-more, blank-not}
-use borrow.Author.Needs.{needs}
 use Rattle.validity.proofs.rules.words_blank.Statement.{statement}
 use Rattle.validity.proofs.rules.words_blank.Tie as tie
 

@@ -1,10 +1,10 @@
 -- `validity::side::lines_blank` meets its contract: the lines from place n to i are blank.
 use Prim.Native.Nat.{_-_}
 use borrow.Author.Tests.{not-true, not-false}
+use borrow.Author.Needs.{needs}
 use Rattle.seniority.specs.Seniority.{direct}
 use Rattle.policy.specs.Valid.{sameLine}
 use Rattle.validity.proofs.Blank.{BlankTo, blank-none, blank-all, blank-more, blank-not}
-use borrow.Author.Needs.{needs}
 use Rattle.validity.proofs.side.lines_blank.Statement.{statement}
 use Rattle.validity.proofs.side.lines_blank.Tie as tie
 

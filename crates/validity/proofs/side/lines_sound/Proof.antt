@@ -1,14 +1,14 @@
 -- `validity::side::lines_sound` meets its contract: the lines before place i pass and rise.
 use Prim.Native.Nat.{_-_}
-use borrow.Author.Tests.{not-true, not-false}
 use mathlib.Core.Option.{none}
+use borrow.Author.Tests.{not-true, not-false}
+use borrow.Author.Needs.{needs}
 use lib.ListN.{take}
 use Rattle.seniority.specs.Seniority.{direct}
 use Rattle.policy.proofs.Sound.{linesSound}
+use Rattle.policy.proofs.Parts.{lineFits, lineAbove, lines-rising}
 use Rattle.checks.specs.Sides.{Shaped}
 use Rattle.validity.proofs.Rising.{Risen, risen-none, risen-all, risen-unfit, risen-falls, risen-more}
-use Rattle.policy.proofs.Parts.{lineFits, lineAbove, lines-rising}
-use borrow.Author.Needs.{needs}
 use Rattle.validity.proofs.side.lines_sound.Statement.{statement}
 use Rattle.validity.proofs.side.lines_sound.Tie as tie
 
@@ -37,7 +37,7 @@ pair-rises-requires : tie.Need-pair-rises-requires Inv-loop μ-loop
 pair-rises-requires c κs = search needs
 
 returns-2 : tie.Need-returns-2 Inv-loop μ-loop
-returns-2 c = 
+returns-2 c =
     risen-falls (c .before .before .before .before .before .before .loop .inv) (direct 0 0) (search needs) (search needs)
     (c .before .before .before .pair-fits .ensures) (not-false _ (c .before .before .if1 .left)) (c .before .pair-rises .ensures) (not-true _ (c .if2 .taken))
 
@@ -48,7 +48,7 @@ loop-less : tie.Need-loop-less Inv-loop μ-loop
 loop-less c = search needs
 
 loop-again : tie.Need-loop-again Inv-loop μ-loop
-loop-again c = 
+loop-again c =
     risen-more (c .before .before .before .before .before .before .loop .inv) (direct 0 0) (search needs) (search needs)
     (c .before .before .before .pair-fits .ensures) (not-false _ (c .before .before .if1 .left)) (c .before .pair-rises .ensures) (not-false _ (c .if2 .left))
 

@@ -1,13 +1,13 @@
 -- `validity::side::lines_valid` meets its contract: too many lines, lines that do not pass, and else what is behind them.
 use mathlib.Core.Bool.{and-false, and-true}
 use borrow.Author.Tests.{not-true, not-false}
+use borrow.Author.Needs.{needs}
 use Rattle.basis.proofs.Lists.{long}
 use Rattle.seniority.specs.Seniority.{direct}
 use Rattle.policy.specs.Value.{linePlaces}
 use Rattle.policy.specs.Valid.{sameLine}
 use Rattle.validity.specs.Parts.{linesValid}
 use Rattle.validity.proofs.Stored.{holds-out, lines-stored}
-use borrow.Author.Needs.{needs}
 use Rattle.validity.proofs.side.lines_valid.Statement.{statement}
 use Rattle.validity.proofs.side.lines_valid.Tie as tie
 

@@ -1,13 +1,11 @@
 -- `validity::side::side_valid` meets its contract: by its widths, and then by its lines.
-use mathlib.Core.Path.{_≡_, refl, sym, _∙_}
-use mathlib.Core.Bool.{true}
+use mathlib.Core.Path.{refl, sym, _∙_}
 use native.Mathlib.Omega.{arith}
 use borrow.Author.Tests.{not-true, not-false}
+use borrow.Author.Needs.{needs}
 use Rattle.policy.specs.Value.{widthPlaces, sideOf}
 use Rattle.checks.proofs.Laws.{measured-places}
-use Rattle.validity.specs.Parts.{widthsValid}
-use Rattle.validity.proofs.Whole.{Small, side-parts, widths-small}
-use borrow.Author.Needs.{needs}
+use Rattle.validity.proofs.Whole.{side-parts, widths-small}
 use Rattle.validity.proofs.side.side_valid.Statement.{statement}
 use Rattle.validity.proofs.side.side_valid.Tie as tie
 
@@ -15,19 +13,19 @@ widths-valid-requires : tie.Need-widths-valid-requires
 widths-valid-requires c κs = search needs
 
 returns : tie.Need-returns
-returns c = 
+returns c =
     let a = c .before .before .before .args in
     rw (side-parts (a .most) (a .x), ← c .before .widths-valid .ensures, not-true (c .before .widths-valid .result) (c .if1 .taken))
 
 measure-requires : tie.Need-measure-requires
-measure-requires c κs = 
+measure-requires c κs =
     let a = c .before .before .before .args in
     let z = c .before .widths-valid in
     let s = widths-small (a .most) (a .x .widths) (a .x .attributes) (search needs) (sym (z .ensures) ∙ not-false (z .result) (c .if1 .left)) in
     (s .places, omega arith)
 
 lines-valid-requires : tie.Need-lines-valid-requires
-lines-valid-requires c κs = 
+lines-valid-requires c κs =
     let a = c .before .before .before .before .before .args in
     let z = c .before .before .before .widths-valid in
     let s = widths-small (a .most) (a .x .widths) (a .x .attributes) (search needs) (sym (z .ensures) ∙ not-false (z .result) (c .before .before .if1 .left)) in
@@ -35,7 +33,7 @@ lines-valid-requires c κs =
 
 returns-2 : tie.Need-returns-2
 unfolding sideOf
-returns-2 c = 
+returns-2 c =
     let a = c .before .before .before .before .before .before .args in
     let z = c .before .before .before .before .widths-valid in
     rw (side-parts (a .most) (a .x), ← z .ensures, not-false (z .result) (c .before .before .before .if1 .left))

@@ -1,10 +1,10 @@
 -- `validity::side::widths_blank` meets its contract: the widths from place n to i are 0.
 use Prim.Native.Nat.{_-_}
 use mathlib.Core.Path.{refl, sym}
-use lib.Dec.{eqb}
 use borrow.Author.Tests.{eq-eqb, ne-eqb}
-use Rattle.validity.proofs.Blank.{BlankTo, blank-none, blank-all, blank-more, blank-not}
 use borrow.Author.Needs.{needs}
+use lib.Dec.{eqb}
+use Rattle.validity.proofs.Blank.{BlankTo, blank-none, blank-all, blank-more, blank-not}
 use Rattle.validity.proofs.side.widths_blank.Statement.{statement}
 use Rattle.validity.proofs.side.widths_blank.Tie as tie
 

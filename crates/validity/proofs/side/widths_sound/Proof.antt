@@ -2,8 +2,8 @@
 use Prim.Native.Nat.{_-_}
 use native.Mathlib.Omega.{arith}
 use borrow.Author.Tests.{not-true, not-false}
-use Rattle.validity.proofs.Widths.{Summed, summed-none, summed-all, summed-not, summed-more, sum-bound}
 use borrow.Author.Needs.{needs}
+use Rattle.validity.proofs.Widths.{Summed, summed-none, summed-all, summed-not, summed-more, sum-bound}
 use Rattle.validity.proofs.side.widths_sound.Statement.{statement}
 use Rattle.validity.proofs.side.widths_sound.Tie as tie
 

@@ -1,7 +1,7 @@
 -- `validity::side::widths_valid` meets its contract: one law for each answer.
 use borrow.Author.Tests.{not-true, not-false}
-use Rattle.validity.proofs.Stored.{widths-none, widths-many, widths-unsound, widths-stored}
 use borrow.Author.Needs.{needs}
+use Rattle.validity.proofs.Stored.{widths-none, widths-many, widths-unsound, widths-stored}
 use Rattle.validity.proofs.side.widths_valid.Statement.{statement}
 use Rattle.validity.proofs.side.widths_valid.Tie as tie
 
@@ -21,7 +21,7 @@ widths-blank-requires : tie.Need-widths-blank-requires
 widths-blank-requires c κs = search needs
 
 returns-4 : tie.Need-returns-4
-returns-4 c = 
+returns-4 c =
     widths-stored _ _ _ (search needs) (search needs) (search needs)
     (c .before .before .widths-sound .ensures) (not-false _ (c .before .if3 .left)) (c .widths-blank .ensures)
 

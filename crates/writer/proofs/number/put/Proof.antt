@@ -21,17 +21,17 @@ module _
     (e₄ : d₄ ≡ byte "0" + n / 10 % 10)
     (e₅ : d₅ ≡ byte "0" + n % 10)
     (u : (r ≤ 4) × (drop r (fiveDigits n) ≡ decimal n))
-    where
-  are : take (5 - r) (drop r (d₁ ∷ d₂ ∷ d₃ ∷ d₄ ∷ d₅ ∷ [])) ≡ decimal n
-  are =
-      let l : length (drop r (fiveDigits n)) ≤ 5 - r = omega (arith, length-drop r (fiveDigits n)) in
-      rw (e₁, e₂, e₃, e₄, e₅, take-all (5 - r) (drop r (fiveDigits n)) l) (u .1)
+  where
+    are : take (5 - r) (drop r (d₁ ∷ d₂ ∷ d₃ ∷ d₄ ∷ d₅ ∷ [])) ≡ decimal n
+    are =
+        let l : length (drop r (fiveDigits n)) ≤ 5 - r = omega (arith, length-drop r (fiveDigits n)) in
+        rw (e₁, e₂, e₃, e₄, e₅, take-all (5 - r) (drop r (fiveDigits n)) l) (u .1)
 
-  fits : (b : List ℕ) → Room (field (decimal n)) b → Room (field (take (5 - r) (drop r (d₁ ∷ d₂ ∷ d₃ ∷ d₄ ∷ d₅ ∷ [])))) b
-  fits b h = rw are h
+    fits : (b : List ℕ) → Room (field (decimal n)) b → Room (field (take (5 - r) (drop r (d₁ ∷ d₂ ∷ d₃ ∷ d₄ ∷ d₅ ∷ [])))) b
+    fits b h = rw are h
 
-  puts : (b m : List ℕ) (q : ℕ) → Put (field (take (5 - r) (drop r (d₁ ∷ d₂ ∷ d₃ ∷ d₄ ∷ d₅ ∷ [])))) b m q → Put (field (decimal n)) b m q
-  puts b m q x = rw are at x
+    puts : (b m : List ℕ) (q : ℕ) → Put (field (take (5 - r) (drop r (d₁ ∷ d₂ ∷ d₃ ∷ d₄ ∷ d₅ ∷ [])))) b m q → Put (field (decimal n)) b m q
+    puts b m q x = rw are at x
 
 digit-requires : tie.Need-digit-requires
 digit-requires c κs = search needs

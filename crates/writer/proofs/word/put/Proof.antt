@@ -8,8 +8,8 @@ use Rattle.writer.proofs.word.put.Tie as tie
 spell-requires : tie.Need-spell-requires
 spell-requires c κs = search needs
 
-array-share-prefix-bytes : tie.Need-array-share-prefix-bytes
-array-share-prefix-bytes c = c .before .spell .ensures .most
+array-share-prefix-spelt : tie.Need-array-share-prefix-spelt
+array-share-prefix-spelt c = c .before .spell .ensures .most
 
 slice-aggregate-put-field : tie.Need-slice-aggregate-put-field
 slice-aggregate-put-field c = sym (length-take-le _ _ (c .before .before .spell .ensures .most))
@@ -28,7 +28,7 @@ put-spec =
     tie.close
     (tie.spec
     spell-requires
-    array-share-prefix-bytes
+    array-share-prefix-spelt
     slice-aggregate-put-field
     put-field-requires
     same-length

@@ -1,0 +1,11 @@
+pub mod Run
+pub mod Refusals
+pub mod Agreement
+pub mod OneRequest
+pub mod Valid
+mod Look
+mod Users
+mod Ways
+mod Fitting
+mod Settled
+mod Asked

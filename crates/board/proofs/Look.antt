@@ -1,0 +1,66 @@
+-- What the bytes at the three places say, one law for each way out of a look-up.
+use Prim.Native.Nat.{ℕ, _+_, _*_}
+use mathlib.Core.Path.{_≡_, refl, sym, _∙_}
+use mathlib.Core.Bool.{Bool, true, false, cond}
+use mathlib.Core.List.{List}
+use mathlib.Core.Option.{Option, none, some}
+use native.Mathlib.Omega.{arith}
+use lib.Dec.{ltb, leb}
+use lib.ListN.{length, getD}
+use borrow.Author.Tests.{ltb-true, ltb-false, le-leb, lt-leb}
+use Rattle.sets.specs.Set.{has}
+use Rattle.policy.specs.Answers.{granted, denied, refused, decided}
+use Rattle.board.specs.Board.{Labels, placeAt, pastEnd, grantsByLabels}
+use Rattle.board.specs.Inner.{byteOf, byteAt, lookedUp}
+use Rattle.board.specs.declared.buffers.Byte.{Byte}
+use Rattle.board.specs.declared.buffers.Byte.the-variants.{Past, At}
+
+-- a byte that is there, and one that is not
+there-at : (xs : List ℕ) (k b : ℕ) → byteAt xs k ≡ some b → (leb (length xs) k ≡ false) × (getD xs k 0 ≡ b)
+unfolding byteAt
+there-at xs k b e = go (ltb k (length xs)) refl e
+  where
+    go : (t : Bool) → ltb k (length xs) ≡ t → _≡_ {A = Option ℕ} (cond t (some (getD xs k 0)) none) (some b)
+        → (leb (length xs) k ≡ false) × (getD xs k 0 ≡ b)
+    go true q f = (lt-leb (length xs) k (ltb-true k (length xs) q), cc)
+    go false q f = let z : _≡_ {A = ℕ} 0 1 = cc in absurd (omega arith)
+
+gone-at : (xs : List ℕ) (k : ℕ) → byteAt xs k ≡ none → leb (length xs) k ≡ true
+unfolding byteAt
+gone-at xs k e = go (ltb k (length xs)) refl e
+  where
+    go : (t : Bool) → ltb k (length xs) ≡ t → _≡_ {A = Option ℕ} (cond t (some (getD xs k 0)) none) none → leb (length xs) k ≡ true
+    go true q f = let z : _≡_ {A = ℕ} 0 1 = cc in absurd (omega arith)
+    go false q f = le-leb (length xs) k (ltb-false k (length xs) q)
+
+module _ (l : Labels) (a u o : ℕ) (x : Byte) (hx : byteOf x ≡ byteAt (l .buffers .users) u) where
+  pub past-user : x ≡ Past → refused 20 ≡ lookedUp l a u o
+  unfolding lookedUp pastEnd
+  past-user e = rw (gone-at (l .buffers .users) u (sym hx ∙ rw e))
+
+  module _ (ul : ℕ) (ex : x ≡ At ul) (y : Byte) (hy : byteOf y ≡ byteAt (l .buffers .objects) o) where
+    pub past-object : y ≡ Past → refused 20 ≡ lookedUp l a u o
+    unfolding lookedUp pastEnd
+    past-object e = rw (there-at (l .buffers .users) u ul (sym hx ∙ rw ex) .0, gone-at (l .buffers .objects) o (sym hy ∙ rw e))
+
+    module _ (ol : ℕ) (ey : y ≡ At ol) (k : ℕ) (hk : k ≡ ul * l .no + ol) (z : Byte) (hz : byteOf z ≡ byteAt (l .buffers .table) k) where
+      place : placeAt l u o ≡ k
+      place = rw (there-at (l .buffers .users) u ul (sym hx ∙ rw ex) .1, there-at (l .buffers .objects) o ol (sym hy ∙ rw ey) .1) (sym hk)
+
+      pub past-table : z ≡ Past → refused 20 ≡ lookedUp l a u o
+      unfolding lookedUp pastEnd
+      past-table e =
+          rw (there-at (l .buffers .users) u ul (sym hx ∙ rw ex) .0, there-at (l .buffers .objects) o ol (sym hy ∙ rw ey) .0, place, gone-at (l .buffers .table) k (sym hz ∙ rw e))
+
+      module _ (b : ℕ) (ez : z ≡ At b) where
+        decided-at : decided (has b a) ≡ lookedUp l a u o
+        unfolding lookedUp pastEnd grantsByLabels
+        decided-at =
+            let t = there-at (l .buffers .table) k b (sym hz ∙ rw ez) in
+            rw (there-at (l .buffers .users) u ul (sym hx ∙ rw ex) .0, there-at (l .buffers .objects) o ol (sym hy ∙ rw ey) .0, place, t .0, t .1)
+
+        pub granted-at : (t : Bool) → t ≡ has b a → t ≡ true → granted ≡ lookedUp l a u o
+        granted-at t e q = rw (sym e ∙ q) at decided-at
+
+        pub denied-at : (t : Bool) → t ≡ has b a → t ≡ false → denied ≡ lookedUp l a u o
+        denied-at t e q = rw (sym e ∙ q) at decided-at

@@ -1,0 +1,45 @@
+-- One call on a board: its refusals are 11, the machine's and 20, in this order.
+use mathlib.Core.Path.{_≡_, refl, ap, _∙_}
+use mathlib.Core.Bool.{true, false, not}
+use mathlib.Core.List.{_∷_}
+use mathlib.Core.Option.{Option, none, some}
+use Prim.Native.Nat.{ℕ}
+use Rattle.basis.specs.Choice.{given, check, lowest}
+use Rattle.basis.proofs.Choice.{lowest-append}
+use Rattle.policy.specs.Value.{policyOf}
+use Rattle.policy.specs.Answers.{refused}
+use Rattle.policy.specs.declared.value.PolicyValue.{PolicyValue}
+use Rattle.board.specs.declared.Board.{Board}
+use Rattle.board.specs.Machine.{Call, sessionOf, checks, Out}
+use Rattle.board.specs.Inner.{lower}
+use Rattle.board.specs.Board.{entryAt, fits, Labels, lookUp, boardReply, boardChecks, boardAfter, boardStep}
+
+module _ (v : PolicyValue) (c : Call) (b : Board) where
+  pub lower-bad : fits v b ≡ false → lower v c b ≡ some 11
+  unfolding lower lowest
+  lower-bad f = rw f
+
+  pub lower-good : fits v b ≡ true → lower v c b ≡ lowest (checks (policyOf v) c (entryAt b (sessionOf c)))
+  unfolding lower lowest
+  lower-good f = rw f
+
+-- what a call gives where no refusal below 20 applies
+unfoldable pub allowed : PolicyValue → Labels → Call → Board → Out Board
+allowed v l c b =
+    given (lowest (lookUp (policyOf v) l c (entryAt b (sessionOf c))))
+    (record { reply = boardReply (policyOf v) l c (entryAt b (sessionOf c)); state = boardAfter c b })
+    (λ n. record { reply = refused n; state = b })
+
+then : {A : Type 0} (r s : Option ℕ) (a : A) (f : ℕ → A) → given (given r s some) a f ≡ given r (given s a f) f
+then none s a f = refl
+then (some n) s a f = refl
+
+pub step-is : (v : PolicyValue) (l : Labels) (c : Call) (b : Board)
+    → boardStep v l c b ≡ given (lower v c b) (allowed v l c b) (λ n. record { reply = refused n; state = b })
+unfolding boardStep boardChecks lower allowed
+step-is v l c b =
+    ap
+    (λ (r : Option ℕ).
+    given r (record { reply = boardReply (policyOf v) l c (entryAt b (sessionOf c)); state = boardAfter c b }) (λ n. record { reply = refused n; state = b }))
+    (lowest-append (check 11 (not (fits v b)) ∷ checks (policyOf v) c (entryAt b (sessionOf c))) (lookUp (policyOf v) l c (entryAt b (sessionOf c))))
+    ∙ then (lower v c b) (lowest (lookUp (policyOf v) l c (entryAt b (sessionOf c)))) _ _

@@ -1,0 +1,31 @@
+-- `board::rulings::change_checks` meets its contract: one law for each way out.
+use borrow.Author.Needs.{needs}
+use Rattle.board.proofs.Ways.{change-refused, change-allowed, change-outside}
+use Rattle.board.proofs.rulings.change_checks.Statement.{statement}
+use Rattle.board.proofs.rulings.change_checks.Tie as tie
+
+close-checks-requires : tie.Need-close-checks-requires
+close-checks-requires c κs = search needs
+
+enum-told : tie.Need-enum-told
+enum-told c = search needs
+
+enum-told-2 : tie.Need-enum-told-2
+enum-told-2 c = search needs
+
+returns : tie.Need-returns
+returns c = search change-refused
+
+within-requires : tie.Need-within-requires
+within-requires c κs = search needs
+
+returns-2 : tie.Need-returns-2
+returns-2 c = search change-allowed
+
+returns-3 : tie.Need-returns-3
+returns-3 c = search change-outside
+
+pub change-checks-spec : {M : Type 1} → statement M
+change-checks-spec =
+    tie.close
+    (tie.spec close-checks-requires enum-told enum-told-2 returns within-requires returns-2 returns-3)

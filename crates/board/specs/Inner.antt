@@ -1,0 +1,73 @@
+-- What the inner functions of the code answer, and what they ask of a policy value. Public contracts do without these.
+use Prim.Native.Nat.{ℕ, _≤_, _<_}
+use mathlib.Core.Path.{_≡_}
+use mathlib.Core.Bool.{cond, not}
+use mathlib.Core.List.{List, _∷_}
+use mathlib.Core.Option.{Option, none, some}
+use lib.Dec.{ltb}
+use lib.ListN.{length, getD, set}
+use Rattle.basis.specs.Choice.{given, there, check, lowest}
+use Rattle.seniority.specs.Seniority.{Ordered, wordBits}
+use Rattle.policy.specs.Policy.{Policy, total, sets, setOfNumber}
+use Rattle.policy.specs.Value.{linePlaces, entryPlaces, sideOf, entriesOf, policyOf}
+use Rattle.policy.specs.Answers.{numberOf, Reply, done, refused, decided}
+use Rattle.policy.specs.declared.value.SideValue.{SideValue}
+use Rattle.policy.specs.declared.value.Register.{Register}
+use Rattle.policy.specs.declared.value.PolicyValue.{PolicyValue}
+use Rattle.board.specs.Machine.{Call, sessionOf, reachOf, checks, Out}
+use Rattle.board.specs.Board.{entryAt, fits, Labels, pastEnd, grantsByLabels}
+use Rattle.board.specs.declared.Session.{Session}
+use Rattle.board.specs.declared.Board.{Board}
+use Rattle.board.specs.declared.reach.Found.{Found}
+use Rattle.board.specs.declared.rulings.Ruling.{Ruling}
+use Rattle.board.specs.declared.rulings.Ruling.the-variants.{Allowed, Refused}
+use Rattle.board.specs.declared.buffers.Byte.{Byte}
+use Rattle.board.specs.declared.buffers.Byte.the-variants.{Past, At}
+
+-- ---- what the answers stand for
+
+abbrev pub refusalOf : Ruling → Option ℕ
+refusalOf Allowed = none
+refusalOf (Refused r) = some (numberOf r)
+
+abbrev pub byteOf : Byte → Option ℕ
+byteOf Past = none
+byteOf (At b) = some b
+
+-- ---- what the functions work out
+
+-- whether there is a set, and the set; 0 stands for none
+pub record FoundAs (o : Option ℕ) (f : Found) : Type 0 where
+  pub registered : f .registered ≡ there o
+  pub set : f .set ≡ given o 0 (λ s. s)
+
+-- whether a user is registered, and the user's reach
+pub record Reaches (p : Policy) (u : ℕ) (f : Found) : Type 0 where
+  pub registered : f .registered ≡ there (setOfNumber (p .users) u)
+  pub set : f .set ≡ reachOf p u
+
+-- the byte at a place of a buffer
+unfoldable pub byteAt : List ℕ → ℕ → Option ℕ
+byteAt buffer place = cond (ltb place (length buffer)) (some (getD buffer place 0)) none
+
+-- what the labels of two sets say
+unfoldable pub lookedUp : Labels → ℕ → ℕ → ℕ → Reply
+lookedUp l a held object = cond (pastEnd l held object) (refused 20) (decided (grantsByLabels l a held object))
+
+-- the lowest refusal of a call below 20: 11, then the machine's
+unfoldable pub lower : PolicyValue → Call → Board → Option ℕ
+lower v c b = lowest (check 11 (not (fits v b)) ∷ checks (policyOf v) c (entryAt b (sessionOf c)))
+
+-- a call done, with the entry that its session gets, or refused
+unfoldable pub settled : Board → ℕ → Option ℕ → Session → Out Board
+settled b s refusal entry =
+    given refusal (record { reply = done; state = record { sessions = set (b .sessions) s entry } }) (λ n. record { reply = refused n; state = b })
+
+-- ---- what check 11 ensures of the users and their side
+
+pub record Reachable (side : SideValue) (users : Register) : Type 0 where
+  pub lines : side .lines ≤ linePlaces
+  pub count : users .count ≤ entryPlaces
+  pub values : total (sideOf side) ≤ wordBits
+  pub ordered : Ordered (total (sideOf side)) (sideOf side .lines)
+  pub assigned : (n s : ℕ) → setOfNumber (entriesOf users) n ≡ some s → s < sets (sideOf side)

@@ -1,0 +1,67 @@
+// The three lent buffers of a request: each is read at one place.
+ghost use mathlib.Core.Path.{_≡_};
+ghost use Prim.Native.Nat.{_+_, _*_};
+ghost use Rattle.board.specs.Board.{labelsOf, replyOf};
+ghost use Rattle.board.specs.Inner.{byteOf, byteAt, lookedUp};
+use crate::Answer;
+use labels::Counts;
+use labels::ObjectLabel;
+use labels::UserLabel;
+use policy::refusal::Refusal;
+
+// The byte at a place of a buffer, where the place is in it.
+pub enum Byte {
+    Past,
+    At(u8),
+}
+
+// The one way in which a lent buffer is read.
+fn byte_at(buffer: &[u8], place: usize) -> Byte
+    ensures { λ r. ⌜ byteOf r ≡ byteAt (now (buffer .entry)) place ⌝ }
+{
+    if place < buffer.len() {
+        Byte::At(buffer[place])
+    } else {
+        Byte::Past
+    }
+}
+
+// The table's place of two labels, with `no` object labels in a row; any numbers will do.
+fn place_of(user: UserLabel, object: ObjectLabel, no: u32) -> usize
+    ensures { λ r. ⌜ r ≡ user .0 * no + object .0 ⌝ }
+{
+    user.0 as usize * no as usize + object.0 as usize
+}
+
+// What the labels of two sets say of an action.
+pub fn look_up(
+    counts: Counts,
+    users: &[u8],
+    objects: &[u8],
+    table: &[u8],
+    action: u32,
+    held: u32,
+    object: u32,
+) -> Answer
+    ensures { λ r. ⌜ replyOf r ≡ lookedUp (labelsOf counts (now (users .entry)) (now (objects .entry)) (now (table .entry))) action held object ⌝ }
+{
+    let Byte::At(user_label) = byte_at(users, held as usize) else {
+        return Answer::Refused(Refusal::BufferTooShort);
+    };
+    let Byte::At(object_label) = byte_at(objects, object as usize) else {
+        return Answer::Refused(Refusal::BufferTooShort);
+    };
+    let place = place_of(
+        UserLabel(user_label),
+        ObjectLabel(object_label),
+        counts.objects,
+    );
+    let Byte::At(entry) = byte_at(table, place) else {
+        return Answer::Refused(Refusal::BufferTooShort);
+    };
+    if sets::holds(entry as u32, action) {
+        Answer::Granted
+    } else {
+        Answer::Denied
+    }
+}

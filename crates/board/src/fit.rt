@@ -1,0 +1,60 @@
+// Check 11: a valid policy value, and on the board no session whose user is not registered or whose set is out of reach.
+ghost use mathlib.Core.Path.{_≡_};
+ghost use mathlib.Core.Bool.{true};
+ghost use Rattle.basis.specs.Choice.{given};
+ghost use Rattle.policy.specs.Policy as policy;
+ghost use Rattle.policy.specs.Value.{entriesOf, sideOf};
+ghost use Rattle.board.specs.Board.{entryOf, entryFits, boardFits, fits};
+ghost use Rattle.board.specs.Inner.{Reachable};
+use crate::Board;
+use crate::Session;
+use crate::reach;
+use policy::value::PolicyValue;
+use policy::value::Register;
+use policy::value::SideValue;
+
+// Whether an entry is closed, or its user registered and its set in the user's reach.
+fn entry_fits(users: Register, side: SideValue, entry: Session) -> bool
+    requires { ⌜ Reachable side users ⌝ }
+    ensures { λ r. ⌜ ((p : policy.Policy) → p .users ≡ entriesOf users → p .user ≡ sideOf side → r ≡ given (entryOf entry) true (entryFits p)) ⌝ }
+{
+    if !entry.live {
+        return true;
+    }
+    let reach = reach::of(users, side, entry.user);
+    if reach.registered {
+        sets::within(entry.held, reach.set)
+    } else {
+        false
+    }
+}
+
+// Whether each entry fits.
+fn entries_fit(users: Register, side: SideValue, board: Board) -> bool
+    requires { ⌜ Reachable side users ⌝ }
+    ensures { λ r. ⌜ ((p : policy.Policy) → p .users ≡ entriesOf users → p .user ≡ sideOf side → r ≡ boardFits p board) ⌝ }
+{
+    let sessions = board.sessions;
+    let mut i: usize = 0;
+    while i < 32 {
+        let entry = sessions[i];
+        if !entry_fits(users, side, entry) {
+            return false;
+        }
+        i += 1;
+    }
+    true
+}
+
+// Whether the policy value is valid and each entry of the board fits.
+pub fn fits(policy: PolicyValue, board: Board) -> bool
+    ensures { λ r. ⌜ r ≡ fits policy board ⌝ }
+{
+    if validity::check(policy) {
+        let users = policy.users;
+        let side = policy.user;
+        entries_fit(users, side, board)
+    } else {
+        false
+    }
+}

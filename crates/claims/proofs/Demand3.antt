@@ -1,0 +1,114 @@
+-- Demand 3, from the text through reading and compiling to every list of calls.
+use Prim.Native.Nat.{ℕ, _≤_, _<_}
+use mathlib.Core.Path.{_≡_, ap, _∙_}
+use mathlib.Core.Bool.{true, false}
+use mathlib.Core.List.{List}
+use borrow.Author.Tests.{le-ltb, lt-leb}
+use lib.ListN.{length}
+use Rattle.basis.specs.Choice.{gives, lowest}
+use Rattle.basis.specs.Lists.{over}
+use Rattle.policy.specs.Limits.{actions, objectNumbers}
+use Rattle.policy.specs.Policy.{Policy, sets}
+use Rattle.policy.specs.Read.{Accepted, readText}
+use Rattle.policy.specs.Value.{valueOf}
+use Rattle.policy.specs.Valid.{valid}
+use Rattle.policy.specs.Answers.{decided}
+use Rattle.policy.proofs.Values.{policy-value}
+use Rattle.policy.proofs.Valid.{yielded-valid}
+use Rattle.policy.proofs.RoundTrip.{read-sound}
+use Rattle.policy.proofs.Parts.{parts, whole}
+use Rattle.policy.proofs.Lookup.{registered-bounds}
+use Rattle.formula.specs.Truth.{grants}
+use Rattle.formula.specs.Decide.{decide}
+use Rattle.tuples.specs.Tuples.{tuples, list, listBuffer}
+use Rattle.tuples.proofs.Tuples.{tuples-rise, listed-decides}
+use Rattle.labels.specs.Compile.{Buffers, tooShort, NU, NO, compile, compileBuffers}
+use Rattle.labels.proofs.Compile.{compiled-grants, compiled-users, compiled-objects, fewest}
+use Rattle.board.specs.Machine.{Call, machine, run, step, empty}
+use Rattle.board.proofs.Agreement.{ObjectsFit, Serves, replies-agree, sessions-agree}
+use Rattle.claims.specs.Demand3.{Tuples, Labelled, Compiled, Sessions, labelsOf, Demand3, Claim}
+use Rattle.claims.proofs.Serving.{serving, inside, decides}
+
+module _ (t : List ℕ) (p : Policy) (e : readText t ≡ Accepted p) where
+  ok : valid (valueOf p) ≡ true
+  ok = yielded-valid t p e
+
+  -- ---- tuples
+
+  module _ (a : ℕ) (ha : a < actions (p .form)) (buffer : List ℕ) (room : length (tuples p a) ≤ length buffer) where
+    is-listed : list (valueOf p) a buffer ≡ gives (length (tuples p a))
+    unfolding list lowest
+    is-listed = rw (policy-value p, ok, lt-leb (actions (p .form)) a ha, le-ltb (length buffer) (length (tuples p a)) room)
+
+    is-stored : listBuffer (valueOf p) a buffer ≡ over (tuples p a) buffer
+    unfolding listBuffer lowest
+    is-stored = rw (policy-value p, ok, lt-leb (actions (p .form)) a ha, le-ltb (length buffer) (length (tuples p a)) room)
+
+    by-formula : (u o : ℕ) → u < sets (p .user) → o < sets (p .object) → decide (valueOf p) a u o ≡ decided (grants p a u o)
+    unfolding decide lowest
+    by-formula u o hu ho = rw (policy-value p, ok, lt-leb (actions (p .form)) a ha, lt-leb (sets (p .user)) u hu, lt-leb (sets (p .object)) o ho)
+
+  listed : (a : ℕ) → a < actions (p .form) → Tuples p a
+  listed a ha =
+      record {
+        rising = tuples-rise p a;
+        listed = is-listed a ha;
+        stored-are = is-stored a ha;
+        decides = λ buffer room u o hu ho.
+            listed-decides (valueOf p) a u o buffer (length (tuples p a)) (is-listed a ha buffer room) ∙ by-formula a ha buffer room u o hu ho;
+      }
+
+  -- ---- labels
+
+  labels : Labelled p
+  labels =
+      record {
+        alike = compiled-grants p;
+        users = compiled-users p;
+        objects = compiled-objects p;
+        fewest-users = λ l h. fewest p l h .0;
+        fewest-objects = λ l h. fewest p l h .1;
+      }
+
+  module _ (b : Buffers) (room : tooShort p b ≡ false) where
+    is-compiled : compile (valueOf p) b ≡ gives (record { users = NU p; objects = NO p })
+    unfolding compile lowest
+    is-compiled = rw (policy-value p, ok, room)
+
+    buffers-are : compileBuffers (valueOf p) b ≡ serving p b .buffers
+    unfolding compileBuffers lowest
+    buffers-are = rw (policy-value p, ok, room)
+
+    compiled-to : Compiled p b
+    compiled-to =
+        record {
+          counts = is-compiled;
+          users = ap (λ (x : Buffers). x .users) buffers-are;
+          objects = ap (λ (x : Buffers). x .objects) buffers-are;
+          table = ap (λ (x : Buffers). x .table) buffers-are;
+        }
+
+    -- ---- sessions
+
+    labels-are : labelsOf p b ≡ serving p b
+    labels-are = ap (λ (x : Buffers). record { buffers = x; nu = NU p; no = NO p }) buffers-are
+
+    serves : Serves p (labelsOf p b)
+    serves = rw labels-are (record { inside = inside p b; decides = λ a u o ha hu ho. decides p b u o hu ho a ha })
+
+    machine-is : (calls : List Call) → machine t calls ≡ run (step p) calls empty
+    unfolding machine
+    machine-is calls = rw e
+
+    objects-fit : ObjectsFit p
+    objects-fit n s q = registered-bounds objectNumbers (p .object) (p .objects) (parts p (whole p (read-sound t p e) .lists) .objects) n s q .1
+
+    sessions : (calls : List Call) → Sessions t p b calls
+    sessions calls =
+        record {
+          answers = rw (machine-is calls) (replies-agree p (labelsOf p b) objects-fit serves (valueOf p) (policy-value p) ok calls);
+          entries = λ k. rw (machine-is calls) (sessions-agree p (labelsOf p b) objects-fit serves (valueOf p) (policy-value p) ok calls k);
+        }
+
+pub demand3 : Claim
+demand3 t p e = record { tuples-listed = listed t p e; labelled = labels t p e; compiled-to = compiled-to t p e; sessions = sessions t p e }

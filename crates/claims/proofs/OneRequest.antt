@@ -1,0 +1,36 @@
+-- Demand 3's last sentence, about one request, whatever it is handed.
+use Prim.Native.Nat.{ℕ}
+use mathlib.Core.Path.{_≡_, refl, ap, _∙_}
+use mathlib.Core.Option.{Option, none, some}
+use Rattle.basis.specs.Choice.{given, lowest}
+use Rattle.policy.specs.Value.{policyOf}
+use Rattle.policy.specs.Answers.{Reply, refused}
+use Rattle.policy.specs.declared.value.PolicyValue.{PolicyValue}
+use Rattle.board.specs.Machine.{requests, Out}
+use Rattle.board.specs.Board.{Labels, boardStep, boardChecks, boardAfter, pastEnd}
+use Rattle.board.specs.declared.Board.{Board}
+use Rattle.board.specs.Inner.{lower}
+use Rattle.board.proofs.OneRequest.{past-iff, refused-iff, granted-iff}
+use Rattle.claims.specs.Demand3.{heldAt, objectAt, answered, OneRequest, RequestClaim}
+
+-- a step that leaves its state either way
+state-kept : (o : Option ℕ) (r : Reply) (b : Board)
+    → given {B = Out Board} o (record { reply = r; state = b }) (λ n. record { reply = refused n; state = b }) .state ≡ b
+state-kept none r b = refl
+state-kept (some n) r b = refl
+
+board-kept : (v : PolicyValue) (l : Labels) (b : Board) (s a n : ℕ) → answered v l b s a n .state ≡ b
+unfolding boardStep boardAfter
+board-kept v l b s a n = state-kept (lowest (boardChecks v l (requests s a n) b)) _ b
+
+pub one-request : RequestClaim
+unfolding lower
+one-request v l b s a n =
+    record {
+      by-bit = granted-iff v l b s a n;
+      past-end = λ e.
+          let r = refused-iff v l b s a n e in
+          let q = past-iff l (heldAt b s) (objectAt v n) in
+          (λ x. q .1 (r .0 x), λ x. r .1 (q .0 x));
+      kept = board-kept v l b s a n;
+    }

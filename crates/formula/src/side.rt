@@ -1,0 +1,113 @@
+// The vectors of 64 sets of one side: bit k of vector v says whether set k holds value v, and bit k of vector VALUES + v whether it
+// does with its juniors (users) or its seniors (objects) taken in.
+use crate::shape::VALUES;
+use seniority::Direct;
+ghost use mathlib.Core.Path.{_≡_};
+ghost use Prim.Native.Nat.{ℕ, _+_, _*_, _^_, _≤_, _<_};
+ghost use lib.ListN.{take};
+ghost use Rattle.sets.specs.Set.{has};
+ghost use Rattle.seniority.specs.Seniority.{Ordered, heldOrSenior, heldOrJunior};
+ghost use Rattle.policy.specs.Value.{linePlaces};
+ghost use Rattle.formula.specs.Lane.{lanes, mostValues, Plain, Stands, extendedLanes};
+
+// True in every lane.
+pub const ALL: u64 = 18446744073709551615;
+
+// For each v below 6, which of the sets 0 to 63 hold v.
+const LOW: [u64; 6] = [
+    12297829382473034410,
+    14757395258967641292,
+    17361641481138401520,
+    18374966859414961920,
+    18446462603027742720,
+    18446744069414584320,
+];
+
+// The same in every lane.
+fn splat(b: bool) -> u64
+    ensures { λ r. ⌜ ((k : ℕ) → k < lanes → has r k ≡ b) ⌝ }
+{
+    if b { ALL } else { 0 }
+}
+
+// Which of the sets 64b to 64b + 63 hold v.
+fn holders(b: u32, v: u32) -> u64
+    ensures { λ r. ⌜ ((k : ℕ) → k < lanes → has r k ≡ has (b * lanes + k) v) ⌝ }
+{
+    if v < 6 {
+        return LOW[v as usize];
+    }
+    splat(sets::holds(b, v - 6))
+}
+
+// One set in every lane, without seniority.
+pub fn spread(set: u32) -> [u64; 2 * VALUES]
+    requires { ⌜ set < 2 ^ mostValues ⌝ }
+    ensures { λ r. ⌜ ((k : ℕ) → k < lanes → Plain r k set) ⌝ }
+{
+    let mut r = [0u64; 2 * VALUES];
+    let mut v: usize = 0;
+    while v < VALUES {
+        let x = splat(sets::holds(set, v as u32));
+        r[v] = x;
+        r[VALUES + v] = x;
+        v += 1;
+    }
+    r
+}
+
+// The 64 sets from 64b on, without seniority.
+pub fn consecutive(b: u32) -> [u64; 2 * VALUES]
+    requires { ⌜ (b + 1) * lanes ≤ 2 ^ mostValues ⌝ }
+    ensures { λ r. ⌜ ((k : ℕ) → k < lanes → Plain r k (b * lanes + k)) ⌝ }
+{
+    let mut r = [0u64; 2 * VALUES];
+    let mut v: usize = 0;
+    while v < VALUES {
+        let x = holders(b, v as u32);
+        r[v] = x;
+        r[VALUES + v] = x;
+        v += 1;
+    }
+    r
+}
+
+// Value b, with seniority, where value a is held so.
+fn extend(vectors: &mut [u64; 2 * VALUES], a: u32, b: u32)
+    requires { ⌜ (a < mostValues) × (b < mostValues) ⌝ }
+    ensures { λ _. ⌜ now (vectors .exit) ≡ extendedLanes (now (vectors .entry)) a b ⌝ }
+{
+    let from = VALUES + a as usize;
+    let to = VALUES + b as usize;
+    vectors[to] = vectors[to] | vectors[from];
+}
+
+// User sets with all juniors of their values, by the first n lines. The last line comes first: each senior is settled before its juniors.
+pub fn with_juniors(plain: [u64; 2 * VALUES], lines: [Direct; 21], n: usize) -> [u64; 2 * VALUES]
+    requires { ⌜ (n ≤ linePlaces) × Ordered mostValues (take n lines) ⌝ }
+    ensures { λ r. ⌜ ((k s : ℕ) → Plain plain k s → Stands (heldOrSenior (take n lines)) r k s) ⌝ }
+{
+    let mut r = plain;
+    let mut i = n;
+    while 0 < i {
+        i -= 1;
+        let l = lines[i];
+        extend(&mut r, l.senior, l.junior);
+    }
+    r
+}
+
+// Object sets with all seniors of their values, by the first n lines: each junior is settled before its seniors.
+pub fn with_seniors(plain: [u64; 2 * VALUES], lines: [Direct; 21], n: usize) -> [u64; 2 * VALUES]
+    requires { ⌜ (n ≤ linePlaces) × Ordered mostValues (take n lines) ⌝ }
+    ensures { λ r. ⌜ ((k s : ℕ) → Plain plain k s → Stands (heldOrJunior (take n lines)) r k s) ⌝ }
+{
+    let mut r = plain;
+    let mut i: usize = 0;
+    while i < n {
+        let l = lines[i];
+        extend(&mut r, l.junior, l.senior);
+        i += 1;
+    }
+    r
+}

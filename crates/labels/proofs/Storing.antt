@@ -1,0 +1,141 @@
+-- Compiling from a grid: the labels of its rows and columns are those of the policy's sets, and what the parts leave in the buffers is what
+-- compiling is to leave there.
+use Prim.Native.Nat.{ℕ, _+_, _*_, _/_, _%_, _≤_, _<_}
+use mathlib.Core.Path.{_≡_, ap, _∙_}
+use mathlib.Core.Bool.{Bool, true, false, _||_}
+use mathlib.Core.List.{List}
+use native.Mathlib.Omega.{arith}
+use lib.Dec.{ltb}
+use lib.ListN.{length, getD}
+use borrow.Author.Tests.{lt-ltb, le-ltb}
+use Rattle.basis.specs.Choice.{lowest}
+use Rattle.basis.specs.Lists.{over}
+use Rattle.basis.specs.Numbers.{upTo}
+use Rattle.basis.proofs.Bools.{or-right}
+use Rattle.policy.specs.Limits.{actions}
+use Rattle.policy.specs.Policy.{Policy, sets}
+use Rattle.policy.specs.Value.{policyOf}
+use Rattle.policy.specs.Valid.{valid}
+use Rattle.policy.specs.declared.value.PolicyValue.{PolicyValue}
+use Rattle.policy.specs.declared.refusal.Refusal.the-variants.{InvalidState, BufferTooShort}
+use Rattle.formula.specs.Truth.{grants}
+use Rattle.labels.specs.Rows.{entryOf}
+use Rattle.labels.specs.Grid.{cell, turnedView, likeRows, GridOf, Labelled}
+use Rattle.labels.specs.Compile.{likeUsers, likeObjects, NU, NO, entry, userLabel, objectLabel, userResult, objectResult, tableResult, lent, tooShort, compile, compileBuffers, Compiles}
+use Rattle.labels.specs.declared.grid.View.{View}
+use Rattle.labels.specs.declared.Counts.{Counts}
+use Rattle.labels.specs.declared.Compiled.the-variants.{Stored, Refused}
+use Rattle.labels.proofs.Alike.{rows-equivalence, rows-alike, columns-alike}
+use Rattle.labels.proofs.Turn.{labelled-same, labelled-leader}
+use Rattle.labels.proofs.Compile.{length-userResult, length-objectResult, length-tableResult}
+
+-- ---- the labels
+
+module _ {p : Policy} {grid : List ℕ} {view : View} (G : GridOf p grid view) {labels leaders : List ℕ} {count : ℕ} where
+  pub users-labelled : Labelled (likeRows grid view) (view .rows) labels leaders count → Labelled (likeUsers p) (sets (p .user)) labels leaders count
+  unfolding likeUsers entryOf
+  users-labelled s =
+      rw (← G .users, ← G .objects)
+      (labelled-same (rows-alike (cell grid view) (grants p) (actions (p .form)) (view .rows) (view .columns) (G .entries)) s)
+
+  pub objects-labelled : Labelled (likeRows grid (turnedView view)) (view .columns) labels leaders count
+      → Labelled (likeObjects p) (sets (p .object)) labels leaders count
+  unfolding likeObjects entryOf
+  objects-labelled s =
+      rw (← G .users, ← G .objects)
+      (labelled-same
+      (columns-alike (cell grid (turnedView view)) (grants p) (actions (p .form)) (view .rows) (view .columns) (λ o u ho hu.
+      let e : o * view .along + u * view .down ≡ u * view .down + o * view .along = omega arith in
+      ap (λ (x : ℕ). getD grid x 0) e ∙ G .entries u o hu ho)) s)
+
+-- ---- the buffers
+
+abbrev short : List ℕ → List ℕ → Bool
+short buffer result = ltb (length buffer) (length result)
+
+module _ (p : Policy) (us os ts : List ℕ) where
+  users-short : length us < sets (p .user) → tooShort p (lent us os ts) ≡ true
+  users-short h = rw (lt-ltb (length us) (length (userResult p)) (rw (length-userResult p) h))
+
+  objects-short : length os < sets (p .object) → tooShort p (lent us os ts) ≡ true
+  objects-short h =
+      or-right (short us (userResult p)) (short os (objectResult p) || short ts (tableResult p))
+      (rw (lt-ltb (length os) (length (objectResult p)) (rw (length-objectResult p) h)))
+
+  table-short : length ts < NU p * NO p → tooShort p (lent us os ts) ≡ true
+  table-short h =
+      or-right (short us (userResult p)) (short os (objectResult p) || short ts (tableResult p))
+      (or-right (short os (objectResult p)) (short ts (tableResult p))
+      (lt-ltb (length ts) (length (tableResult p)) (rw (length-tableResult p) h)))
+
+  none-short : sets (p .user) ≤ length us → sets (p .object) ≤ length os → NU p * NO p ≤ length ts → tooShort p (lent us os ts) ≡ false
+  none-short a b c =
+      rw (
+        le-ltb (length us) (length (userResult p)) (rw (length-userResult p) a),
+        le-ltb (length os) (length (objectResult p)) (rw (length-objectResult p) b),
+        le-ltb (length ts) (length (tableResult p)) (rw (length-tableResult p) c),
+      )
+
+-- a refusal changes nothing
+pub refused-value : (v : PolicyValue) (us os ts : List ℕ) → valid v ≡ false → Compiles v (lent us os ts) (Refused InvalidState) (lent us os ts)
+unfolding compile compileBuffers lowest
+refused-value v us os ts e = record { answer = rw e; buffers = rw e }
+
+module _ (v : PolicyValue) (ok : valid v ≡ true) (us os ts : List ℕ) where
+  refused-short : tooShort (policyOf v) (lent us os ts) ≡ true → Compiles v (lent us os ts) (Refused BufferTooShort) (lent us os ts)
+  unfolding compile compileBuffers lowest
+  refused-short e = record { answer = rw (ok, e); buffers = rw (ok, e) }
+
+  stored-long : (c : Counts) (us′ os′ ts′ : List ℕ) → tooShort (policyOf v) (lent us os ts) ≡ false
+      → c .users ≡ NU (policyOf v) → c .objects ≡ NO (policyOf v)
+      → us′ ≡ over (userResult (policyOf v)) us → os′ ≡ over (objectResult (policyOf v)) os → ts′ ≡ over (tableResult (policyOf v)) ts
+      → Compiles v (lent us os ts) (Stored c) (lent us′ os′ ts′)
+  unfolding compile compileBuffers lowest
+  stored-long c us′ os′ ts′ e a b qu qo qt = record { answer = rw (ok, e, ← a, ← b); buffers = rw (ok, e, qu, qo, qt) }
+
+-- ---- a grid whose rows and columns are labelled
+
+module _ (v : PolicyValue) (ok : valid v ≡ true) (us os ts : List ℕ) {grid : List ℕ} {view : View} (G : GridOf (policyOf v) grid view) where
+  pub short-users : length us < view .rows → Compiles v (lent us os ts) (Refused BufferTooShort) (lent us os ts)
+  short-users h = refused-short v ok us os ts (users-short (policyOf v) us os ts (rw (← G .users) h))
+
+  pub short-objects : length os < view .columns → Compiles v (lent us os ts) (Refused BufferTooShort) (lent us os ts)
+  short-objects h = refused-short v ok us os ts (objects-short (policyOf v) us os ts (rw (← G .objects) h))
+
+  module _ {lu fu lo fo : List ℕ} (c : Counts) (U : Labelled (likeRows grid view) (view .rows) lu fu (c .users))
+      (O : Labelled (likeRows grid (turnedView view)) (view .columns) lo fo (c .objects)) where
+    users-counted : c .users ≡ NU (policyOf v)
+    unfolding NU
+    users-counted = users-labelled G U .counted
+
+    objects-counted : c .objects ≡ NO (policyOf v)
+    unfolding NO
+    objects-counted = objects-labelled G O .counted
+
+    pub short-table : length ts < c .users * c .objects → Compiles v (lent us os ts) (Refused BufferTooShort) (lent us os ts)
+    short-table h = refused-short v ok us os ts (table-short (policyOf v) us os ts (rw (← users-counted, ← objects-counted) h))
+
+    -- the entry of two labels is that of their leaders
+    leaders-entry : (ul ol : ℕ) → ul < c .users → ol < c .objects → cell grid view (getD fu ul 0) (getD fo ol 0) ≡ entry (policyOf v) ul ol
+    unfolding entry entryOf
+    leaders-entry ul ol hu ho =
+        let x = users-labelled G U in
+        let y = objects-labelled G O in
+        G .entries _ _ (labelled-leader (rows-equivalence _ _ _) U ul hu) (labelled-leader (rows-equivalence _ _ _) O ol ho)
+        ∙ rw (x .leaders-are ul hu, y .leaders-are ol ho)
+
+    -- what three writers leave that put the labels and the table there
+    pub stored-all : (us′ os′ ts′ : List ℕ) → view .rows ≤ length us → view .columns ≤ length os → c .users * c .objects ≤ length ts
+        → ((f : ℕ → ℕ) → ((i : ℕ) → i < view .rows → getD lu i 0 ≡ f i) → us′ ≡ over (upTo f (view .rows)) us)
+        → ((f : ℕ → ℕ) → ((i : ℕ) → i < view .columns → getD lo i 0 ≡ f i) → os′ ≡ over (upTo f (view .columns)) os)
+        → ((f : ℕ → ℕ → ℕ) → ((ul ol : ℕ) → ul < c .users → ol < c .objects → cell grid view (getD fu ul 0) (getD fo ol 0) ≡ f ul ol)
+        → ts′ ≡ over (upTo (λ i. f (i / c .objects) (i % c .objects)) (c .users * c .objects)) ts)
+        → Compiles v (lent us os ts) (Stored c) (lent us′ os′ ts′)
+    unfolding userResult objectResult tableResult
+    stored-all us′ os′ ts′ hu ho ht wu wo wt =
+        let p = policyOf v in
+        let e = none-short (policyOf v) us os ts (rw (← G .users) hu) (rw (← G .objects) ho) (rw (← users-counted, ← objects-counted) ht) in
+        stored-long v ok us os ts c us′ os′ ts′ e users-counted objects-counted
+        (wu (userLabel (policyOf v)) (rw (G .users) (users-labelled G U .labels-are)) ∙ rw (G .users))
+        (wo (objectLabel (policyOf v)) (rw (G .objects) (objects-labelled G O .labels-are)) ∙ rw (G .objects))
+        (wt (entry (policyOf v)) leaders-entry ∙ rw (users-counted, objects-counted))

@@ -1,0 +1,59 @@
+// The labels of one side's sets, which are the rows of a grid.
+use crate::grid;
+use crate::grid::PLACES;
+use crate::grid::View;
+use crate::rows::SETS;
+ghost use mathlib.Core.Path.{_≡_};
+ghost use Prim.Native.Nat.{ℕ, _≤_, _<_};
+ghost use lib.ListN.{getD};
+ghost use Rattle.basis.specs.Numbers.{first};
+ghost use Rattle.labels.specs.Rows.{mostSets};
+ghost use Rattle.labels.specs.Grid.{likeRows, Inside, Labelled};
+
+// The label of each row, the lowest row of each label, and how many labels there are.
+pub struct Classes {
+    pub labels: [u8; SETS],
+    pub leaders: [u8; SETS],
+    pub count: usize,
+}
+
+// The first of `count` labels whose leader is like row u, or `count` where none is.
+fn label_of(grid: &[u8; PLACES], view: View, leaders: &[u8; SETS], count: usize, u: usize) -> usize
+    requires { ⌜ Inside view × (u < view .rows) × (count ≤ mostSets) × ((l : ℕ) → l < count → getD (now leaders) l 0 < view .rows) ⌝ }
+    ensures { λ r. ⌜ r ≡ first (λ l. likeRows (now (grid .entry)) view (getD (now (leaders .entry)) l 0) u) count ⌝ }
+{
+    let columns = view.columns;
+    'next: for l in 0..count {
+        let v = grid::wide(leaders[l]);
+        for o in 0..columns {
+            if grid::entry(grid, view, v, o) != grid::entry(grid, view, u, o) {
+                continue 'next;
+            }
+        }
+        return l;
+    }
+    count
+}
+
+pub fn classify(grid: &[u8; PLACES], view: View) -> Classes
+    requires { ⌜ Inside view ⌝ }
+    ensures { λ r. ⌜ Labelled (likeRows (now (grid .entry)) view) (view .rows) (r .labels) (r .leaders) (r .count) ⌝ }
+{
+    let rows = view.rows;
+    let mut labels = [0u8; SETS];
+    let mut leaders = [0u8; SETS];
+    let mut count: usize = 0;
+    for u in 0..rows {
+        let l = label_of(grid, view, &leaders, count, u);
+        labels[u] = l as u8;
+        if l == count {
+            leaders[count] = u as u8;
+            count += 1;
+        }
+    }
+    Classes {
+        labels,
+        leaders,
+        count,
+    }
+}

@@ -1,0 +1,329 @@
+-- `reader::read` meets its contract: what is held at a place stands for the state of reading there, and what is left to read from it is the text's outcome.
+use Prim.Native.Nat.{_-_}
+use mathlib.Core.Path.{refl}
+use native.Mathlib.Omega.{arith}
+use borrow.Author.Needs.{needs}
+use denote.Ref.{now}
+use lib.ListN.{length}
+use Rattle.policy.specs.Answers.{valueIn}
+use Rattle.reader.proofs.States.{Held, At, Step, at-sides, at-sized, blank-sized, at-start, too-long, at-open, at-ended, at-unended, at-value, step-refused, rule-counted, rule-refused}
+use Rattle.reader.proofs.Turns.{at-form, uattr-room, uattr-sized, at-uattr, oattr-room, oattr-sized, at-oattr, usen-room, at-usen, osen-room, at-osen, user-room, at-user, object-room, at-object, rule-room, at-rule, at-end}
+use Rattle.reader.proofs.read.Statement.{statement}
+use Rattle.reader.proofs.read.Tie as tie
+
+abbrev Inv-loop : tie.InvT-loop
+Inv-loop text form₀ user₀ object₀ users₀ objects₀ rules₀ u₀ o₀ last₀ at₀ n₀ form user object users objects rules u o last at n =
+    At text
+    (record {
+      form = form;
+      user = user;
+      object = object;
+      users = users;
+      objects = objects;
+      rules = rules;
+      userShape = u;
+      objectShape = o;
+      last = last;
+    })
+    at n
+
+abbrev μ-loop : tie.MeasureT-loop
+μ-loop text form₀ user₀ object₀ users₀ objects₀ rules₀ u₀ o₀ last₀ at₀ n₀ form user object users objects rules u o last at n = length text - at
+
+refused-requires : tie.Need-refused-requires Inv-loop μ-loop
+refused-requires c κs = search needs
+
+returns : tie.Need-returns Inv-loop μ-loop
+returns c = rw (too-long (now (c .before .before .before .args .text)) (c .before .if1 .taken)) (c .refused .ensures)
+
+blank-requires : tie.Need-blank-requires Inv-loop μ-loop
+blank-requires c κs = search needs
+
+shape-requires : tie.Need-shape-requires Inv-loop μ-loop
+shape-requires c κs = blank-sized (c .before .before .before .before .before .blank .result) (c .before .before .before .before .before .blank .ensures)
+
+loop-holds : tie.Need-loop-holds Inv-loop μ-loop
+loop-holds c =
+    let v = c .before .before .before .before .before .before .blank in
+    at-start (v .result) (v .ensures) (now (c .before .before .before .before .before .before .before .before .before .args .text)) (c .before .before .before .before .before .before .before .if1 .left) (c .shape .result) (c .shape .ensures)
+
+find-requires : tie.Need-find-requires Inv-loop μ-loop
+find-requires c κs = c .before .loop .inv .within
+
+refused-requires-2 : tie.Need-refused-requires-2 Inv-loop μ-loop
+refused-requires-2 c κs = search needs
+
+returns-2 : tie.Need-returns-2 Inv-loop μ-loop
+returns-2 c = rw (at-open (c .before .before .before .before .loop .inv) (c .before .before .find .result) (c .before .before .find .ensures) (c .before .if2 .taken) (c .before .before .before .loop-test .taken)) (c .refused2 .ensures)
+
+sub-line : tie.Need-sub-line Inv-loop μ-loop
+sub-line c = search needs
+
+part-line-start : tie.Need-part-line-start Inv-loop μ-loop
+part-line-start c = search needs
+
+part-line-end : tie.Need-part-line-end Inv-loop μ-loop
+part-line-end c = search needs
+
+checked-requires : tie.Need-checked-requires Inv-loop μ-loop
+checked-requires c κs = at-sized (c .before .before .before .before .loop .inv)
+
+-- what is held where a line was checked, and that line
+abbrev held : tie.After-checked Inv-loop μ-loop → Held
+held c =
+    let l = c .before .before .before .before .before .loop in
+    record {
+      form = l .form;
+      user = l .user;
+      object = l .object;
+      users = l .users;
+      objects = l .objects;
+      rules = l .rules;
+      userShape = l .u;
+      objectShape = l .o;
+      last = l .last;
+    }
+
+step : (c : tie.After-checked Inv-loop μ-loop)
+    → Step (now (c .before .before .before .before .before .before .before .before .before .before .before .before .before .before .before .args .text)) (held c) (c .before .before .before .before .before .loop .at) (c .before .before .before .before .before .loop .n) (c .before .before .before .find .result) (c .checked .result)
+step c =
+    let i = c .before .before .before .before .before .loop .inv in
+    record {
+      here = i;
+      found = c .before .before .before .find .ensures;
+      ended = c .before .before .if2 .left;
+      checked = c .checked .ensures (i .state .policy) (at-sides i);
+    }
+
+enum-known-f : tie.Need-enum-known-f Inv-loop μ-loop
+enum-known-f c = search needs
+
+refused-requires-3 : tie.Need-refused-requires-3 Inv-loop μ-loop
+refused-requires-3 c κs = search needs
+
+returns-3 : tie.Need-returns-3 Inv-loop μ-loop
+returns-3 c = rw (step-refused (step (c .before .before .before .before)) _ (c .before .before .f .given .1)) (c .refused3 .ensures)
+
+enum-told : tie.Need-enum-told Inv-loop μ-loop
+enum-told c = search needs
+
+add-at : tie.Need-add-at Inv-loop μ-loop
+add-at c = search needs
+
+add-n : tie.Need-add-n Inv-loop μ-loop
+add-n c = let i = c .before .before .before .before .before .before .before .loop .inv in omega (arith, i .few, i .within)
+
+enum-told-2 : tie.Need-enum-told-2 Inv-loop μ-loop
+enum-told-2 c = search needs
+
+loop-less : tie.Need-loop-less Inv-loop μ-loop
+loop-less c = search needs
+
+loop-again : tie.Need-loop-again Inv-loop μ-loop
+loop-again c = at-form (step (c .before .before .before .before)) (c .before .before .enum-told .given .1) (c .enum-told2 .given .1)
+
+enum-told-3 : tie.Need-enum-told-3 Inv-loop μ-loop
+enum-told-3 c = search needs
+
+with-width-requires : tie.Need-with-width-requires Inv-loop μ-loop
+with-width-requires c κs = uattr-room (step (c .before .before .before .before)) (c .before .before .enum-told .given .1) (c .enum-told3 .given .1)
+
+shape-requires-2 : tie.Need-shape-requires-2 Inv-loop μ-loop
+shape-requires-2 c κs = uattr-sized (step (c .before .before .before .before .before)) (c .before .before .before .enum-told .given .1) (c .before .enum-told3 .given .1) (c .with-width .result) (c .with-width .ensures)
+
+loop-less-2 : tie.Need-loop-less-2 Inv-loop μ-loop
+loop-less-2 c = search needs
+
+loop-again-2 : tie.Need-loop-again-2 Inv-loop μ-loop
+loop-again-2 c = at-uattr (step (c .before .before .before .before .before .before)) (c .before .before .before .before .enum-told .given .1) (c .before .before .enum-told3 .given .1) (c .before .with-width .result) (c .before .with-width .ensures) (c .shape2 .result) (c .shape2 .ensures)
+
+enum-told-4 : tie.Need-enum-told-4 Inv-loop μ-loop
+enum-told-4 c = search needs
+
+with-width-requires-2 : tie.Need-with-width-requires-2 Inv-loop μ-loop
+with-width-requires-2 c κs = oattr-room (step (c .before .before .before .before)) (c .before .before .enum-told .given .1) (c .enum-told4 .given .1)
+
+shape-requires-3 : tie.Need-shape-requires-3 Inv-loop μ-loop
+shape-requires-3 c κs = oattr-sized (step (c .before .before .before .before .before)) (c .before .before .before .enum-told .given .1) (c .before .enum-told4 .given .1) (c .with-width2 .result) (c .with-width2 .ensures)
+
+loop-less-3 : tie.Need-loop-less-3 Inv-loop μ-loop
+loop-less-3 c = search needs
+
+loop-again-3 : tie.Need-loop-again-3 Inv-loop μ-loop
+loop-again-3 c = at-oattr (step (c .before .before .before .before .before .before)) (c .before .before .before .before .enum-told .given .1) (c .before .before .enum-told4 .given .1) (c .before .with-width2 .result) (c .before .with-width2 .ensures) (c .shape3 .result) (c .shape3 .ensures)
+
+enum-told-5 : tie.Need-enum-told-5 Inv-loop μ-loop
+enum-told-5 c = search needs
+
+with-line-requires : tie.Need-with-line-requires Inv-loop μ-loop
+with-line-requires c κs = usen-room (step (c .before .before .before .before)) (c .before .before .enum-told .given .1) (c .enum-told5 .given .1)
+
+loop-less-4 : tie.Need-loop-less-4 Inv-loop μ-loop
+loop-less-4 c = search needs
+
+loop-again-4 : tie.Need-loop-again-4 Inv-loop μ-loop
+loop-again-4 c = at-usen (step (c .before .before .before .before .before)) (c .before .before .before .enum-told .given .1) (c .before .enum-told5 .given .1) (c .with-line .result) (c .with-line .ensures)
+
+enum-told-6 : tie.Need-enum-told-6 Inv-loop μ-loop
+enum-told-6 c = search needs
+
+with-line-requires-2 : tie.Need-with-line-requires-2 Inv-loop μ-loop
+with-line-requires-2 c κs = osen-room (step (c .before .before .before .before)) (c .before .before .enum-told .given .1) (c .enum-told6 .given .1)
+
+loop-less-5 : tie.Need-loop-less-5 Inv-loop μ-loop
+loop-less-5 c = search needs
+
+loop-again-5 : tie.Need-loop-again-5 Inv-loop μ-loop
+loop-again-5 c = at-osen (step (c .before .before .before .before .before)) (c .before .before .before .enum-told .given .1) (c .before .enum-told6 .given .1) (c .with-line2 .result) (c .with-line2 .ensures)
+
+enum-told-7 : tie.Need-enum-told-7 Inv-loop μ-loop
+enum-told-7 c = search needs
+
+with-entry-requires : tie.Need-with-entry-requires Inv-loop μ-loop
+with-entry-requires c κs = user-room (step (c .before .before .before .before)) (c .before .before .enum-told .given .1) (c .enum-told7 .given .1)
+
+loop-less-6 : tie.Need-loop-less-6 Inv-loop μ-loop
+loop-less-6 c = search needs
+
+loop-again-6 : tie.Need-loop-again-6 Inv-loop μ-loop
+loop-again-6 c = at-user (step (c .before .before .before .before .before)) (c .before .before .before .enum-told .given .1) (c .before .enum-told7 .given .1) (c .with-entry .result) (c .with-entry .ensures)
+
+enum-told-8 : tie.Need-enum-told-8 Inv-loop μ-loop
+enum-told-8 c = search needs
+
+with-entry-requires-2 : tie.Need-with-entry-requires-2 Inv-loop μ-loop
+with-entry-requires-2 c κs = object-room (step (c .before .before .before .before)) (c .before .before .enum-told .given .1) (c .enum-told8 .given .1)
+
+loop-less-7 : tie.Need-loop-less-7 Inv-loop μ-loop
+loop-less-7 c = search needs
+
+loop-again-7 : tie.Need-loop-again-7 Inv-loop μ-loop
+loop-again-7 c = at-object (step (c .before .before .before .before .before)) (c .before .before .before .enum-told .given .1) (c .before .enum-told8 .given .1) (c .with-entry2 .result) (c .with-entry2 .ensures)
+
+enum-told-9 : tie.Need-enum-told-9 Inv-loop μ-loop
+enum-told-9 c = search needs
+
+admit-requires : tie.Need-admit-requires Inv-loop μ-loop
+admit-requires c κs =
+    let i = step (c .before .before .before .before) in
+    let s = at-sized (i .here) in
+    (rule-counted i (c .before .before .enum-told .given .1) (c .enum-told9 .given .1), s .0, s .1)
+
+enum-known-g : tie.Need-enum-known-g Inv-loop μ-loop
+enum-known-g c = search needs
+
+refused-requires-4 : tie.Need-refused-requires-4 Inv-loop μ-loop
+refused-requires-4 c κs = search needs
+
+returns-4 : tie.Need-returns-4 Inv-loop μ-loop
+returns-4 c =
+    let i = step (c .before .before .before .before .before .before .before .before .before) in
+    rw (rule-refused i (c .before .before .before .before .before .before .before .enum-told .given .1) (c .before .before .before .before .before .enum-told9 .given .1) _ (c .before .before .before .before .admit .ensures (i .here .state .policy) (at-sides (i .here))) _ (c .before .before .g .given .1)) (c .refused4 .ensures)
+
+enum-told-10 : tie.Need-enum-told-10 Inv-loop μ-loop
+enum-told-10 c = search needs
+
+with-rule-requires : tie.Need-with-rule-requires Inv-loop μ-loop
+with-rule-requires c κs =
+    let i = step (c .before .before .before .before .before .before .before .before) in
+    rule-room i (c .before .before .before .before .before .before .enum-told .given .1) (c .before .before .before .before .enum-told9 .given .1) _ (c .before .before .before .admit .ensures (i .here .state .policy) (at-sides (i .here))) (c .before .enum-told10 .given .1)
+
+loop-less-8 : tie.Need-loop-less-8 Inv-loop μ-loop
+loop-less-8 c = search needs
+
+loop-again-8 : tie.Need-loop-again-8 Inv-loop μ-loop
+loop-again-8 c =
+    let i = step (c .before .before .before .before .before .before .before .before .before) in
+    at-rule i (c .before .before .before .before .before .before .before .enum-told .given .1) (c .before .before .before .before .before .enum-told9 .given .1) _ (c .before .before .before .before .admit .ensures (i .here .state .policy) (at-sides (i .here))) (c .before .before .enum-told10 .given .1) (c .with-rule .result) (c .with-rule .ensures)
+
+enum-told-11 : tie.Need-enum-told-11 Inv-loop μ-loop
+enum-told-11 c = search needs
+
+loop-less-9 : tie.Need-loop-less-9 Inv-loop μ-loop
+loop-less-9 c = search needs
+
+loop-again-9 : tie.Need-loop-again-9 Inv-loop μ-loop
+loop-again-9 c = at-end (step (c .before .before .before .before)) (c .before .before .enum-told .given .1) (c .enum-told11 .given .1)
+
+ended-requires : tie.Need-ended-requires Inv-loop μ-loop
+ended-requires c κs = search needs
+
+returns-5 : tie.Need-returns-5 Inv-loop μ-loop
+unfolding valueIn
+returns-5 c = rw (at-ended (c .before .before .before .loop .inv) (c .before .before .loop-test .left) (c .before .ended .result) (c .before .ended .ensures) (c .if3 .taken)) (record { verdict = refl; value = at-value (c .before .before .before .loop .inv) })
+
+refused-requires-5 : tie.Need-refused-requires-5 Inv-loop μ-loop
+refused-requires-5 c κs = search needs
+
+returns-6 : tie.Need-returns-6 Inv-loop μ-loop
+returns-6 c = rw (at-unended (c .before .before .before .before .loop .inv) (c .before .before .before .loop-test .left) (c .before .before .ended .result) (c .before .before .ended .ensures) (c .before .if3 .left)) (c .refused5 .ensures)
+
+pub read-spec : {M : Type 1} → statement M
+read-spec =
+    tie.close
+    (tie.spec
+    Inv-loop
+    μ-loop
+    refused-requires
+    returns
+    blank-requires
+    shape-requires
+    loop-holds
+    find-requires
+    refused-requires-2
+    returns-2
+    sub-line
+    part-line-start
+    part-line-end
+    checked-requires
+    enum-known-f
+    refused-requires-3
+    returns-3
+    enum-told
+    add-at
+    add-n
+    enum-told-2
+    loop-less
+    loop-again
+    enum-told-3
+    with-width-requires
+    shape-requires-2
+    loop-less-2
+    loop-again-2
+    enum-told-4
+    with-width-requires-2
+    shape-requires-3
+    loop-less-3
+    loop-again-3
+    enum-told-5
+    with-line-requires
+    loop-less-4
+    loop-again-4
+    enum-told-6
+    with-line-requires-2
+    loop-less-5
+    loop-again-5
+    enum-told-7
+    with-entry-requires
+    loop-less-6
+    loop-again-6
+    enum-told-8
+    with-entry-requires-2
+    loop-less-7
+    loop-again-7
+    enum-told-9
+    admit-requires
+    enum-known-g
+    refused-requires-4
+    returns-4
+    enum-told-10
+    with-rule-requires
+    loop-less-8
+    loop-again-8
+    enum-told-11
+    loop-less-9
+    loop-again-9
+    ended-requires
+    returns-5
+    refused-requires-5
+    returns-6)

@@ -1,0 +1,142 @@
+// A rule line after its action: refusals 5 to 9.
+ghost use mathlib.Core.Path.{_≡_};
+ghost use mathlib.Core.Bool.{true};
+ghost use Prim.Native.Nat.{ℕ, _≤_};
+ghost use lib.ListN.{length, drop};
+ghost use Rattle.text.specs.Parts.{fields};
+ghost use Rattle.text.specs.declared.kind.Kind.the-variants as kind;
+ghost use Rattle.policy.specs.Line.{countFits};
+ghost use Rattle.policy.specs.Policy as policy;
+ghost use Rattle.policy.specs.Checks.{inRange};
+ghost use Rattle.policy.specs.Value.{wordPlaces, ruleValue};
+ghost use Rattle.reader.specs.Admit.{Sized, Sides, faultyRule, ruleIn, ruleOf, formulaFault, ruleFault, admittedRule};
+use crate::fault::Fault;
+use crate::line::Before;
+use checks::side::Shape;
+use policy::refusal::Refusal;
+use policy::value::RuleValue;
+use policy::value::Slot;
+use text::kind::Kind;
+use words::Parsed;
+use words::Word;
+
+// A rule, or what its line breaks.
+pub struct RuleLine {
+    pub fault: Fault,
+    pub rule: RuleValue,
+}
+
+fn refused(r: Refusal) -> RuleLine
+    ensures { λ x. ⌜ x ≡ faultyRule r ⌝ }
+{
+    let words = [Slot { word: Word::True }; 32];
+    RuleLine {
+        fault: Fault::Is(r),
+        rule: RuleValue {
+            action: 0,
+            count: 0,
+            words,
+        },
+    }
+}
+
+// The words from `from` to the line's end.
+fn words(action: u32, line: &[u8], from: usize) -> RuleLine
+    requires { ⌜ (from ≤ length (now line)) × (length (fields (drop from (now line))) ≤ wordPlaces) ⌝ }
+    ensures { λ r. ⌜ r ≡ ruleIn action (fields (drop from (now (line .entry)))) ⌝ }
+{
+    let mut words = [Slot { word: Word::True }; 32];
+    let mut n: usize = 0;
+    let mut at = from;
+    loop {
+        let e = text::parts::find(line, at, b',');
+        let x = words::parse(&line[at..e]);
+        let Parsed::Is(w) = x else {
+            return refused(Refusal::MalformedField);
+        };
+        words[n] = Slot { word: w };
+        n += 1;
+        if e == line.len() {
+            return RuleLine {
+                fault: Fault::None,
+                rule: RuleValue {
+                    action,
+                    count: n,
+                    words,
+                },
+            };
+        }
+        at = e + 1;
+    }
+}
+
+fn parse(action: u32, line: &[u8]) -> RuleLine
+    requires { ⌜ countFits kind.Rule (length (fields (now line))) ≡ true ⌝ }
+    ensures { λ r. ⌜ r ≡ ruleIn action (drop 2 (fields (now (line .entry)))) ⌝ }
+{
+    let c = text::parts::find(line, 0, b',');
+    let b = text::parts::find(line, c + 1, b',');
+    words(action, line, b + 1)
+}
+
+fn in_range(form: u32, user: Shape, object: Shape, rule: RuleValue) -> bool
+    requires { ⌜ rule .count ≤ wordPlaces ⌝ }
+    ensures { λ r. ⌜ ((p : policy.Policy) (x : policy.Rule) → Sides form user object p → rule ≡ ruleValue x → r ≡ inRange kind.Rule p (x .action) 0 (x .words)) ⌝ }
+{
+    let n = rule.count;
+    let slots = rule.words;
+    if rule.action < checks::limits::actions(form) {
+        return checks::formula::all_fit(user, object, slots, n);
+    }
+    false
+}
+
+fn formula(user: Shape, object: Shape, rule: RuleValue) -> Fault
+    requires { ⌜ (rule .count ≤ wordPlaces) × Sized user × Sized object ⌝ }
+    ensures { λ r. ⌜ ((form : ℕ) (p : policy.Policy) (x : policy.Rule) → Sides form user object p → rule ≡ ruleValue x → r ≡ formulaFault p x) ⌝ }
+{
+    let n = rule.count;
+    let slots = rule.words;
+    if checks::formula::all_equal(user, object, slots, n) {
+        if checks::formula::balanced(slots, n) {
+            return Fault::None;
+        }
+        return Fault::Is(Refusal::UnbalancedFormula);
+    }
+    Fault::Is(Refusal::UnequalWidths)
+}
+
+fn check(before: Before, form: u32, user: Shape, object: Shape, rule: RuleValue) -> Fault
+    requires { ⌜ (rule .count ≤ wordPlaces) × Sized user × Sized object ⌝ }
+    ensures { λ r. ⌜ ((p : policy.Policy) (x : policy.Rule) → Sides form user object p → rule ≡ ruleValue x → r ≡ ruleFault before p x) ⌝ }
+{
+    if in_range(form, user, object, rule) {
+        if crate::admit::rises(before, Kind::Rule, rule.action) {
+            return formula(user, object, rule);
+        }
+        return Fault::Is(Refusal::NotRising);
+    }
+    Fault::Is(Refusal::OutOfRange)
+}
+
+// The rule of a line, or what the line breaks.
+pub fn admit(
+    action: u32,
+    line: &[u8],
+    before: Before,
+    form: u32,
+    user: Shape,
+    object: Shape,
+) -> RuleLine
+    requires { ⌜ (countFits kind.Rule (length (fields (now line))) ≡ true) × Sized user × Sized object ⌝ }
+    ensures { λ r. ⌜ ((p : policy.Policy) → Sides form user object p → r ≡ admittedRule before p action (drop 2 (fields (now (line .entry))))) ⌝ }
+{
+    let x = parse(action, line);
+    let f = x.fault;
+    let Fault::None = f else {
+        return x;
+    };
+    let rule = x.rule;
+    let fault = check(before, form, user, object, rule);
+    RuleLine { fault, rule }
+}

@@ -1,0 +1,111 @@
+// The policy value before the first line, and with one line more.
+ghost use mathlib.Core.Path.{_≡_};
+ghost use mathlib.Core.List.{List, [], _∷_, _++_};
+ghost use Prim.Native.Nat.{_^_, _<_, _≤_};
+ghost use lib.ListN.{take};
+ghost use Rattle.basis.specs.Lists.{sum};
+ghost use Rattle.checks.specs.Sides.{Shaped};
+ghost use Rattle.policy.specs.Policy as policy;
+ghost use Rattle.policy.specs.Checks.{withWidth, withLine, withEntry};
+ghost use Rattle.policy.specs.declared.value.Entry.{Entry};
+ghost use Rattle.policy.specs.Value.{widthPlaces, linePlaces, entryPlaces, rulePlaces, sideValue, register, ruleValue, rulesValue, valueOf};
+use checks::side::Shape;
+use policy::value::Entry;
+use policy::value::PolicyValue;
+use policy::value::Register;
+use policy::value::RuleValue;
+use policy::value::Rules;
+use policy::value::SideValue;
+use policy::value::Slot;
+use seniority::Direct;
+use words::Word;
+
+pub fn blank() -> PolicyValue
+    ensures { λ r. ⌜ r ≡ valueOf policy.blank ⌝ }
+{
+    let words = [Slot { word: Word::True }; 32];
+    let rules = [RuleValue {
+        action: 0,
+        count: 0,
+        words,
+    }; 8];
+    let seniority = [Direct {
+        senior: 0,
+        junior: 0,
+    }; 21];
+    let side = SideValue {
+        attributes: 0,
+        widths: [0; 7],
+        lines: 0,
+        seniority,
+    };
+    let entries = [Entry { number: 0, set: 0 }; 64];
+    let register = Register { count: 0, entries };
+    PolicyValue {
+        form: 0,
+        user: side,
+        object: side,
+        users: register,
+        objects: register,
+        rules: Rules {
+            count: 0,
+            entries: rules,
+        },
+    }
+}
+
+pub fn with_width(side: SideValue, w: u32) -> SideValue
+    requires { ⌜ side .attributes < widthPlaces ⌝ }
+    ensures { λ r. ⌜ ((s : policy.Side) → side ≡ sideValue s → r ≡ sideValue (withWidth w s)) ⌝ }
+{
+    let mut more = side;
+    let i = side.attributes;
+    more.widths[i] = w;
+    more.attributes = i + 1;
+    more
+}
+
+pub fn with_line(side: SideValue, v: u32, j: u32) -> SideValue
+    requires { ⌜ side .lines < linePlaces ⌝ }
+    ensures { λ r. ⌜ ((s : policy.Side) → side ≡ sideValue s → r ≡ sideValue (withLine v j s)) ⌝ }
+{
+    let mut more = side;
+    let i = side.lines;
+    more.seniority[i] = Direct {
+        senior: v,
+        junior: j,
+    };
+    more.lines = i + 1;
+    more
+}
+
+pub fn with_entry(entries: Register, n: u32, s: u32) -> Register
+    requires { ⌜ entries .count < entryPlaces ⌝ }
+    ensures { λ r. ⌜ ((es : List Entry) → entries ≡ register es → r ≡ register (withEntry n s es)) ⌝ }
+{
+    let mut more = entries;
+    let i = entries.count;
+    more.entries[i] = Entry { number: n, set: s };
+    more.count = i + 1;
+    more
+}
+
+pub fn with_rule(rules: Rules, rule: RuleValue) -> Rules
+    requires { ⌜ rules .count < rulePlaces ⌝ }
+    ensures { λ r. ⌜ ((rs : List policy.Rule) (x : policy.Rule) → rules ≡ rulesValue rs → rule ≡ ruleValue x → r ≡ rulesValue (rs ++ (x ∷ []))) ⌝ }
+{
+    let mut more = rules;
+    let i = rules.count;
+    more.entries[i] = rule;
+    more.count = i + 1;
+    more
+}
+
+// The shape of a side.
+pub fn shape(side: SideValue) -> Shape
+    requires { ⌜ (side .attributes ≤ widthPlaces) × (sum (take (side .attributes) (side .widths)) < 2 ^ 32) ⌝ }
+    ensures { λ r. ⌜ ((s : policy.Side) → side ≡ sideValue s → Shaped r s) ⌝ }
+{
+    let widths = side.widths;
+    checks::side::measure(widths, side.attributes)
+}

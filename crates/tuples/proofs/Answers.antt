@@ -1,0 +1,64 @@
+-- Listing and deciding by tuples, answer by answer: which of the tests 11, 12, 19 and 20 come out how.
+use Prim.Native.Nat.{ℕ, _≤_, _<_}
+use mathlib.Core.Path.{_≡_, refl}
+use mathlib.Core.Bool.{Bool, true, false}
+use mathlib.Core.List.{List}
+use lib.Dec.{eqb}
+use lib.ListN.{length, take}
+use borrow.Author.Tests.{le-leb, lt-leb, lt-ltb, le-ltb}
+use Rattle.basis.specs.Choice.{Result, gives, refuses, lowest}
+use Rattle.basis.specs.Lists.{any, over}
+use Rattle.policy.specs.Value.{policyOf}
+use Rattle.policy.specs.Valid.{valid}
+use Rattle.policy.specs.Answers.{refused, decided}
+use Rattle.policy.specs.declared.value.PolicyValue.{PolicyValue}
+use Rattle.formula.specs.Decide.{lacking}
+use Rattle.formula.specs.Lane.{mostActions}
+use Rattle.tuples.specs.Tuples.{stored, tuples, list, listBuffer, decideByTuples}
+
+-- ---- listing
+
+-- the answer, and the buffer afterwards
+abbrev Listed : PolicyValue → ℕ → List ℕ → Result ℕ → List ℕ → Type 0
+Listed v a buffer r after = (r ≡ list v a buffer) × (after ≡ listBuffer v a buffer)
+
+module _ (v : PolicyValue) (a : ℕ) (buffer : List ℕ) where
+  pub list-invalid : valid v ≡ false → Listed v a buffer (refuses 11) buffer
+  unfolding list listBuffer lowest
+  list-invalid e = rw e (refl, refl)
+
+  module _ (e : valid v ≡ true) where
+    pub list-no-action : mostActions ≤ a → Listed v a buffer (refuses 12) buffer
+    unfolding list listBuffer lowest
+    list-no-action h = rw (e, le-leb mostActions a h) (refl, refl)
+
+    pub list-no-room : a < mostActions → length buffer < length (tuples (policyOf v) a) → Listed v a buffer (refuses 20) buffer
+    unfolding list listBuffer lowest
+    list-no-room h l = rw (e, lt-leb mostActions a h, lt-ltb (length buffer) (length (tuples (policyOf v) a)) l) (refl, refl)
+
+    pub list-stored : a < mostActions → length (tuples (policyOf v) a) ≤ length buffer
+        → Listed v a buffer (gives (length (tuples (policyOf v) a))) (over (tuples (policyOf v) a) buffer)
+    unfolding list listBuffer lowest
+    list-stored h l = rw (e, lt-leb mostActions a h, le-ltb (length buffer) (length (tuples (policyOf v) a)) l) (refl, refl)
+
+-- ---- deciding
+
+module _ (v : PolicyValue) (u o : ℕ) (listing : List ℕ) (n : ℕ) where
+  pub decide-invalid : valid v ≡ false → refused 11 ≡ decideByTuples v u o listing n
+  unfolding decideByTuples lowest
+  decide-invalid e = rw e
+
+  module _ (e : valid v ≡ true) where
+    pub decide-no-set : lacking (policyOf v) u o ≡ true → refused 19 ≡ decideByTuples v u o listing n
+    unfolding decideByTuples lowest
+    decide-no-set l = rw (e, l)
+
+    module _ (l : lacking (policyOf v) u o ≡ false) where
+      pub decide-too-many : length listing < n → refused 20 ≡ decideByTuples v u o listing n
+      unfolding decideByTuples lowest
+      decide-too-many h = rw (e, l, lt-ltb (length listing) n h)
+
+      pub decide-by-listing : n ≤ length listing → (r b : Bool) → r ≡ any (eqb (stored (policyOf v) u o)) (take n listing) → r ≡ b
+          → decided b ≡ decideByTuples v u o listing n
+      unfolding decideByTuples lowest
+      decide-by-listing h r b g q = rw (e, l, le-ltb (length listing) n h, ← g, q)
