@@ -1,7 +1,6 @@
--- The line that a refusal names is at most one more than the bytes of the text, by going through its lines: each has a byte of the text, but the last may
--- have none.
+-- What is read: the policy value of an accepted text passes check 11, and the line that a refusal names is at most one more than the bytes of the text.
 use Prim.Native.Nat.{ℕ, suc, _+_, _≤_}
-use mathlib.Core.Path.{_≡_}
+use mathlib.Core.Path.{_≡_, refl, ap}
 use mathlib.Core.Bool.{Bool, true, false, cond}
 use mathlib.Core.List.{List, [], _∷_}
 use mathlib.Core.Option.{Option, none, some}
@@ -12,8 +11,14 @@ use Rattle.basis.specs.Choice.{given}
 use Rattle.text.specs.Kind.{isKind}
 use Rattle.text.specs.Parts.{Line, lineFeed, onto, split, linesOf, lines}
 use Rattle.text.specs.declared.kind.Kind.the-variants.{End}
+use Rattle.policy.specs.Answers.{numberOf, valueIn, ReadAs}
 use Rattle.policy.specs.Limits.{textBytes}
 use Rattle.policy.specs.Read.{Outcome, Accepted, Refused, State, start, lineRefusal, lineAfter, ending, readLines, readText}
+use Rattle.policy.specs.Valid.{valid}
+use Rattle.policy.specs.declared.refusal.Refusal.{Refusal}
+use Rattle.policy.specs.declared.value.Reading.{Reading}
+use Rattle.policy.specs.declared.value.Verdict.the-variants.{Accepted as AcceptedText, Refused as RefusedText}
+use Rattle.policy.proofs.Valid.{yielded-valid}
 
 -- a separator starts one part more
 onto-few : (t : Bool) (x : ℕ) (ps : List (List ℕ)) → length (onto t x ps) ≤ suc (length ps)
@@ -58,5 +63,33 @@ text-line t =
     cond-line (ltb textBytes (length t)) (Refused 1 0) (readLines start 0 (lines t)) (omega arith)
     (omega (arith, lines-line start 0 (lines t), lines-few (split lineFeed t), split-few lineFeed t))
 
-pub refused-line : (t : List ℕ) (n l : ℕ) → readText t ≡ Refused n l → l ≤ suc (length t)
-refused-line t n l e = rw e at (text-line t)
+-- ---- what the code answers
+
+abbrev lineOf : Option (ℕ × ℕ) → ℕ
+lineOf none = 0
+lineOf (some x) = x .1
+
+module _ (t : List ℕ) {r : Reading} where
+  read-cases : (o : Outcome) → readText t ≡ o → ReadAs o r → r .verdict ≡ AcceptedText → valid (r .policy) ≡ true
+  unfolding valueIn
+  read-cases (Accepted p) e x h = rw (x .value) (yielded-valid t p e)
+  read-cases (Refused n l) e x h =
+      let k = rw h at (x .verdict) in
+      let z : _≡_ {A = ℕ} 0 1 = cc in
+      absurd (omega arith)
+
+  -- the policy value of an accepted text passes check 11
+  pub read-valid : ReadAs (readText t) r → r .verdict ≡ AcceptedText → valid (r .policy) ≡ true
+  read-valid x h = read-cases (readText t) refl x h
+
+  line-cases : (o : Outcome) → lineIn o ≤ suc (length t) → ReadAs o r → {q : Refusal} {l : ℕ} → r .verdict ≡ RefusedText q l → l ≤ suc (length t)
+  line-cases (Accepted p) g x {q} {l} h =
+      let k = rw h at (x .verdict) in
+      let z : _≡_ {A = ℕ} 0 1 = cc in
+      absurd (omega arith)
+  line-cases (Refused n m) g x {q} {l} h =
+      let e : l ≡ m = ap lineOf (rw h at (x .verdict)) in
+      omega arith
+
+  pub read-line : ReadAs (readText t) r → {q : Refusal} {l : ℕ} → r .verdict ≡ RefusedText q l → l ≤ suc (length t)
+  read-line x h = line-cases (readText t) (text-line t) x h
