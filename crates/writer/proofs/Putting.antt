@@ -8,6 +8,7 @@ use borrow.Rule.Slice.PartMut.{putMid}
 use lib.ListN.{length, getD, take, drop, set, length-append, length-set, length-drop, drop-of-length-le}
 use lib.Seq.{append-snoc, drop-at, drop-cons, drop-drop, getD-take, length-take-le, set-at, split-at, take-all, take-at, take-suc, take-take}
 use Rattle.basis.specs.Lists.{over}
+use Rattle.basis.proofs.Over.{over-long}
 use Rattle.text.specs.Parts.{lineFeed}
 use Rattle.writer.specs.Put.{Room, Put, each, ended}
 
@@ -17,6 +18,14 @@ put-none b = record { bytes = refl; count = refl; long = refl }
 
 pub shorter : (s t : List ℕ) {b : List ℕ} → Room (s ++ t) b → Room s b
 shorter s t h = record { fits = omega (arith, h .fits, length-append s t) }
+
+-- what was put stands at the start
+pub put-taken : {t b m : List ℕ} {r : ℕ} → Put t b m r → take r m ≡ t
+unfolding over
+put-taken {t} {b} {m} {r} p = ap (take r) (p .bytes) ∙ take-at t (drop (length t) b) r (sym (p .count))
+
+pub put-fits : {t b m : List ℕ} {r : ℕ} → Put t b m r → r ≤ length b
+put-fits {t} {b} p = omega (arith, p .count, p .long, ap length (p .bytes), over-long t b)
 
 -- s was put into b, which is m now; t comes next and has room
 pub record Next (s t b m : List ℕ) (r : ℕ) : Type 0 where
@@ -41,10 +50,6 @@ module _ {s t b m : List ℕ} {r : ℕ} (x : Next s t b m r) where
   unfolding over
   left = ap (drop r) (x .put .bytes) ∙ drop-at s (drop (length s) b) r (sym (x .put .count))
 
-  done : take r m ≡ s
-  unfolding over
-  done = ap (take r) (x .put .bytes) ∙ take-at s (drop (length s) b) r (sym (x .put .count))
-
   module _ {ys : List ℕ} {q : ℕ} (y : Put t (take (length m - r) (drop r m)) ys q) where
     pub next-sum : r + q ≤ length b
     next-sum = omega (arith, next-fits, y .count, x .put .long)
@@ -55,7 +60,7 @@ module _ {s t b m : List ℕ} {r : ℕ} (x : Next s t b m r) where
         let z : length (drop r m) ≤ length m - r = omega (arith, length-drop r m) in
         let e : ys ≡ t ++ drop (length s + length t) b = y .bytes ∙ rw (take-all (length m - r) (drop r m) z, left, drop-drop) in
         let k : putMid r (length m - r) m ys ≡ (s ++ t) ++ drop (length (s ++ t)) b =
-        rw (drop-of-length-le (drop r m) z, append-nil, done, e, length-append) (sym (append-assoc s t (drop (length s + length t) b))) in
+        rw (drop-of-length-le (drop r m) z, append-nil, put-taken (x .put), e, length-append) (sym (append-assoc s t (drop (length s + length t) b))) in
         record {
           bytes = k;
           count = omega (arith, x .put .count, y .count, length-append s t);
@@ -116,10 +121,15 @@ pub record Run {A : Type 0} (f : A → List ℕ) (xs : List A) (n : ℕ) (b : Li
   pub most : i ≤ n
   pub put : Put (each f (take i xs)) b m at
 
-each-append : {A : Type 0} (f : A → List ℕ) (xs ys : List A) → each f (xs ++ ys) ≡ each f xs ++ each f ys
+pub each-append : {A : Type 0} (f : A → List ℕ) (xs ys : List A) → each f (xs ++ ys) ≡ each f xs ++ each f ys
 unfolding each
 each-append f [] ys = refl
 each-append f (x ∷ xs) ys = rw (each-append f xs ys) (sym (append-assoc (f x) (each f xs) (each f ys)))
+
+-- one element more
+pub each-next : {A : Type 0} (f : A → List ℕ) (xs : List A) (i : ℕ) (d : A) → i < length xs → each f (take (i + 1) xs) ≡ each f (take i xs) ++ f (getD xs i d)
+unfolding each
+each-next f xs i d h = rw (add-one i, take-suc xs i d h, each-append, append-nil)
 
 module _ {A : Type 0} {f : A → List ℕ} {xs : List A} {n : ℕ} {b : List ℕ} where
   pub run-start : n ≤ length xs → Room (each f (take n xs)) b → Run f xs n b 0 b 0
@@ -133,10 +143,6 @@ module _ {A : Type 0} {f : A → List ℕ} {xs : List A} {n : ℕ} {b : List ℕ
         rw e at (x .put)
 
     module _ (d : A) (h : i < n) where
-      one-more : each f (take (i + 1) xs) ≡ each f (take i xs) ++ f (getD xs i d)
-      unfolding each
-      one-more = rw (add-one i, take-suc xs i d (omega (arith, x .places)), each-append, append-nil)
-
       pub run-next : Next (each f (take i xs)) (f (getD xs i d)) b m at
       unfolding each
       run-next =
@@ -146,4 +152,4 @@ module _ {A : Type 0} {f : A → List ℕ} {xs : List A} {n : ℕ} {b : List ℕ
           record { put = x .put; room = shorter (each f (take i xs) ++ f (getD xs i d)) (each f (drop (suc i) (take n xs))) (rw e at (x .room)) }
 
       pub run-put : {ys : List ℕ} {q : ℕ} → Put (f (getD xs i d)) (take (length m - at) (drop at m)) ys q → Run f xs n b (i + 1) (putMid at (length m - at) m ys) (at + q)
-      run-put y = record { places = x .places; room = x .room; most = omega arith; put = rw one-more (next-put run-next y) }
+      run-put y = record { places = x .places; room = x .room; most = omega arith; put = rw (each-next f xs i d (omega (arith, x .places))) (next-put run-next y) }

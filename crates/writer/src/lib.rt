@@ -6,7 +6,7 @@ use policy::refusal::Refusal;
 use policy::value::PolicyValue;
 
 mod bytes;
-mod line;
+pub mod line;
 mod lines;
 mod number;
 mod whole;

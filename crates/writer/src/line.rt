@@ -13,7 +13,7 @@ use crate::word;
 use policy::value::Slot;
 
 // A kind word and a number.
-fn put_first(word: &[u8], a: u32, buf: &mut [u8]) -> usize
+pub fn put_first(word: &[u8], a: u32, buf: &mut [u8]) -> usize
     requires { ⌜ Room (now word ++ field (decimal a)) (now buf) ⌝ }
     ensures { λ r. ⌜ Put (now (word .entry) ++ field (decimal a)) (now (buf .entry)) (now (buf .exit)) r ⌝ }
 {

@@ -1,0 +1,5 @@
+pub mod Short
+pub mod Tuples
+pub mod Reading
+pub mod Enough
+pub mod Examples

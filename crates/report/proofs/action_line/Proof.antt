@@ -1,0 +1,23 @@
+-- `report::action_line` meets its contract: there is room for a line of two numbers.
+use borrow.Author.Needs.{needs}
+use lib.Dec.{lit≤}
+use Rattle.basis.specs.Bytes.{bytes}
+use Rattle.report.proofs.Short.{two-room}
+use Rattle.report.proofs.action_line.Statement.{statement}
+use Rattle.report.proofs.action_line.Tie as tie
+
+slice-aggregate-put-two : tie.Need-slice-aggregate-put-two
+slice-aggregate-put-two c = search needs
+
+put-two-requires : tie.Need-put-two-requires
+put-two-requires c κs = two-room (bytes "action") (c .before .before .before .args .action) (c .before .before .before .args .count) (lit≤ tt) (c .before .before .before .pre)
+
+same-length : tie.Need-same-length
+same-length c = search needs
+
+returns : tie.Need-returns
+returns c = search needs
+
+pub action-line-spec : {M : Type 1} → statement M
+action-line-spec =
+    tie.close (tie.spec slice-aggregate-put-two put-two-requires same-length returns)
