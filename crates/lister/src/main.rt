@@ -14,7 +14,6 @@ ghost use Rattle.policy.specs.Value.{policyOf};
 ghost use Rattle.tuples.specs.Tuples as spec;
 ghost use Rattle.labels.specs.Compile.{NU, NO};
 ghost use Rattle.report.specs.Lines.{lineRoom};
-
 use labels::Compiled;
 use labels::Counts;
 use libc::STDIN_FILENO;
@@ -26,7 +25,9 @@ use tuples::Listing;
 
 // One byte more than a text may have, the most sets of a side, and the most pairs of a user set and an object set.
 const INPUT: usize = 8193;
+
 const SETS: usize = 128;
+
 const PAIRS: usize = 16384;
 
 fn input() -> [u8; INPUT]
@@ -63,7 +64,10 @@ fn count_labels(policy: PolicyValue) -> Counts
     let mut entries = table();
     let compiled = labels::compiler::compile(policy, &mut users, &mut objects, &mut entries);
     let Compiled::Stored(counts) = compiled else {
-        return Counts { users: 0, objects: 0 };
+        return Counts {
+            users: 0,
+            objects: 0,
+        };
     };
     counts
 }
@@ -170,7 +174,11 @@ fn write_reading(reading: Reading, buf: &mut [u8]) -> usize
             let at = report::labels_line(counts.users, counts.objects, buf);
             write_rules(policy, buf, at)
         }
-        Verdict::Refused(refusal, line) => report::refusal_line(report::number_of(refusal), line as u32, buf),
+        Verdict::Refused(refusal, line) => report::refusal_line(
+            report::number_of(refusal),
+            line as u32,
+            buf,
+        ),
     }
 }
 

@@ -5,7 +5,6 @@ ghost use lib.ListN.{length};
 ghost use Rattle.policy.specs.Answers.{numberOf};
 ghost use Rattle.writer.specs.Put.{Put};
 ghost use Rattle.report.specs.Lines.{refusalLine, labelsLine, actionLine, setsLine, tupleLine, lineRoom, startRoom, Some};
-
 use policy::refusal::Refusal;
 use writer::line;
 
@@ -98,7 +97,12 @@ fn put_lines(start: &[u8], values: u32, tuples: &[u16], from: usize, buf: &mut [
             return Lines { at, next };
         }
         let n = tuples[next];
-        let m = line::put_two(start, user_set(n, values), object_set(n, values), &mut buf[at..]);
+        let m = line::put_two(
+            start,
+            user_set(n, values),
+            object_set(n, values),
+            &mut buf[at..],
+        );
         at += m;
         next += 1;
     }
