@@ -21,6 +21,7 @@ mod rulings;
 const SESSION_NUMBERS: u32 = 32;
 
 // The entry of a session number: while it is live, which document 01 calls open, its user and the set it holds.
+#[repr(C)]
 pub struct Session {
     pub live: bool,
     pub user: u32,
@@ -28,6 +29,7 @@ pub struct Session {
 }
 
 // An entry for each session number.
+#[repr(C)]
 pub struct Board {
     pub sessions: [Session; 32],
 }

@@ -10,6 +10,7 @@ ghost use Rattle.policy.specs.Value.{widthPlaces, wordPlaces};
 ghost use Rattle.checks.specs.Sides.{Shaped, wordsIn};
 use crate::side::Shape;
 use policy::value::Slot;
+use policy::value::WORD_PLACES;
 use words::Comparison;
 use words::Holding;
 use words::Word;
@@ -90,7 +91,7 @@ pub fn widths_equal(user: Shape, object: Shape, word: Word) -> bool
 }
 
 // Check 6 of the first n words.
-pub fn all_fit(user: Shape, object: Shape, slots: [Slot; 32], n: usize) -> bool
+pub fn all_fit(user: Shape, object: Shape, slots: [Slot; WORD_PLACES], n: usize) -> bool
     requires { ⌜ n ≤ wordPlaces ⌝ }
     ensures { λ r. ⌜ ((p : policy.Policy) → Shaped user (p .user) → Shaped object (p .object) → r ≡ all (checks.wordFits p) (wordsIn slots n)) ⌝ }
 {
@@ -108,7 +109,7 @@ pub fn all_fit(user: Shape, object: Shape, slots: [Slot; 32], n: usize) -> bool
 }
 
 // Check 8 of the first n words.
-pub fn all_equal(user: Shape, object: Shape, slots: [Slot; 32], n: usize) -> bool
+pub fn all_equal(user: Shape, object: Shape, slots: [Slot; WORD_PLACES], n: usize) -> bool
     requires { ⌜ (n ≤ wordPlaces) × (user .attributes ≤ widthPlaces) × (object .attributes ≤ widthPlaces) ⌝ }
     ensures { λ r. ⌜ ((p : policy.Policy) → Shaped user (p .user) → Shaped object (p .object) → r ≡ all (checks.widthsEqual p) (wordsIn slots n)) ⌝ }
 {
@@ -141,7 +142,7 @@ fn takes(word: Word) -> usize
 }
 
 // Check 9 of the first n words.
-pub fn balanced(slots: [Slot; 32], n: usize) -> bool
+pub fn balanced(slots: [Slot; WORD_PLACES], n: usize) -> bool
     requires { ⌜ n ≤ wordPlaces ⌝ }
     ensures { λ r. ⌜ r ≡ checks.balanced 0 (wordsIn slots n) ⌝ }
 {

@@ -8,17 +8,18 @@ ghost use Rattle.policy.specs.Policy as policy;
 ghost use Rattle.policy.specs.Checks.{widthFits, pairFits, pairAbove, entryFits};
 ghost use Rattle.policy.specs.Value.{widthPlaces};
 ghost use Rattle.checks.specs.Sides.{Shaped};
+use policy::value::WIDTH_PLACES;
 use seniority::Direct;
 
 // A side as later lines are checked against it: its attributes, their widths, and the sum of these.
 pub struct Shape {
     pub attributes: usize,
-    pub widths: [u32; 7],
+    pub widths: [u32; WIDTH_PLACES],
     pub total: u32,
 }
 
 // The sum of the first widths.
-fn total_of(widths: [u32; 7], attributes: usize) -> u32
+fn total_of(widths: [u32; WIDTH_PLACES], attributes: usize) -> u32
     requires { ⌜ (attributes ≤ widthPlaces) × (sum (take attributes widths) < 2 ^ 32) ⌝ }
     ensures { λ r. ⌜ r ≡ sum (take attributes widths) ⌝ }
 {
@@ -32,7 +33,7 @@ fn total_of(widths: [u32; 7], attributes: usize) -> u32
 }
 
 // The shape of a side with these widths.
-pub fn measure(widths: [u32; 7], attributes: usize) -> Shape
+pub fn measure(widths: [u32; WIDTH_PLACES], attributes: usize) -> Shape
     requires { ⌜ (attributes ≤ widthPlaces) × (sum (take attributes widths) < 2 ^ 32) ⌝ }
     ensures { λ r. ⌜ ((s : policy.Side) → s .widths ≡ take attributes widths → Shaped r s) ⌝ }
 {
@@ -58,7 +59,7 @@ pub fn width_fits(most: u32, total: u32, w: u32) -> bool
 }
 
 // The attribute that value v is in; their number where it is in none.
-fn attribute_of(widths: [u32; 7], attributes: usize, v: u32) -> usize
+fn attribute_of(widths: [u32; WIDTH_PLACES], attributes: usize, v: u32) -> usize
     requires { ⌜ attributes ≤ widthPlaces ⌝ }
     ensures { λ r. ⌜ r ≡ policy.attributeOf (take attributes widths) v ⌝ }
 {

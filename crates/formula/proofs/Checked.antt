@@ -3,10 +3,10 @@ use mathlib.Core.Path.{_≡_, subst}
 use mathlib.Core.Bool.{true}
 use Rattle.basis.proofs.Padded.{take-padded, take-padded-map}
 use Rattle.basis.proofs.Places.{mapped-each}
-use Rattle.seniority.specs.Seniority.{direct}
+use Rattle.seniority.specs.Seniority.{linePlaces, direct}
 use Rattle.seniority.proofs.Laws.{ordered-more}
 use Rattle.policy.specs.Policy.{Side, Policy, total}
-use Rattle.policy.specs.Value.{linePlaces, rulePlaces, sideValue, ruleValue, rulesValue, noRule, valueOf, policyOf}
+use Rattle.policy.specs.Value.{rulePlaces, sideValue, ruleValue, rulesValue, noRule, valueOf, policyOf}
 use Rattle.policy.specs.Valid.{valid}
 use Rattle.policy.specs.declared.value.PolicyValue.{PolicyValue}
 use Rattle.policy.proofs.Sound.{WithinSide, sound}

@@ -7,10 +7,10 @@ use lib.Bits.{bitOr}
 use lib.ListN.{length, getD, take, set}
 use Rattle.basis.specs.Numbers.{agree, implies}
 use Rattle.sets.specs.Set.{has}
-use Rattle.seniority.specs.Seniority.{heldOrSenior, heldOrJunior, Ordered}
+use Rattle.seniority.specs.Seniority.{linePlaces, heldOrSenior, heldOrJunior, Ordered}
 use Rattle.words.specs.declared.Word.{Word}
 use Rattle.policy.specs.Policy.{Side, Policy, total, start}
-use Rattle.policy.specs.Value.{linePlaces, wordPlaces, rulePlaces, sideOf}
+use Rattle.policy.specs.Value.{wordPlaces, rulePlaces, sideOf}
 use Rattle.policy.specs.declared.value.Slot.{Slot}
 use Rattle.policy.specs.declared.value.RuleValue.{RuleValue}
 use Rattle.policy.specs.declared.value.Rules.{Rules}

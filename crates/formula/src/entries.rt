@@ -2,6 +2,7 @@
 use crate::evaluate;
 use crate::shape::Shape;
 use crate::shape::VALUES;
+use policy::value::RULE_PLACES;
 use policy::value::Rules;
 ghost use mathlib.Core.Path.{_≡_};
 ghost use Prim.Native.Nat.{ℕ, _<_};
@@ -13,7 +14,7 @@ ghost use Rattle.formula.specs.Truth.{grants as granted};
 ghost use Rattle.formula.specs.Lane.{lanes, mostActions, ShapeOf, Pair, RulesFit};
 
 // How many actions there are.
-pub const ACTIONS: usize = 8;
+pub const ACTIONS: usize = RULE_PLACES;
 
 // For each action the pairs at which it is granted: none where it has no rule. The last rule comes first, so an action's first one counts.
 pub fn grants(

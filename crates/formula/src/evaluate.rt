@@ -5,6 +5,7 @@ use crate::shape::Shape;
 use crate::shape::VALUES;
 use crate::side::ALL;
 use policy::value::Slot;
+use policy::value::WORD_PLACES;
 use words::Comparison;
 use words::Holding;
 use words::Word;
@@ -19,9 +20,6 @@ ghost use Rattle.policy.specs.Checks.{equalWidth};
 ghost use Rattle.policy.specs.Value.{wordPlaces};
 ghost use Rattle.formula.specs.Truth.{holds, placeHeld, compares, top, below, step, truth};
 ghost use Rattle.formula.specs.Lane.{lanes, mostValues, ShapeOf, Stands, Pair, wordsOf, passes, column};
-
-// The most words of a formula, and so the most places of a stack.
-pub const WORDS: usize = 32;
 
 // Where a set holds value v with its juniors or seniors taken in.
 fn taken(vectors: &[u64; 2 * VALUES], v: u8) -> u64
@@ -107,7 +105,7 @@ fn compared(s: Shape, users: &[u64; 2 * VALUES], objects: &[u64; 2 * VALUES], c:
 }
 
 // The top of the lowest d places of a stack.
-fn top_of(stack: &[u64; WORDS], d: usize) -> u64
+fn top_of(stack: &[u64; WORD_PLACES], d: usize) -> u64
     requires { ⌜ d ≤ wordPlaces ⌝ }
     ensures { λ r. ⌜ ((k : ℕ) → has r k ≡ top (column (now (stack .entry)) d k)) ⌝ }
 {
@@ -133,7 +131,7 @@ fn worked(
     users: &[u64; 2 * VALUES],
     objects: &[u64; 2 * VALUES],
     w: Word,
-    stack: &[u64; WORDS],
+    stack: &[u64; WORD_PLACES],
     d: usize,
 ) -> Put
     requires { ⌜ ((p : Policy) × ShapeOf p s) × (d ≤ wordPlaces) ⌝ }
@@ -182,13 +180,13 @@ pub fn truths(
     s: Shape,
     users: &[u64; 2 * VALUES],
     objects: &[u64; 2 * VALUES],
-    words: [Slot; WORDS],
+    words: [Slot; WORD_PLACES],
     n: usize,
 ) -> u64
     requires { ⌜ ((p : Policy) × ShapeOf p s) × (n ≤ wordPlaces) ⌝ }
     ensures { λ r. ⌜ ((p : Policy) (k u o : ℕ) → ShapeOf p s → Pair p (now (users .entry)) (now (objects .entry)) k u o → has r k ≡ truth p u o (wordsOf n words)) ⌝ }
 {
-    let mut stack = [0u64; WORDS];
+    let mut stack = [0u64; WORD_PLACES];
     let mut d: usize = 0;
     let mut i: usize = 0;
     while i < n {

@@ -1,8 +1,8 @@
 // The rule of an action.
-use crate::evaluate::WORDS;
 use policy::value::RuleValue;
 use policy::value::Rules;
 use policy::value::Slot;
+use policy::value::WORD_PLACES;
 use words::Word;
 ghost use mathlib.Core.Path.{_≡_};
 ghost use Prim.Native.Nat.{ℕ, _≤_};
@@ -26,7 +26,7 @@ pub fn rule_of(rules: Rules, action: u32) -> RuleValue
         }
         i += 1;
     }
-    let words = [Slot { word: Word::False }; WORDS];
+    let words = [Slot { word: Word::False }; WORD_PLACES];
     RuleValue {
         action,
         count: 1,

@@ -1,5 +1,6 @@
 // Where the attributes of both sides lie among their values.
 use policy::value::SideValue;
+use policy::value::WIDTH_PLACES;
 ghost use mathlib.Core.Path.{_≡_};
 ghost use Prim.Native.Nat.{_≤_};
 ghost use lib.ListN.{take};
@@ -10,7 +11,7 @@ ghost use Rattle.formula.specs.Decide.{lacking};
 ghost use Rattle.formula.specs.Lane.{mostValues, Starts, ShapeOf, SideFits};
 
 // The most values of a side, and so the most attributes.
-pub const VALUES: usize = 7;
+pub const VALUES: usize = WIDTH_PLACES;
 
 // For each side, the first value of each attribute and, past the last one, the number of values.
 pub struct Shape {

@@ -2,12 +2,12 @@
 // does with its juniors (users) or its seniors (objects) taken in.
 use crate::shape::VALUES;
 use seniority::Direct;
+use seniority::LINE_PLACES;
 ghost use mathlib.Core.Path.{_≡_};
 ghost use Prim.Native.Nat.{ℕ, _+_, _*_, _^_, _≤_, _<_};
 ghost use lib.ListN.{take};
 ghost use Rattle.sets.specs.Set.{has};
-ghost use Rattle.seniority.specs.Seniority.{Ordered, heldOrSenior, heldOrJunior};
-ghost use Rattle.policy.specs.Value.{linePlaces};
+ghost use Rattle.seniority.specs.Seniority.{linePlaces, Ordered, heldOrSenior, heldOrJunior};
 ghost use Rattle.formula.specs.Lane.{lanes, mostValues, Plain, Stands, extendedLanes};
 
 // True in every lane.
@@ -83,7 +83,11 @@ fn extend(vectors: &mut [u64; 2 * VALUES], a: u32, b: u32)
 }
 
 // User sets with all juniors of their values, by the first n lines. The last line comes first: each senior is settled before its juniors.
-pub fn with_juniors(plain: [u64; 2 * VALUES], lines: [Direct; 21], n: usize) -> [u64; 2 * VALUES]
+pub fn with_juniors(
+    plain: [u64; 2 * VALUES],
+    lines: [Direct; LINE_PLACES],
+    n: usize,
+) -> [u64; 2 * VALUES]
     requires { ⌜ (n ≤ linePlaces) × Ordered mostValues (take n lines) ⌝ }
     ensures { λ r. ⌜ ((k s : ℕ) → Plain plain k s → Stands (heldOrSenior (take n lines)) r k s) ⌝ }
 {
@@ -98,7 +102,11 @@ pub fn with_juniors(plain: [u64; 2 * VALUES], lines: [Direct; 21], n: usize) -> 
 }
 
 // Object sets with all seniors of their values, by the first n lines: each junior is settled before its seniors.
-pub fn with_seniors(plain: [u64; 2 * VALUES], lines: [Direct; 21], n: usize) -> [u64; 2 * VALUES]
+pub fn with_seniors(
+    plain: [u64; 2 * VALUES],
+    lines: [Direct; LINE_PLACES],
+    n: usize,
+) -> [u64; 2 * VALUES]
     requires { ⌜ (n ≤ linePlaces) × Ordered mostValues (take n lines) ⌝ }
     ensures { λ r. ⌜ ((k s : ℕ) → Plain plain k s → Stands (heldOrJunior (take n lines)) r k s) ⌝ }
 {

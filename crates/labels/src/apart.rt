@@ -4,6 +4,7 @@ use crate::Witness;
 use crate::grid;
 use crate::rows;
 use crate::rows::Source;
+use formula::entries;
 use policy::refusal::Refusal;
 use policy::value::PolicyValue;
 ghost use mathlib.Core.Path.{_≡_};
@@ -17,7 +18,7 @@ ghost use Rattle.labels.specs.Rows.{mostSets, SourceOf, firstAction};
 ghost use Rattle.labels.specs.Apart.{apartRefusal, Tells};
 
 // How many actions an entry has room for.
-const ACTIONS: u32 = 8;
+const ACTIONS: u32 = entries::ACTIONS as u32;
 
 // The first action that one of two entries has and the other lacks, or ACTIONS where there is none.
 fn first_action(x: u8, y: u8) -> u32

@@ -2,10 +2,10 @@
 use policy::refusal::Refusal;
 
 pub mod apart;
-pub mod classify;
+mod classify;
 pub mod compiler;
-pub mod grid;
-pub mod rows;
+mod grid;
+mod rows;
 
 // The label of a user set, and that of an object set: two sorts, so that neither stands where the other is due.
 pub struct UserLabel(pub u8);

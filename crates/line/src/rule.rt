@@ -16,6 +16,7 @@ use checks::side::Shape;
 use policy::refusal::Refusal;
 use policy::value::RuleValue;
 use policy::value::Slot;
+use policy::value::WORD_PLACES;
 use text::kind::Kind;
 use words::Parsed;
 use words::Word;
@@ -29,7 +30,7 @@ pub struct RuleLine {
 fn refused(r: Refusal) -> RuleLine
     ensures { λ x. ⌜ x ≡ faultyRule r ⌝ }
 {
-    let words = [Slot { word: Word::True }; 32];
+    let words = [Slot { word: Word::True }; WORD_PLACES];
     RuleLine {
         fault: Fault::Is(r),
         rule: RuleValue {
@@ -45,7 +46,7 @@ fn words(action: u32, line: &[u8], from: usize) -> RuleLine
     requires { ⌜ (from ≤ length (now line)) × (length (fields (drop from (now line))) ≤ wordPlaces) ⌝ }
     ensures { λ r. ⌜ r ≡ ruleIn action (fields (drop from (now (line .entry)))) ⌝ }
 {
-    let mut words = [Slot { word: Word::True }; 32];
+    let mut words = [Slot { word: Word::True }; WORD_PLACES];
     let mut n: usize = 0;
     let mut at = from;
     loop {

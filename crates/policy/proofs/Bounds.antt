@@ -20,7 +20,7 @@ use Rattle.words.specs.declared.Word.{Word}
 use Rattle.words.specs.declared.Word.the-variants.{True, False, Holds, Compares, Not, And, Or}
 use Rattle.words.specs.declared.Holding.the-variants.{User as UserValue, Object as ObjectValue}
 use Rattle.words.specs.declared.Comparison.the-variants.{Dominates, Equals}
-use Rattle.words.proofs.RoundTrip.{inDigits}
+use Rattle.words.specs.Word.{inDigits}
 use Rattle.policy.specs.Limits.{values, actions, userNumbers, objectNumbers}
 use Rattle.policy.specs.Policy.{Side, Rule, Policy, total, sets, attributeOf}
 use Rattle.policy.specs.Checks.{widthFits, pairFits, entryFits, bothThere, wordFits}

@@ -14,11 +14,11 @@ use Rattle.text.specs.Kind.{wordOf}
 use Rattle.text.specs.declared.kind.Kind.{Kind}
 use Rattle.text.specs.declared.kind.Kind.the-variants.{Policy as PolicyKind, Uattr, Oattr, Usen, Osen, User, Object, Rule as RuleKind, End}
 use Rattle.text.proofs.RoundTrip.{decimal-number, decimal-value, value-decimal}
-use Rattle.words.specs.Word.{parsed, isWord, wordIn, written}
+use Rattle.words.specs.Word.{parsed, isWord, wordIn, written, inDigits}
 use Rattle.words.specs.declared.Word.{Word}
 use Rattle.words.specs.declared.Parsed.{Parsed}
 use Rattle.words.specs.declared.Parsed.the-variants.{Is, Malformed}
-use Rattle.words.proofs.RoundTrip.{inDigits, parsed-written, written-parsed}
+use Rattle.words.proofs.RoundTrip.{parsed-written, written-parsed}
 use Rattle.policy.specs.Limits.{mostWords}
 use Rattle.policy.specs.Line.{Line, countFits, fieldAt, numbers, formFits, plain, one, two, ruleLine, lineOf}
 use Rattle.policy.specs.Text.{laterFields}

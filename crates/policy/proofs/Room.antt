@@ -7,12 +7,12 @@ use mathlib.Core.Option.{none}
 use native.Mathlib.Omega.{arith}
 use lib.ListN.{length}
 use Rattle.basis.proofs.Snoc.{length-snoc}
-use Rattle.seniority.specs.Seniority.{direct}
+use Rattle.seniority.specs.Seniority.{linePlaces, direct}
 use Rattle.text.specs.declared.kind.Kind.the-variants.{Rule as RuleKind}
 use Rattle.words.specs.declared.Word.{Word}
 use Rattle.policy.specs.Policy.{Side, Rule, Policy}
 use Rattle.policy.specs.Checks.{widthFits, pairFits, entryFits, pairRises, entryRises, withRules, withLine}
-use Rattle.policy.specs.Value.{widthPlaces, linePlaces, rulePlaces}
+use Rattle.policy.specs.Value.{widthPlaces, rulePlaces}
 use Rattle.policy.specs.declared.value.Entry.{Entry}
 use Rattle.policy.proofs.Sound.{ruleSound}
 use Rattle.policy.proofs.Rising.{rising}

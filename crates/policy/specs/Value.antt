@@ -3,7 +3,7 @@ use Prim.Native.Nat.{ℕ}
 use mathlib.Core.List.{List, [], map}
 use lib.ListN.{length, take}
 use Rattle.basis.specs.Lists.{padded}
-use Rattle.seniority.specs.Seniority.{direct}
+use Rattle.seniority.specs.Seniority.{linePlaces, direct}
 use Rattle.seniority.specs.declared.Direct.{Direct}
 use Rattle.words.specs.declared.Word.{Word}
 use Rattle.words.specs.declared.Word.the-variants.{True}
@@ -19,9 +19,6 @@ use Rattle.policy.specs.declared.value.PolicyValue.{PolicyValue}
 -- the places of each array
 abbrev pub widthPlaces : ℕ
 widthPlaces = 7
-
-abbrev pub linePlaces : ℕ
-linePlaces = 21
 
 abbrev pub entryPlaces : ℕ
 entryPlaces = 64

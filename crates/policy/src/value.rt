@@ -1,25 +1,38 @@
 // The policy value: what the text says, line by line and in text order; every place past a count is blank.
 use seniority::Direct;
+use seniority::LINE_PLACES;
 use words::Word;
 
+// The places of each array of a policy value.
+pub const WIDTH_PLACES: usize = 7;
+
+pub const ENTRY_PLACES: usize = 64;
+
+pub const WORD_PLACES: usize = 32;
+
+pub const RULE_PLACES: usize = 8;
+
 // One side, users or objects: the widths of its attributes and its direct seniorities.
+#[repr(C)]
 pub struct SideValue {
     pub attributes: usize,
-    pub widths: [u32; 7],
+    pub widths: [u32; WIDTH_PLACES],
     pub lines: usize,
-    pub seniority: [Direct; 21],
+    pub seniority: [Direct; LINE_PLACES],
 }
 
 // A registered user or object: its number and its set.
+#[repr(C)]
 pub struct Entry {
     pub number: u32,
     pub set: u32,
 }
 
 // The registered users, or objects. There are at most 32 users.
+#[repr(C)]
 pub struct Register {
     pub count: usize,
-    pub entries: [Entry; 64],
+    pub entries: [Entry; ENTRY_PLACES],
 }
 
 // A word in a struct of its own: an array of enums cannot be a field.
@@ -31,12 +44,12 @@ pub struct Slot {
 pub struct RuleValue {
     pub action: u32,
     pub count: usize,
-    pub words: [Slot; 32],
+    pub words: [Slot; WORD_PLACES],
 }
 
 pub struct Rules {
     pub count: usize,
-    pub entries: [RuleValue; 8],
+    pub entries: [RuleValue; RULE_PLACES],
 }
 
 pub struct PolicyValue {

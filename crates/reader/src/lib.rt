@@ -12,14 +12,12 @@ mod value;
 
 use line::fault::Fault;
 use line::numbers::Before;
+use policy::TEXT_BYTES;
 use policy::refusal::Refusal;
 use policy::value::PolicyValue;
 use policy::value::Reading;
 use policy::value::Verdict;
 use text::kind::Kind;
-
-// The longest text.
-const MOST_BYTES: usize = 8192;
 
 fn refused(r: Refusal, line: usize) -> Reading
     ensures { λ x. ⌜ ReadAs (Refused (numberOf r) line) x ⌝ }
@@ -45,7 +43,7 @@ fn ended(before: Before) -> bool
 pub fn read(text: &[u8]) -> Reading
     ensures { λ r. ⌜ ReadAs (readText (now (text .entry))) r ⌝ }
 {
-    if MOST_BYTES < text.len() {
+    if TEXT_BYTES < text.len() {
         return refused(Refusal::TextTooLong, 0);
     }
     let mut form = 0;

@@ -4,20 +4,26 @@ ghost use mathlib.Core.List.{List, [], _∷_, _++_};
 ghost use Prim.Native.Nat.{_^_, _<_, _≤_};
 ghost use lib.ListN.{take};
 ghost use Rattle.basis.specs.Lists.{sum};
+ghost use Rattle.seniority.specs.Seniority.{linePlaces};
 ghost use Rattle.checks.specs.Sides.{Shaped};
 ghost use Rattle.policy.specs.Policy as policy;
 ghost use Rattle.policy.specs.Checks.{withWidth, withLine, withEntry};
 ghost use Rattle.policy.specs.declared.value.Entry.{Entry};
-ghost use Rattle.policy.specs.Value.{widthPlaces, linePlaces, entryPlaces, rulePlaces, sideValue, register, ruleValue, rulesValue, valueOf};
+ghost use Rattle.policy.specs.Value.{widthPlaces, entryPlaces, rulePlaces, sideValue, register, ruleValue, rulesValue, valueOf};
 use checks::side::Shape;
+use policy::value::ENTRY_PLACES;
 use policy::value::Entry;
 use policy::value::PolicyValue;
+use policy::value::RULE_PLACES;
 use policy::value::Register;
 use policy::value::RuleValue;
 use policy::value::Rules;
 use policy::value::SideValue;
 use policy::value::Slot;
+use policy::value::WIDTH_PLACES;
+use policy::value::WORD_PLACES;
 use seniority::Direct;
+use seniority::LINE_PLACES;
 use words::Word;
 
 pub fn no_lines() -> SideValue
@@ -26,10 +32,10 @@ pub fn no_lines() -> SideValue
     let seniority = [Direct {
         senior: 0,
         junior: 0,
-    }; 21];
+    }; LINE_PLACES];
     SideValue {
         attributes: 0,
-        widths: [0; 7],
+        widths: [0; WIDTH_PLACES],
         lines: 0,
         seniority,
     }
@@ -38,19 +44,19 @@ pub fn no_lines() -> SideValue
 pub fn no_entries() -> Register
     ensures { λ r. ⌜ r ≡ register [] ⌝ }
 {
-    let entries = [Entry { number: 0, set: 0 }; 64];
+    let entries = [Entry { number: 0, set: 0 }; ENTRY_PLACES];
     Register { count: 0, entries }
 }
 
 pub fn no_rules() -> Rules
     ensures { λ r. ⌜ r ≡ rulesValue [] ⌝ }
 {
-    let words = [Slot { word: Word::True }; 32];
+    let words = [Slot { word: Word::True }; WORD_PLACES];
     let entries = [RuleValue {
         action: 0,
         count: 0,
         words,
-    }; 8];
+    }; RULE_PLACES];
     Rules { count: 0, entries }
 }
 

@@ -10,14 +10,12 @@ ghost use Rattle.policy.specs.Value.{entryPlaces, noEntry};
 ghost use Rattle.policy.specs.Valid.{sameEntry};
 ghost use Rattle.policy.proofs.Sound.{entriesSound};
 ghost use Rattle.validity.specs.Parts.{registerValid};
+use policy::value::ENTRY_PLACES;
 use policy::value::Entry;
 use policy::value::Register;
 
-// The places of the array.
-const ENTRIES: usize = 64;
-
 // The first n entries pass their checks one after the other.
-fn entries_sound(most: u32, total: u32, entries: [Entry; 64], n: usize) -> bool
+fn entries_sound(most: u32, total: u32, entries: [Entry; ENTRY_PLACES], n: usize) -> bool
     requires { ⌜ (n ≤ entryPlaces) × (total < masks) ⌝ }
     ensures { λ r. ⌜ ((s : policy.Side) → total ≡ policy.total s → r ≡ entriesSound most s none (take n entries)) ⌝ }
 {
@@ -47,11 +45,11 @@ fn no_entry(e: Entry) -> bool
 }
 
 // Every entry from place n on is blank.
-fn entries_blank(entries: [Entry; 64], n: usize) -> bool
+fn entries_blank(entries: [Entry; ENTRY_PLACES], n: usize) -> bool
     ensures { λ r. ⌜ r ≡ all (sameEntry noEntry) (drop n entries) ⌝ }
 {
     let mut i = n;
-    while i < ENTRIES {
+    while i < ENTRY_PLACES {
         let e = entries[i];
         if !no_entry(e) {
             return false;
@@ -67,7 +65,7 @@ pub fn register_valid(most: u32, total: u32, x: Register) -> bool
     ensures { λ r. ⌜ ((s : policy.Side) → total ≡ policy.total s → r ≡ registerValid most s x) ⌝ }
 {
     let n = x.count;
-    if ENTRIES < n {
+    if ENTRY_PLACES < n {
         return false;
     }
     let entries = x.entries;

@@ -10,15 +10,12 @@ ghost use Rattle.policy.specs.Valid.{sameSlot, sameRule};
 ghost use Rattle.policy.proofs.Sound.{ruleSound};
 ghost use Rattle.validity.specs.Parts.{ShapedBy, ruleValid, rulesRising, rulesValid};
 use checks::side::Shape;
+use policy::value::RULE_PLACES;
 use policy::value::RuleValue;
 use policy::value::Rules;
 use policy::value::Slot;
+use policy::value::WORD_PLACES;
 use words::Word;
-
-// The places of the arrays.
-const WORDS: usize = 32;
-
-const RULES: usize = 8;
 
 // A blank place holds the word `t`.
 fn no_word(w: Word) -> bool
@@ -36,11 +33,11 @@ fn no_word(w: Word) -> bool
 }
 
 // Every word from place n on is blank.
-fn words_blank(slots: [Slot; 32], n: usize) -> bool
+fn words_blank(slots: [Slot; WORD_PLACES], n: usize) -> bool
     ensures { λ r. ⌜ r ≡ all (sameSlot (slot word.True)) (drop n slots) ⌝ }
 {
     let mut i = n;
-    while i < WORDS {
+    while i < WORD_PLACES {
         let s = slots[i];
         let w = s.word;
         if !no_word(w) {
@@ -76,7 +73,7 @@ fn rule_valid(actions: u32, user: Shape, object: Shape, x: RuleValue) -> bool
     ensures { λ r. ⌜ ((p : Policy) → ShapedBy actions user object p → r ≡ ruleValid p x) ⌝ }
 {
     let n = x.count;
-    if WORDS < n {
+    if WORD_PLACES < n {
         return false;
     }
     if !rule_sound(actions, user, object, x) {
@@ -87,7 +84,13 @@ fn rule_valid(actions: u32, user: Shape, object: Shape, x: RuleValue) -> bool
 }
 
 // The first n rules pass their checks one after the other.
-fn rules_sound(actions: u32, user: Shape, object: Shape, rules: [RuleValue; 8], n: usize) -> bool
+fn rules_sound(
+    actions: u32,
+    user: Shape,
+    object: Shape,
+    rules: [RuleValue; RULE_PLACES],
+    n: usize,
+) -> bool
     requires { ⌜ (n ≤ rulePlaces) × (user .attributes ≤ widthPlaces) × (object .attributes ≤ widthPlaces) ⌝ }
     ensures { λ r. ⌜ ((p : Policy) → ShapedBy actions user object p → r ≡ rulesRising p (take n rules)) ⌝ }
 {
@@ -121,11 +124,11 @@ fn no_rule(x: RuleValue) -> bool
 }
 
 // Every rule from place n on is blank.
-fn rules_blank(rules: [RuleValue; 8], n: usize) -> bool
+fn rules_blank(rules: [RuleValue; RULE_PLACES], n: usize) -> bool
     ensures { λ r. ⌜ r ≡ all (sameRule noRule) (drop n rules) ⌝ }
 {
     let mut i = n;
-    while i < RULES {
+    while i < RULE_PLACES {
         let x = rules[i];
         if !no_rule(x) {
             return false;
@@ -141,7 +144,7 @@ pub fn rules_valid(actions: u32, user: Shape, object: Shape, x: Rules) -> bool
     ensures { λ r. ⌜ ((p : Policy) → ShapedBy actions user object p → r ≡ rulesValid p x) ⌝ }
 {
     let n = x.count;
-    if RULES < n {
+    if RULE_PLACES < n {
         return false;
     }
     let rules = x.entries;

@@ -6,24 +6,21 @@ ghost use lib.Dec.{eqb};
 ghost use lib.ListN.{take, drop};
 ghost use Rattle.basis.specs.Lists.{all, sum};
 ghost use Rattle.sets.specs.Set.{masks};
-ghost use Rattle.seniority.specs.Seniority.{direct};
+ghost use Rattle.seniority.specs.Seniority.{linePlaces, direct};
 ghost use Rattle.policy.specs.Policy as policy;
-ghost use Rattle.policy.specs.Value.{widthPlaces, linePlaces, sideOf};
+ghost use Rattle.policy.specs.Value.{widthPlaces, sideOf};
 ghost use Rattle.policy.specs.Valid.{sameLine};
 ghost use Rattle.policy.proofs.Sound.{widthsSound, linesSound};
 ghost use Rattle.checks.specs.Sides.{Shaped};
 ghost use Rattle.validity.specs.Parts.{widthsValid, linesValid, sideValid, SmallShape};
 use checks::side::Shape;
 use policy::value::SideValue;
+use policy::value::WIDTH_PLACES;
 use seniority::Direct;
-
-// The places of the arrays.
-const WIDTHS: usize = 7;
-
-const LINES: usize = 21;
+use seniority::LINE_PLACES;
 
 // The first n widths pass their check one after the other.
-fn widths_sound(most: u32, widths: [u32; 7], n: usize) -> bool
+fn widths_sound(most: u32, widths: [u32; WIDTH_PLACES], n: usize) -> bool
     requires { ⌜ n ≤ widthPlaces ⌝ }
     ensures { λ r. ⌜ r ≡ widthsSound most 0 (take n widths) ⌝ }
 {
@@ -41,11 +38,11 @@ fn widths_sound(most: u32, widths: [u32; 7], n: usize) -> bool
 }
 
 // Every width from place n on is 0.
-fn widths_blank(widths: [u32; 7], n: usize) -> bool
+fn widths_blank(widths: [u32; WIDTH_PLACES], n: usize) -> bool
     ensures { λ r. ⌜ r ≡ all (eqb 0) (drop n widths) ⌝ }
 {
     let mut i = n;
-    while i < WIDTHS {
+    while i < WIDTH_PLACES {
         let w = widths[i];
         if w != 0 {
             return false;
@@ -56,13 +53,13 @@ fn widths_blank(widths: [u32; 7], n: usize) -> bool
 }
 
 // At least one width and no more than there are places, each sound, and nothing behind the last.
-fn widths_valid(most: u32, widths: [u32; 7], n: usize) -> bool
+fn widths_valid(most: u32, widths: [u32; WIDTH_PLACES], n: usize) -> bool
     ensures { λ r. ⌜ r ≡ widthsValid most widths n ⌝ }
 {
     if n < 1 {
         return false;
     }
-    if WIDTHS < n {
+    if WIDTH_PLACES < n {
         return false;
     }
     if !widths_sound(most, widths, n) {
@@ -72,7 +69,7 @@ fn widths_valid(most: u32, widths: [u32; 7], n: usize) -> bool
 }
 
 // The first n lines pass their checks one after the other.
-fn lines_sound(side: Shape, lines: [Direct; 21], n: usize) -> bool
+fn lines_sound(side: Shape, lines: [Direct; LINE_PLACES], n: usize) -> bool
     requires { ⌜ (n ≤ linePlaces) × (side .attributes ≤ widthPlaces) ⌝ }
     ensures { λ r. ⌜ ((s : policy.Side) → Shaped side s → r ≡ linesSound s none (take n lines)) ⌝ }
 {
@@ -105,11 +102,11 @@ fn no_line(l: Direct) -> bool
 }
 
 // Every line from place n on is blank.
-fn lines_blank(lines: [Direct; 21], n: usize) -> bool
+fn lines_blank(lines: [Direct; LINE_PLACES], n: usize) -> bool
     ensures { λ r. ⌜ r ≡ all (sameLine (direct 0 0)) (drop n lines) ⌝ }
 {
     let mut i = n;
-    while i < LINES {
+    while i < LINE_PLACES {
         let l = lines[i];
         if !no_line(l) {
             return false;
@@ -120,11 +117,11 @@ fn lines_blank(lines: [Direct; 21], n: usize) -> bool
 }
 
 // No more lines than there are places, each sound, and nothing behind the last.
-fn lines_valid(side: Shape, lines: [Direct; 21], n: usize) -> bool
+fn lines_valid(side: Shape, lines: [Direct; LINE_PLACES], n: usize) -> bool
     requires { ⌜ side .attributes ≤ widthPlaces ⌝ }
     ensures { λ r. ⌜ ((s : policy.Side) → Shaped side s → r ≡ linesValid s lines n) ⌝ }
 {
-    if LINES < n {
+    if LINE_PLACES < n {
         return false;
     }
     if !lines_sound(side, lines, n) {

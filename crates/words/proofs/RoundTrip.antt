@@ -13,25 +13,13 @@ use Rattle.basis.proofs.Bools.{and-left, and-right}
 use Rattle.text.specs.Number.{isDigit, digitOf}
 use Rattle.text.specs.Parts.{comma, lineFeed}
 use Rattle.text.proofs.RoundTrip.{digit-is, digit-bounds, lacks, lacks-failing}
-use Rattle.words.specs.Word.{letter, holding, comparison, parsed, written}
+use Rattle.words.specs.Word.{letter, holding, comparison, parsed, written, inDigits}
 use Rattle.words.specs.declared.Holding.the-variants.{User, Object}
 use Rattle.words.specs.declared.Comparison.the-variants.{Dominates, Equals}
 use Rattle.words.specs.declared.Word.{Word}
 use Rattle.words.specs.declared.Word.the-variants.{True, False, Holds, Compares, Not, And, Or}
 use Rattle.words.specs.declared.Parsed.{Parsed}
 use Rattle.words.specs.declared.Parsed.the-variants.{Is, Malformed}
-
--- the numbers of a word are digits
-unfoldable pub inDigits : Word → Bool
-inDigits True = true
-inDigits False = true
-inDigits (Holds (User v)) = ltb v 10
-inDigits (Holds (Object v)) = ltb v 10
-inDigits (Compares (Dominates i j)) = ltb i 10 && ltb j 10
-inDigits (Compares (Equals i j)) = ltb i 10 && ltb j 10
-inDigits Not = true
-inDigits And = true
-inDigits Or = true
 
 -- ---- there and back
 

@@ -9,7 +9,7 @@ use Rattle.basis.specs.Lists.{all}
 use Rattle.basis.proofs.Lists.{all-of, all-map}
 use Rattle.basis.proofs.Padded.{take-padded-map}
 use Rattle.words.specs.declared.Word.the-variants.{True}
-use Rattle.words.proofs.RoundTrip.{inDigits}
+use Rattle.words.specs.Word.{inDigits}
 use Rattle.policy.specs.Limits.{textBytes}
 use Rattle.policy.specs.Policy.{Side, Rule, Policy}
 use Rattle.policy.specs.Text.{textOf}

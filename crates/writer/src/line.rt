@@ -11,6 +11,7 @@ use crate::bytes;
 use crate::number;
 use crate::word;
 use policy::value::Slot;
+use policy::value::WORD_PLACES;
 
 // A kind word and a number.
 pub fn put_first(word: &[u8], a: u32, buf: &mut [u8]) -> usize
@@ -45,7 +46,7 @@ pub fn put_two(word: &[u8], a: u32, b: u32, buf: &mut [u8]) -> usize
 }
 
 // The first n words, each with a comma before it.
-fn put_words(words: [Slot; 32], n: usize, buf: &mut [u8]) -> usize
+fn put_words(words: [Slot; WORD_PLACES], n: usize, buf: &mut [u8]) -> usize
     requires { ⌜ (n ≤ wordPlaces) × (allInDigits (take n words) ≡ true) × (Room (wordFields (take n words)) (now buf)) ⌝ }
     ensures { λ r. ⌜ Put (wordFields (take n words)) (now (buf .entry)) (now (buf .exit)) r ⌝ }
 {
@@ -62,7 +63,7 @@ fn put_words(words: [Slot; 32], n: usize, buf: &mut [u8]) -> usize
 }
 
 // A rule line.
-pub fn put_rule(word: &[u8], a: u32, words: [Slot; 32], n: usize, buf: &mut [u8]) -> usize
+pub fn put_rule(word: &[u8], a: u32, words: [Slot; WORD_PLACES], n: usize, buf: &mut [u8]) -> usize
     requires { ⌜ (n ≤ wordPlaces) × (allInDigits (take n words) ≡ true) × (Room (wordsLine (now word) a (take n words)) (now buf)) ⌝ }
     ensures { λ r. ⌜ Put (wordsLine (now (word .entry)) a (take n words)) (now (buf .entry)) (now (buf .exit)) r ⌝ }
 {

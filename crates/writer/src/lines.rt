@@ -4,15 +4,20 @@ ghost use mathlib.Core.Bool.{true};
 ghost use Prim.Native.Nat.{_≤_};
 ghost use lib.ListN.{take};
 ghost use Rattle.basis.specs.Lists.{all};
-ghost use Rattle.policy.specs.Value.{widthPlaces, linePlaces, entryPlaces, rulePlaces};
+ghost use Rattle.seniority.specs.Seniority.{linePlaces};
+ghost use Rattle.policy.specs.Value.{widthPlaces, entryPlaces, rulePlaces};
 ghost use Rattle.writer.specs.Put.{Room, Put, each, oneLine, pairLine, entryLine, ruleLine, ruleWritable};
 use crate::line;
+use policy::value::ENTRY_PLACES;
 use policy::value::Entry;
+use policy::value::RULE_PLACES;
 use policy::value::RuleValue;
+use policy::value::WIDTH_PLACES;
 use seniority::Direct;
+use seniority::LINE_PLACES;
 
 // The first n widths of a side.
-pub fn put_widths(word: &[u8], widths: [u32; 7], n: usize, buf: &mut [u8]) -> usize
+pub fn put_widths(word: &[u8], widths: [u32; WIDTH_PLACES], n: usize, buf: &mut [u8]) -> usize
     requires { ⌜ (n ≤ widthPlaces) × Room (each (oneLine (now word)) (take n widths)) (now buf) ⌝ }
     ensures { λ r. ⌜ Put (each (oneLine (now (word .entry))) (take n widths)) (now (buf .entry)) (now (buf .exit)) r ⌝ }
 {
@@ -27,7 +32,7 @@ pub fn put_widths(word: &[u8], widths: [u32; 7], n: usize, buf: &mut [u8]) -> us
 }
 
 // The first n seniorities of a side.
-pub fn put_pairs(word: &[u8], pairs: [Direct; 21], n: usize, buf: &mut [u8]) -> usize
+pub fn put_pairs(word: &[u8], pairs: [Direct; LINE_PLACES], n: usize, buf: &mut [u8]) -> usize
     requires { ⌜ (n ≤ linePlaces) × Room (each (pairLine (now word)) (take n pairs)) (now buf) ⌝ }
     ensures { λ r. ⌜ Put (each (pairLine (now (word .entry))) (take n pairs)) (now (buf .entry)) (now (buf .exit)) r ⌝ }
 {
@@ -43,7 +48,7 @@ pub fn put_pairs(word: &[u8], pairs: [Direct; 21], n: usize, buf: &mut [u8]) -> 
 }
 
 // The first n users or objects.
-pub fn put_entries(word: &[u8], entries: [Entry; 64], n: usize, buf: &mut [u8]) -> usize
+pub fn put_entries(word: &[u8], entries: [Entry; ENTRY_PLACES], n: usize, buf: &mut [u8]) -> usize
     requires { ⌜ (n ≤ entryPlaces) × Room (each (entryLine (now word)) (take n entries)) (now buf) ⌝ }
     ensures { λ r. ⌜ Put (each (entryLine (now (word .entry))) (take n entries)) (now (buf .entry)) (now (buf .exit)) r ⌝ }
 {
@@ -59,7 +64,7 @@ pub fn put_entries(word: &[u8], entries: [Entry; 64], n: usize, buf: &mut [u8]) 
 }
 
 // The first n rules.
-pub fn put_rules(word: &[u8], rules: [RuleValue; 8], n: usize, buf: &mut [u8]) -> usize
+pub fn put_rules(word: &[u8], rules: [RuleValue; RULE_PLACES], n: usize, buf: &mut [u8]) -> usize
     requires { ⌜ (n ≤ rulePlaces) × (all ruleWritable (take n rules) ≡ true) × Room (each (ruleLine (now word)) (take n rules)) (now buf) ⌝ }
     ensures { λ r. ⌜ Put (each (ruleLine (now (word .entry))) (take n rules)) (now (buf .entry)) (now (buf .exit)) r ⌝ }
 {

@@ -10,6 +10,7 @@ ghost use Rattle.writer.specs.Whole.{SideWithin, RegisterWithin, RulesWi
 use crate::bytes;
 use crate::line;
 use crate::lines;
+use policy::TEXT_BYTES;
 use policy::value::PolicyValue;
 use policy::value::Register;
 use policy::value::Rules;
@@ -85,6 +86,6 @@ pub fn measure(v: PolicyValue) -> usize
     requires { ⌜ Writable v × (length (textOf (policyOf v)) ≤ textBytes) ⌝ }
     ensures { λ r. ⌜ r ≡ length (textOf (policyOf v)) ⌝ }
 {
-    let mut scratch = [0u8; 8192];
+    let mut scratch = [0u8; TEXT_BYTES];
     put(v, &mut scratch)
 }

@@ -3,8 +3,7 @@ use mathlib.Core.Bool.{and-false, and-true}
 use borrow.Author.Tests.{not-true, not-false}
 use borrow.Author.Needs.{needs}
 use Rattle.basis.proofs.Lists.{long}
-use Rattle.seniority.specs.Seniority.{direct}
-use Rattle.policy.specs.Value.{linePlaces}
+use Rattle.seniority.specs.Seniority.{linePlaces, direct}
 use Rattle.policy.specs.Valid.{sameLine}
 use Rattle.validity.specs.Parts.{linesValid}
 use Rattle.validity.proofs.Stored.{holds-out, lines-stored}

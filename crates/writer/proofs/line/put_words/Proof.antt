@@ -4,8 +4,7 @@ use mathlib.Core.List.{List}
 use native.Mathlib.Omega.{arith}
 use borrow.Author.Needs.{needs}
 use Rattle.basis.proofs.Lists.{long, all-taken}
-use Rattle.words.specs.Word.{written}
-use Rattle.words.proofs.RoundTrip.{inDigits}
+use Rattle.words.specs.Word.{written, inDigits}
 use Rattle.words.specs.declared.Word.the-variants.{True}
 use Rattle.policy.specs.Value.{slot}
 use Rattle.policy.specs.declared.value.Slot.{Slot}
