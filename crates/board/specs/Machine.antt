@@ -1,7 +1,7 @@
 -- The plain machine, "fed the text and the calls with the arguments listed below, and nothing of the board, the lent buffers, NU or NO".
 -- Its session functions are those of source document 002, Tables 5 and 6.
 use Prim.Native.Nat.{ℕ}
-use mathlib.Core.Bool.{Bool, true, false, cond, not}
+use mathlib.Core.Bool.{Bool, false, cond, not}
 use mathlib.Core.List.{List, [], _∷_}
 use mathlib.Core.Option.{Option, none, some}
 use lib.Dec.{eqb, leb}

@@ -1,12 +1,12 @@
 // The three lent buffers of a request: each is read at one place.
 ghost use mathlib.Core.Path.{_≡_};
-ghost use Prim.Native.Nat.{_+_, _*_};
 ghost use Rattle.board.specs.Board.{labelsOf, replyOf};
 ghost use Rattle.board.specs.Inner.{byteOf, byteAt, lookedUp};
 use crate::Answer;
 use labels::Counts;
 use labels::ObjectLabel;
 use labels::UserLabel;
+use labels::compiler;
 use policy::refusal::Refusal;
 
 // The byte at a place of a buffer, where the place is in it.
@@ -24,13 +24,6 @@ fn byte_at(buffer: &[u8], place: usize) -> Byte
     } else {
         Byte::Past
     }
-}
-
-// The table's place of two labels, with `no` object labels in a row; any numbers will do.
-fn place_of(user: UserLabel, object: ObjectLabel, no: u32) -> usize
-    ensures { λ r. ⌜ r ≡ user .0 * no + object .0 ⌝ }
-{
-    user.0 as usize * no as usize + object.0 as usize
 }
 
 // What the labels of two sets say of an action.
@@ -51,7 +44,7 @@ pub fn look_up(
     let Byte::At(object_label) = byte_at(objects, object as usize) else {
         return Answer::Refused(Refusal::BufferTooShort);
     };
-    let place = place_of(
+    let place = compiler::place(
         UserLabel(user_label),
         ObjectLabel(object_label),
         counts.objects,

@@ -1,9 +1,7 @@
 // The entries of a board, one for each session number.
 ghost use mathlib.Core.Path.{_≡_};
 ghost use Prim.Native.Nat.{_<_};
-ghost use lib.ListN.{set};
 ghost use Rattle.board.specs.Board.{closed, entryOf, entryAt};
-ghost use Rattle.board.specs.Machine.{sessionNumbers};
 use crate::Board;
 use crate::SESSION_NUMBERS;
 use crate::Session;

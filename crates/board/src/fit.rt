@@ -7,6 +7,7 @@ ghost use Rattle.policy.specs.Value.{entriesOf, sideOf};
 ghost use Rattle.board.specs.Board.{entryOf, entryFits, boardFits, fits};
 ghost use Rattle.board.specs.Inner.{Reachable};
 use crate::Board;
+use crate::SESSION_PLACES;
 use crate::Session;
 use crate::reach;
 use policy::value::PolicyValue;
@@ -36,7 +37,7 @@ fn entries_fit(users: Register, side: SideValue, board: Board) -> bool
 {
     let sessions = board.sessions;
     let mut i: usize = 0;
-    while i < 32 {
+    while i < SESSION_PLACES {
         let entry = sessions[i];
         if !entry_fits(users, side, entry) {
             return false;

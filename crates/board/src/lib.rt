@@ -17,8 +17,10 @@ mod fit;
 mod reach;
 mod rulings;
 
-// Session numbers are 0 to 31.
-const SESSION_NUMBERS: u32 = 32;
+// Session numbers are 0 to 31; a board has a place for each.
+const SESSION_PLACES: usize = 32;
+
+const SESSION_NUMBERS: u32 = SESSION_PLACES as u32;
 
 // The entry of a session number: while it is live, which document 01 calls open, its user and the set it holds.
 #[repr(C)]
@@ -31,7 +33,7 @@ pub struct Session {
 // An entry for each session number.
 #[repr(C)]
 pub struct Board {
-    pub sessions: [Session; 32],
+    pub sessions: [Session; SESSION_PLACES],
 }
 
 // What a session call answers.
@@ -53,7 +55,7 @@ pub fn fresh() -> Board
     ensures { λ r. ⌜ r ≡ fresh ⌝ }
 {
     let none = entries::closed();
-    let sessions = [none; 32];
+    let sessions = [none; SESSION_PLACES];
     Board { sessions: sessions }
 }
 

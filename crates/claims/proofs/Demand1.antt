@@ -1,21 +1,19 @@
 -- Demand 1: a refusal leaves the lent buffers and the board as they were.
 use Prim.Native.Nat.{ℕ}
-use mathlib.Core.Path.{_≡_, refl, sym, ap, _∙_}
+use mathlib.Core.Path.{_≡_, refl}
 use mathlib.Core.Bool.{Bool, true, false}
-use mathlib.Core.List.{List}
 use mathlib.Core.Option.{Option, none, some}
 use native.Mathlib.Omega.{arith}
-use Rattle.basis.specs.Choice.{given, Result, gives, refuses, lowest}
+use Rattle.basis.specs.Choice.{given, gives, refuses, lowest}
 use Rattle.policy.specs.Policy.{Policy}
 use Rattle.policy.specs.Write.{write, writeBuffer, writeChecks}
-use Rattle.policy.specs.Answers.{Reply, done, granted, denied, refused, decided}
-use Rattle.policy.specs.declared.value.PolicyValue.{PolicyValue}
+use Rattle.policy.specs.Answers.{Reply, refused, decided}
 use Rattle.tuples.specs.Tuples.{list, listBuffer, listChecks}
-use Rattle.labels.specs.Compile.{Buffers, compile, compileBuffers, compileChecks}
+use Rattle.labels.specs.Compile.{compile, compileBuffers, compileChecks}
 use Rattle.board.specs.Machine.{Call, opens, adds, drops, closes, requests, Entry, Out, sessionOf, heldIn, objectSet}
 use Rattle.board.specs.Board.{Labels, boardStep, boardChecks, boardReply, entryAt, grantsByLabels}
 use Rattle.board.specs.declared.Board.{Board}
-use Rattle.claims.specs.Demand1.{Refusals, Claim}
+use Rattle.claims.specs.Demand1.{Claim}
 
 -- where a call refuses, what goes by the same checks takes its refused value
 kept : {A B : Type 0} (o : Option ℕ) (a : A) (x y : B) (n : ℕ) → given o (gives a) refuses ≡ refuses n → given o x (λ m. y) ≡ y

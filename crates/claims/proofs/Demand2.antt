@@ -16,7 +16,7 @@ use Rattle.policy.proofs.Valid.{yielded-valid, valid-iff}
 use Rattle.labels.proofs.Compile.{userLabel-iff, objectLabel-iff}
 use Rattle.board.specs.Machine.{Call, Entry, Map, Out, sessionOf, checks, entryAfter, reply, step, put, empty, run, machine}
 use Rattle.board.proofs.Agreement.{fitting, kept}
-use Rattle.claims.specs.Demand2.{Texts, Alike, Allowed, Demand2, Claim, CheckClaim}
+use Rattle.claims.specs.Demand2.{Allowed, Claim, CheckClaim}
 
 -- ---- sessions hold what is allowed
 

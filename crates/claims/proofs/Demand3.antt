@@ -26,7 +26,7 @@ use Rattle.labels.specs.Compile.{Buffers, tooShort, NU, NO, compile, compileBuf
 use Rattle.labels.proofs.Compile.{compiled-grants, compiled-users, compiled-objects, fewest}
 use Rattle.board.specs.Machine.{Call, machine, run, step, empty}
 use Rattle.board.proofs.Agreement.{ObjectsFit, Serves, replies-agree, sessions-agree}
-use Rattle.claims.specs.Demand3.{Tuples, Labelled, Compiled, Sessions, labelsOf, Demand3, Claim}
+use Rattle.claims.specs.Demand3.{Tuples, Labelled, Compiled, Sessions, labelsOf, Claim}
 use Rattle.claims.proofs.Serving.{serving, inside, decides}
 
 module _ (t : List ℕ) (p : Policy) (e : readText t ≡ Accepted p) where

@@ -1,17 +1,16 @@
 -- Demand 3's last sentence, about one request, whatever it is handed.
 use Prim.Native.Nat.{ℕ}
-use mathlib.Core.Path.{_≡_, refl, ap, _∙_}
+use mathlib.Core.Path.{_≡_, refl}
 use mathlib.Core.Option.{Option, none, some}
 use Rattle.basis.specs.Choice.{given, lowest}
-use Rattle.policy.specs.Value.{policyOf}
 use Rattle.policy.specs.Answers.{Reply, refused}
 use Rattle.policy.specs.declared.value.PolicyValue.{PolicyValue}
 use Rattle.board.specs.Machine.{requests, Out}
-use Rattle.board.specs.Board.{Labels, boardStep, boardChecks, boardAfter, pastEnd}
+use Rattle.board.specs.Board.{Labels, boardStep, boardChecks, boardAfter}
 use Rattle.board.specs.declared.Board.{Board}
 use Rattle.board.specs.Inner.{lower}
 use Rattle.board.proofs.OneRequest.{past-iff, refused-iff, granted-iff}
-use Rattle.claims.specs.Demand3.{heldAt, objectAt, answered, OneRequest, RequestClaim}
+use Rattle.claims.specs.Demand3.{heldAt, objectAt, answered, RequestClaim}
 
 -- a step that leaves its state either way
 state-kept : (o : Option ℕ) (r : Reply) (b : Board)

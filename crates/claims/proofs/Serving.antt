@@ -1,19 +1,17 @@
 -- The compiled buffers serve a policy: in them a request finds each look-up's place, and the bit there is what the formula says.
-use Prim.Native.Nat.{ℕ, _+_, _*_, _≤_, _<_}
-use mathlib.Core.Path.{_≡_, refl, sym, ap, ap₂, _∙_}
-use mathlib.Core.Bool.{Bool, true, false, _||_}
-use mathlib.Core.List.{List}
+use Prim.Native.Nat.{ℕ, _+_, _*_, _<_}
+use mathlib.Core.Path.{_≡_, ap₂, _∙_}
+use mathlib.Core.Bool.{false}
 use native.Mathlib.Omega.{arith}
 use borrow.Author.Tests.{lt-leb}
 use lib.Arith.{digits-lt}
-use lib.ListN.{length, getD}
+use lib.ListN.{length}
 use Rattle.basis.specs.Lists.{over}
 use Rattle.basis.proofs.Over.{over-at, over-long}
-use Rattle.sets.specs.Set.{has}
 use Rattle.policy.specs.Limits.{actions}
 use Rattle.policy.specs.Policy.{Policy, sets}
 use Rattle.formula.specs.Truth.{grants}
-use Rattle.labels.specs.Compile.{Buffers, NU, NO, userLabel, objectLabel, userResult, objectResult, tableResult, entry}
+use Rattle.labels.specs.Compile.{Buffers, NU, NO, userLabel, objectLabel, userResult, objectResult, tableResult}
 use Rattle.labels.proofs.Compile.{length-userResult, length-objectResult, length-tableResult, userResult-at, objectResult-at, tableResult-at, userLabel-below, objectLabel-below, has-entry}
 use Rattle.board.specs.Board.{Labels, pastEnd, grantsByLabels, placeAt, userLabelAt, objectLabelAt}
 

@@ -4,7 +4,6 @@
 use Prim.Native.Nat.{ℕ}
 use mathlib.Core.Path.{_≡_}
 use mathlib.Core.List.{List}
-use mathlib.Core.Option.{Option, none, some}
 use Rattle.basis.specs.Choice.{refuses}
 use Rattle.policy.specs.Write.{write, writeBuffer}
 use Rattle.policy.specs.Answers.{refused}

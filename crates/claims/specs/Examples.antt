@@ -5,9 +5,8 @@ use Prim.Native.String.{String}
 use mathlib.Core.Bool.{Bool}
 use mathlib.Core.List.{List, [], _∷_, _++_, map}
 use lib.Dec.{eqb}
-use lib.ListN.{length}
 use Rattle.basis.specs.Bytes.{byte, bytes}
-use Rattle.basis.specs.Lists.{all, same}
+use Rattle.basis.specs.Lists.{same}
 use Rattle.text.specs.Number.{decimal}
 use Rattle.text.specs.Parts.{join, comma}
 use Rattle.policy.specs.Policy.{Policy}

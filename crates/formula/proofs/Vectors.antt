@@ -1,13 +1,15 @@
 -- Vectors of 64 lanes: what each operation on them does in a lane, which of 64 consecutive sets hold a value, and a line of seniority in every lane at once.
-use Prim.Native.Nat.{ℕ, _+_, _-_, _*_, _^_, _≤_, _<_}
+use Prim.Native.Nat.{ℕ, _+_, _-_, _*_, _/_, _%_, _^_, _≤_, _<_}
 use mathlib.Core.Path.{_≡_, refl, sym, ap, ap₂, _∙_}
 use mathlib.Core.Bool.{Bool, true, false, not, _&&_, _||_, and-true, and-false, or-false}
 use mathlib.Core.List.{List, [], _∷_}
 use native.Mathlib.Decide.{ℕ-discrete}
+use native.Mathlib.Nat.{mod-lt, lt-of-lt-of-le}
 use native.Mathlib.Numerals.{add-one}
 use native.Mathlib.Omega.{arith}
 use lib.Bits.{bitOr, bitAnd, bitXor}
 use lib.ListN.{length, getD, set, length-set}
+use lib.Pow.{pow-pos, pow-mono}
 use lib.Seq.{getD-set-same, getD-set-other}
 use borrow.Author.Tests.{eq-eqb, ne-eqb}
 use Rattle.basis.specs.Numbers.{every, agree, implies}
@@ -15,7 +17,8 @@ use Rattle.basis.proofs.Numbers.{every-at}
 use Rattle.basis.proofs.Same.{agree-eq}
 use Rattle.basis.proofs.Table.{at}
 use Rattle.sets.specs.Set.{has}
-use Rattle.sets.proofs.Laws.{differs, has-xor, has-meet, has-union, has-low, has-high}
+use Rattle.sets.proofs.Laws.{differs, has-xor, has-meet, has-union, has-none, has-mod, has-low, has-high}
+use Rattle.sets.proofs.Count.{has-shifted}
 use Rattle.seniority.specs.Seniority.{extended}
 use Rattle.seniority.proofs.Laws.{has-extended}
 use Rattle.formula.specs.Lane.{lanes, mostValues, Plain, Stands, extendedLanes}
@@ -75,6 +78,19 @@ module _ (b v k : ℕ) (h : k < lanes) where
 
   pub high-holders : (x : ℕ) → 6 ≤ v → has x k ≡ has b (v - 6) → has x k ≡ has (b * lanes + k) v
   high-holders x l e = e ∙ sym (has-high b k 6 v h l)
+
+-- ---- bits of a part of a number
+
+module _ (b k from n v : ℕ) where
+  pub bit-past : n ≤ v → has ((b * lanes + k) / 2 ^ from % 2 ^ n) v ≡ false
+  bit-past l = has-none n _ v (mod-lt ((b * lanes + k) / 2 ^ from) (pow-pos n)) l
+
+  pub bit-in : v < n → has ((b * lanes + k) / 2 ^ from % 2 ^ n) v ≡ has (b * lanes + k) (from + v)
+  bit-in l = has-mod ((b * lanes + k) / 2 ^ from) n v l ∙ has-shifted (b * lanes + k) from v
+
+-- a part of at most as many bits as a side has values
+pub set-small : (x from n : ℕ) → n ≤ mostValues → x / 2 ^ from % 2 ^ n < 2 ^ mostValues
+set-small x from n h = lt-of-lt-of-le (mod-lt (x / 2 ^ from) (pow-pos n)) (pow-mono h)
 
 -- ---- the vectors of a side
 

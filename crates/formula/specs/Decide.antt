@@ -1,7 +1,7 @@
 -- "Decide: by the formula, on two given sets (11, 12, 19)."
 use Prim.Native.Nat.{ℕ}
 use mathlib.Core.Bool.{Bool, not, _||_}
-use mathlib.Core.List.{List, [], _∷_}
+use mathlib.Core.List.{[], _∷_}
 use lib.Dec.{leb}
 use Rattle.basis.specs.Choice.{given, check, lowest}
 use Rattle.policy.specs.Limits.{actions}

@@ -5,7 +5,7 @@ ghost use mathlib.Core.Path.{_≡_};
 ghost use Prim.Native.Nat.{_≤_};
 ghost use lib.ListN.{take};
 ghost use Rattle.basis.specs.Lists.{sum};
-ghost use Rattle.policy.specs.Policy.{Side, Policy, sets as setsOf, width as widthOf, start as startOf};
+ghost use Rattle.policy.specs.Policy.{Side, Policy, total as totalOf, sets as setsOf, width as widthOf, start as startOf};
 ghost use Rattle.policy.specs.Value.{sideOf};
 ghost use Rattle.formula.specs.Decide.{lacking};
 ghost use Rattle.formula.specs.Lane.{mostValues, Starts, ShapeOf, SideFits};
@@ -70,6 +70,13 @@ pub fn width(starts: [u8; VALUES + 1], i: u8) -> u8
 {
     let n = i as usize;
     start(starts, n + 1) - start(starts, n)
+}
+
+// The number of values of a side.
+pub fn total(starts: [u8; VALUES + 1]) -> u32
+    ensures { λ r. ⌜ ((s : Side) → Starts s starts → r ≡ totalOf s) ⌝ }
+{
+    starts[VALUES] as u32
 }
 
 // The number of sets of a side.

@@ -4,7 +4,7 @@ use crate::shape::VALUES;
 use seniority::Direct;
 use seniority::LINE_PLACES;
 ghost use mathlib.Core.Path.{_≡_};
-ghost use Prim.Native.Nat.{ℕ, _+_, _*_, _^_, _≤_, _<_};
+ghost use Prim.Native.Nat.{ℕ, _+_, _*_, _/_, _%_, _^_, _≤_, _<_};
 ghost use lib.ListN.{take};
 ghost use Rattle.sets.specs.Set.{has};
 ghost use Rattle.seniority.specs.Seniority.{linePlaces, Ordered, heldOrSenior, heldOrJunior};
@@ -56,20 +56,36 @@ pub fn spread(set: u32) -> [u64; 2 * VALUES]
     r
 }
 
-// The 64 sets from 64b on, without seniority.
-pub fn consecutive(b: u32) -> [u64; 2 * VALUES]
-    requires { ⌜ (b + 1) * lanes ≤ 2 ^ mostValues ⌝ }
-    ensures { λ r. ⌜ ((k : ℕ) → k < lanes → Plain r k (b * lanes + k)) ⌝ }
+// Which of the numbers 64b to 64b + 63 have v among their n bits from `from` on.
+fn column(b: u32, from: u32, n: u32, v: u32) -> u64
+    requires { ⌜ (from ≤ mostValues) × (n ≤ mostValues) ⌝ }
+    ensures { λ r. ⌜ ((k : ℕ) → k < lanes → has r k ≡ has ((b * lanes + k) / 2 ^ from % 2 ^ n) v) ⌝ }
+{
+    if n <= v { 0 } else { holders(b, from + v) }
+}
+
+// The sets that the numbers 64b to 64b + 63 have in their n bits from `from` on, without seniority.
+pub fn part(b: u32, from: u32, n: u32) -> [u64; 2 * VALUES]
+    requires { ⌜ (from ≤ mostValues) × (n ≤ mostValues) ⌝ }
+    ensures { λ r. ⌜ ((k : ℕ) → k < lanes → Plain r k ((b * lanes + k) / 2 ^ from % 2 ^ n)) ⌝ }
 {
     let mut r = [0u64; 2 * VALUES];
     let mut v: usize = 0;
     while v < VALUES {
-        let x = holders(b, v as u32);
+        let x = column(b, from, n, v as u32);
         r[v] = x;
         r[VALUES + v] = x;
         v += 1;
     }
     r
+}
+
+// The 64 sets from 64b on, without seniority.
+pub fn consecutive(b: u32) -> [u64; 2 * VALUES]
+    requires { ⌜ (b + 1) * lanes ≤ 2 ^ mostValues ⌝ }
+    ensures { λ r. ⌜ ((k : ℕ) → k < lanes → Plain r k (b * lanes + k)) ⌝ }
+{
+    part(b, 0, VALUES as u32)
 }
 
 // Value b, with seniority, where value a is held so.

@@ -13,7 +13,7 @@ use Rattle.sets.proofs.Laws.{has-setOf}
 use Rattle.policy.specs.Limits.{actions}
 use Rattle.policy.specs.Policy.{Policy, total, sets}
 use Rattle.formula.specs.Truth.{grants}
-use Rattle.labels.specs.Labels.{label, leader}
+use Rattle.labels.specs.Labels.{leader}
 use Rattle.labels.specs.Labelling.{Labelling, userLabels, objectLabels, GrantsAlike}
 use Rattle.labels.specs.Compile.{likeUsers, likeObjects, userLabel, objectLabel, NU, NO, entry, userResult, objectResult, tableResult, compiled}
 use Rattle.labels.proofs.Labels.{Equivalence, labelCount-le, labelCount-positive, label-below, label-different, leader-like, leader-is, different-same}

@@ -1,6 +1,6 @@
 -- What the calls answer for a policy value that passes check 11: a result and no refusal.
 use Prim.Native.Nat.{ℕ}
-use mathlib.Core.Path.{_≡_, sym, _∙_}
+use mathlib.Core.Path.{_≡_}
 use native.Mathlib.Omega.{arith}
 use Rattle.basis.specs.Choice.{Result, gives, refuses}
 

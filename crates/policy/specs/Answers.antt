@@ -3,7 +3,7 @@ use Prim.Native.Nat.{ℕ}
 use mathlib.Core.Path.{_≡_}
 use mathlib.Core.Bool.{Bool, cond}
 use mathlib.Core.Option.{Option, none, some}
-use Rattle.policy.specs.Policy.{Policy, blank}
+use Rattle.policy.specs.Policy.{blank}
 use Rattle.policy.specs.Read.{Outcome, Accepted, Refused}
 use Rattle.policy.specs.Value.{valueOf}
 use Rattle.policy.specs.declared.value.PolicyValue.{PolicyValue}

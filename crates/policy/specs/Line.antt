@@ -1,10 +1,10 @@
 -- A line of a text taken apart: refusals 3, 4 and 5.
 use Prim.Native.Nat.{ℕ, _+_}
-use mathlib.Core.Bool.{Bool, true, false, _&&_}
-use mathlib.Core.List.{List, [], _∷_, map}
+use mathlib.Core.Bool.{Bool, true, _&&_}
+use mathlib.Core.List.{List, [], map}
 use mathlib.Core.Option.{Option, none, some}
 use lib.Dec.{eqb, leb}
-use lib.ListN.{length, getD, drop}
+use lib.ListN.{getD, drop}
 use Rattle.basis.specs.Lists.{all}
 use Rattle.text.specs.Number.{isNumber, valueOf}
 use Rattle.text.specs.Kind.{isKind, follows}

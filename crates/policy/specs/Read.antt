@@ -1,5 +1,5 @@
 -- Reading a text: "The first faulty line decides, and in it the lowest number."
-use Prim.Native.Nat.{ℕ, zero, suc}
+use Prim.Native.Nat.{ℕ, suc}
 use mathlib.Core.Bool.{Bool, true, false, cond, not}
 use mathlib.Core.List.{List, [], _∷_}
 use mathlib.Core.Option.{Option, none, some}
@@ -14,7 +14,7 @@ use Rattle.text.specs.declared.kind.Named.{Named}
 use Rattle.text.specs.declared.kind.Named.the-variants.{Is, Unknown}
 use Rattle.policy.specs.Limits.{textBytes}
 use Rattle.policy.specs.Policy.{Policy, blank}
-use Rattle.policy.specs.Line.{Line, allowed, countFits, formFits, fieldAt, lineOf}
+use Rattle.policy.specs.Line.{allowed, countFits, formFits, fieldAt, lineOf}
 use Rattle.policy.specs.Checks.{lineInRange, lineRises, lineWidthsEqual, lineBalances, withLineOf}
 
 -- a text is accepted, and yields a policy, or it is refused with a number at a line

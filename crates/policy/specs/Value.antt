@@ -4,7 +4,6 @@ use mathlib.Core.List.{List, [], map}
 use lib.ListN.{length, take}
 use Rattle.basis.specs.Lists.{padded}
 use Rattle.seniority.specs.Seniority.{linePlaces, direct}
-use Rattle.seniority.specs.declared.Direct.{Direct}
 use Rattle.words.specs.declared.Word.{Word}
 use Rattle.words.specs.declared.Word.the-variants.{True}
 use Rattle.policy.specs.Policy.{Side, Rule, Policy}

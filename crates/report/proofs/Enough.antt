@@ -1,8 +1,8 @@
 -- Of a policy value that passes check 11, compiling and listing are not refused in buffers of the most sets, pairs and labels that a policy has: each
 -- side has at most seven values.
-use Prim.Native.Nat.{ℕ, _+_, _*_, _^_, _≤_, _<_}
-use mathlib.Core.Path.{_≡_, _∙_}
-use mathlib.Core.Bool.{true, false}
+use Prim.Native.Nat.{ℕ, _+_, _^_, _≤_, _<_}
+use mathlib.Core.Path.{_≡_}
+use mathlib.Core.Bool.{true}
 use mathlib.Core.List.{List}
 use native.Mathlib.Nat.{le-trans, mul-le-mul}
 use native.Mathlib.Omega.{arith}
@@ -12,7 +12,7 @@ use lib.Pow.{pow-mono}
 use Rattle.basis.specs.Choice.{gives, lowest}
 use Rattle.basis.specs.Lists.{over}
 use Rattle.basis.proofs.Counting.{count-le, length-select}
-use Rattle.policy.specs.Limits.{actions, values}
+use Rattle.policy.specs.Limits.{actions}
 use Rattle.policy.specs.Policy.{total, sets}
 use Rattle.policy.specs.Value.{policyOf}
 use Rattle.policy.specs.Valid.{valid}

@@ -11,7 +11,7 @@ use Rattle.basis.specs.Choice.{given}
 use Rattle.text.specs.Kind.{isKind}
 use Rattle.text.specs.Parts.{Line, lineFeed, onto, split, linesOf, lines}
 use Rattle.text.specs.declared.kind.Kind.the-variants.{End}
-use Rattle.policy.specs.Answers.{numberOf, valueIn, ReadAs}
+use Rattle.policy.specs.Answers.{valueIn, ReadAs}
 use Rattle.policy.specs.Limits.{textBytes}
 use Rattle.policy.specs.Read.{Outcome, Accepted, Refused, State, start, lineRefusal, lineAfter, ending, readLines, readText}
 use Rattle.policy.specs.Valid.{valid}

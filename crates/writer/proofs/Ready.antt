@@ -2,10 +2,8 @@
 use Prim.Native.Nat.{_≤_}
 use mathlib.Core.Path.{_≡_}
 use mathlib.Core.Bool.{true}
-use mathlib.Core.List.{List}
 use borrow.Author.Tests.{le-leb}
-use lib.ListN.{length, take}
-use Rattle.basis.specs.Lists.{all}
+use lib.ListN.{length}
 use Rattle.basis.proofs.Lists.{all-of, all-map}
 use Rattle.basis.proofs.Padded.{take-padded-map}
 use Rattle.words.specs.declared.Word.the-variants.{True}
@@ -16,7 +14,7 @@ use Rattle.policy.specs.Text.{textOf}
 use Rattle.policy.specs.Valid.{valid}
 use Rattle.policy.specs.Value.{wordPlaces, rulePlaces, slot, noRule, sideValue, register, ruleValue, rulesValue, valueOf, policyOf}
 use Rattle.policy.specs.declared.value.PolicyValue.{PolicyValue}
-use Rattle.policy.proofs.Sound.{WithinSide, Within}
+use Rattle.policy.proofs.Sound.{WithinSide}
 use Rattle.policy.proofs.Parts.{RuleParts, Parts, parts, whole}
 use Rattle.policy.proofs.Bounds.{rule-bounds, rule-digits, parts-within}
 use Rattle.policy.proofs.RoundTrip.{text-short}

@@ -1,6 +1,6 @@
 -- The text of a value is the texts of its lists, one after the other: each line is its word, its fields and a line feed.
 use Prim.Native.Nat.{ℕ}
-use mathlib.Core.Path.{_≡_, refl, sym, ap, _∙_}
+use mathlib.Core.Path.{_≡_, refl, sym, _∙_}
 use mathlib.Core.List.{List, [], _∷_, _++_, map, map-map, append-assoc, append-nil}
 use Rattle.basis.specs.Bytes.{bytes}
 use Rattle.seniority.specs.declared.Direct.{Direct}

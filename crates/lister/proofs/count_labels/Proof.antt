@@ -1,5 +1,5 @@
 -- `lister::count_labels` meets its contract: compiling gives NU and NO, since the buffers are long enough for any policy.
-use Prim.Native.Nat.{ℕ, _≤_}
+use Prim.Native.Nat.{ℕ}
 use mathlib.Core.Path.{_≡_, ap}
 use mathlib.Core.Bool.{true}
 use mathlib.Core.List.{List}
@@ -13,7 +13,7 @@ use Rattle.policy.specs.declared.value.PolicyValue.{PolicyValue}
 use Rattle.labels.specs.Compile.{NU, NO, lent, stored, compile}
 use Rattle.labels.specs.declared.Counts.{Counts}
 use Rattle.labels.specs.declared.Compiled.{Compiled}
-use Rattle.labels.specs.declared.Compiled.the-variants.{Stored, Refused}
+use Rattle.labels.specs.declared.Compiled.the-variants.{Stored}
 use Rattle.report.proofs.Enough.{compiles}
 use Rattle.lister.proofs.Answers.{given, not-refused}
 use Rattle.lister.proofs.count_labels.Statement.{statement}

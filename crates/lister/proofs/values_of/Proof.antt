@@ -1,5 +1,5 @@
 -- `lister::values_of` meets its contract: a side of a policy that passes check 11 has at most seven values.
-use Prim.Native.Nat.{_^_, _≤_, _<_}
+use Prim.Native.Nat.{_≤_}
 use mathlib.Core.Path.{_≡_, refl}
 use mathlib.Core.Bool.{true}
 use native.Mathlib.Omega.{arith}

@@ -1,5 +1,5 @@
 -- `lister::write_rule` meets its contract: the listing is of the action's tuples, which fit their buffer.
-use mathlib.Core.Path.{sym, ap, _∙_}
+use mathlib.Core.Path.{sym, ap}
 use native.Mathlib.Omega.{arith}
 use borrow.Author.Needs.{needs}
 use lib.ListN.{length}
@@ -8,7 +8,7 @@ use Rattle.basis.proofs.Over.{over-long}
 use Rattle.policy.specs.Value.{policyOf}
 use Rattle.tuples.specs.Tuples.{tuples}
 use Rattle.report.proofs.Enough.{tuples-few}
-use Rattle.lister.proofs.Rest.{rest-room, rest-fits, rest-same}
+use Rattle.lister.proofs.Rest.{rest-fits, rest-same}
 use Rattle.lister.proofs.write_rule.Statement.{statement}
 use Rattle.lister.proofs.write_rule.Tie as tie
 

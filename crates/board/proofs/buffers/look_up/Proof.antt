@@ -28,8 +28,8 @@ enum-told-2 c = search needs
 returns-2 : tie.Need-returns-2
 returns-2 c = search past-object
 
-place-of-requires : tie.Need-place-of-requires
-place-of-requires c κs = search needs
+place-requires : tie.Need-place-requires
+place-requires c κs = search needs
 
 byte-at-requires-3 : tie.Need-byte-at-requires-3
 byte-at-requires-3 c κs = search needs
@@ -67,7 +67,7 @@ look-up-spec =
     enum-known-object-label
     enum-told-2
     returns-2
-    place-of-requires
+    place-requires
     byte-at-requires-3
     enum-known-entry
     enum-told-3
