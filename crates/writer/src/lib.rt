@@ -26,8 +26,7 @@ pub fn write(v: PolicyValue, buffer: &mut [u8]) -> Written
     if !validity::check(v) {
         return Written::Refused(Refusal::InvalidState);
     }
-    let n = whole::measure(v);
-    if buffer.len() < n {
+    if !whole::fits(v, buffer.len()) {
         return Written::Refused(Refusal::BufferTooShort);
     }
     let m = whole::put(v, buffer);

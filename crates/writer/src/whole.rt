@@ -1,6 +1,7 @@
 // The whole text of a policy value, put at the start of a buffer.
 ghost use mathlib.Core.Path.{_≡_};
 ghost use Prim.Native.Nat.{_≤_};
+ghost use lib.Dec.{leb};
 ghost use lib.ListN.{length};
 ghost use Rattle.policy.specs.Limits.{textBytes};
 ghost use Rattle.policy.specs.Text.{textOf};
@@ -82,10 +83,21 @@ pub fn put(v: PolicyValue, buf: &mut [u8]) -> usize
 }
 
 // The length of the text of v, found by putting it into a buffer of the greatest length.
-pub fn measure(v: PolicyValue) -> usize
+fn measure(v: PolicyValue) -> usize
     requires { ⌜ Writable v × (length (textOf (policyOf v)) ≤ textBytes) ⌝ }
     ensures { λ r. ⌜ r ≡ length (textOf (policyOf v)) ⌝ }
 {
     let mut scratch = [0u8; TEXT_BYTES];
     put(v, &mut scratch)
+}
+
+// Whether the text of v fits into so many bytes. The longest text of all needs no measuring.
+pub fn fits(v: PolicyValue, room: usize) -> bool
+    requires { ⌜ Writable v × (length (textOf (policyOf v)) ≤ textBytes) ⌝ }
+    ensures { λ r. ⌜ r ≡ leb (length (textOf (policyOf v))) room ⌝ }
+{
+    if TEXT_BYTES <= room {
+        return true;
+    }
+    measure(v) <= room
 }

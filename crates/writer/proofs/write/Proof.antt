@@ -1,11 +1,11 @@
 -- `writer::write` meets its contract: by the checks in their order.
-use Prim.Native.Nat.{ℕ, _<_}
+use Prim.Native.Nat.{ℕ, _≤_, _<_}
 use mathlib.Core.Path.{_≡_, sym, _∙_}
-use mathlib.Core.Bool.{true, false}
+use mathlib.Core.Bool.{Bool, true, false, not}
 use mathlib.Core.List.{List}
-use native.Mathlib.Omega.{arith}
-use borrow.Author.Tests.{lt-ltb, le-ltb, not-true, not-false}
+use borrow.Author.Tests.{lt-ltb, le-ltb, leb-true, leb-false, not-true, not-false}
 use borrow.Author.Needs.{needs}
+use lib.Dec.{leb}
 use lib.ListN.{length}
 use Rattle.basis.specs.Choice.{gives, refuses, lowest}
 use Rattle.policy.specs.Text.{textOf}
@@ -37,23 +37,30 @@ module _ (v : PolicyValue) (b : List ℕ) where
         let t = le-ltb (length b) (length (textOf (policyOf v))) (h .fits) in
         (rw (e, t, p .count), rw (e, t) (p .bytes))
 
+-- what the answer of `fits` says
+tight : {m n : ℕ} {r : Bool} → r ≡ leb m n → not r ≡ true → n < m
+tight {m} {n} e t = leb-false m n (sym e ∙ not-true _ t)
+
+loose : {m n : ℕ} {r : Bool} → r ≡ leb m n → not r ≡ false → m ≤ n
+loose {m} {n} e t = leb-true m n (sym e ∙ not-false _ t)
+
 check-requires : tie.Need-check-requires
 check-requires c κs = search needs
 
 returns : tie.Need-returns
 returns c = invalid _ _ (sym (c .before .check .ensures) ∙ not-true _ (c .if1 .taken))
 
-measure-requires : tie.Need-measure-requires
-measure-requires c κs = (valid-writable _ (sym (c .before .check .ensures) ∙ not-false _ (c .if1 .left)), valid-short _ (sym (c .before .check .ensures) ∙ not-false _ (c .if1 .left)))
+fits-requires : tie.Need-fits-requires
+fits-requires c κs = (valid-writable _ (sym (c .before .check .ensures) ∙ not-false _ (c .if1 .left)), valid-short _ (sym (c .before .check .ensures) ∙ not-false _ (c .if1 .left)))
 
 returns-2 : tie.Need-returns-2
-returns-2 c = short _ _ (sym (c .before .before .before .check .ensures) ∙ not-false _ (c .before .before .if1 .left)) (omega (arith, c .before .measure .ensures))
+returns-2 c = short _ _ (sym (c .before .before .before .check .ensures) ∙ not-false _ (c .before .before .if1 .left)) (tight (c .before .fits2 .ensures) (c .if2 .taken))
 
 put-requires : tie.Need-put-requires
-put-requires c κs = (valid-writable _ (sym (c .before .before .before .before .check .ensures) ∙ not-false _ (c .before .before .before .if1 .left)), record { fits = omega (arith, c .before .before .measure .ensures) })
+put-requires c κs = (valid-writable _ (sym (c .before .before .before .before .check .ensures) ∙ not-false _ (c .before .before .before .if1 .left)), record { fits = loose (c .before .before .fits2 .ensures) (c .before .if2 .left) })
 
 returns-3 : tie.Need-returns-3
-returns-3 c = stored _ _ (sym (c .before .before .before .before .before .before .before .check .ensures) ∙ not-false _ (c .before .before .before .before .before .before .if1 .left)) (record { fits = omega (arith, c .before .before .before .before .before .measure .ensures) }) (c .before .before .put .ensures)
+returns-3 c = stored _ _ (sym (c .before .before .before .before .before .before .before .check .ensures) ∙ not-false _ (c .before .before .before .before .before .before .if1 .left)) (record { fits = loose (c .before .before .before .before .before .fits2 .ensures) (c .before .before .before .before .if2 .left) }) (c .before .before .put .ensures)
 
 same-length : tie.Need-same-length
 same-length c = search needs
@@ -61,4 +68,4 @@ same-length c = search needs
 pub write-spec : {M : Type 1} → statement M
 write-spec =
     tie.close
-    (tie.spec check-requires returns measure-requires returns-2 put-requires same-length returns-3)
+    (tie.spec check-requires returns fits-requires returns-2 put-requires same-length returns-3)
