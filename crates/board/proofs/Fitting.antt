@@ -20,23 +20,17 @@ use Rattle.board.specs.declared.Session.{Session}
 use Rattle.board.specs.declared.Board.{Board}
 use Rattle.board.specs.declared.reach.Found.{Found}
 use Rattle.board.specs.Board.{closed, entryOf, entryFits, boardFits, fits}
-use Rattle.board.specs.Inner.{Reaches}
+use Rattle.board.specs.Machine.{entry}
 
 abbrev pub fitsIn : Policy → Session → Bool
 fitsIn p x = given (entryOf x) true (entryFits p)
 
 module _ (p : Policy) (x : Session) where
-  pub fits-closed : not (x .live) ≡ true → true ≡ fitsIn p x
-  fits-closed l = rw (not-true (x .live) l)
+  pub fits-closed : x .live ≡ false → true ≡ fitsIn p x
+  fits-closed l = rw l
 
-  module _ (l : not (x .live) ≡ false) (users : Register) (side : SideValue) (f : Found)
-      (h : (p : Policy) → p .users ≡ entriesOf users → p .user ≡ sideOf side → Reaches p (x .user) f)
-      (eu : p .users ≡ entriesOf users) (es : p .user ≡ sideOf side) where
-    pub fits-reach : f .registered ≡ true → (t : Bool) → t ≡ within (x .held) (f .set) → t ≡ fitsIn p x
-    fits-reach r t w = rw (not-false (x .live) l, ← h p eu es .registered, r, ← h p eu es .set) w
-
-    pub fits-unregistered : f .registered ≡ false → false ≡ fitsIn p x
-    fits-unregistered r = rw (not-false (x .live) l, ← h p eu es .registered, r)
+  pub fits-live : x .live ≡ true → (t : Bool) → t ≡ entryFits p (entry (x .user) (x .held)) → t ≡ fitsIn p x
+  fits-live l t e = rw l e
 
 -- ---- the entries from place i on
 

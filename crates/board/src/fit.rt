@@ -19,14 +19,10 @@ fn entry_fits(users: Register, side: SideValue, entry: Session) -> bool
     requires { ⌜ Reachable side users ⌝ }
     ensures { λ r. ⌜ ((p : policy.Policy) → p .users ≡ entriesOf users → p .user ≡ sideOf side → r ≡ given (entryOf entry) true (entryFits p)) ⌝ }
 {
-    if !entry.live {
-        return true;
-    }
-    let reach = reach::of(users, side, entry.user);
-    if reach.registered {
-        sets::within(entry.held, reach.set)
+    if entry.live {
+        reach::covers(users, side, entry.user, entry.held)
     } else {
-        false
+        true
     }
 }
 

@@ -1,8 +1,12 @@
 // The set of a registered user or object, and a user's reach.
 ghost use mathlib.Core.Path.{_≡_};
+ghost use mathlib.Core.Bool.{_&&_};
 ghost use Prim.Native.Nat.{_≤_};
+ghost use Rattle.basis.specs.Choice.{there};
+ghost use Rattle.sets.specs.Set.{within};
 ghost use Rattle.policy.specs.Policy as policy;
 ghost use Rattle.policy.specs.Value.{entryPlaces, entriesOf, sideOf};
+ghost use Rattle.board.specs.Machine.{reachOf};
 ghost use Rattle.board.specs.Inner.{FoundAs, Reaches, Reachable};
 use policy::value::Register;
 use policy::value::SideValue;
@@ -61,4 +65,21 @@ pub fn of(users: Register, side: SideValue, user: u32) -> Found
     } else {
         found
     }
+}
+
+// Whether the user is registered and the set in the user's reach. What is assigned is in reach without a look at seniority.
+pub fn covers(users: Register, side: SideValue, user: u32, set: u32) -> bool
+    requires { ⌜ Reachable side users ⌝ }
+    ensures { λ r. ⌜ ((p : policy.Policy) → p .users ≡ entriesOf users → p .user ≡ sideOf side → r ≡ (there (policy.setOfNumber (p .users) user) && within set (reachOf p user))) ⌝ }
+{
+    let found = set_of(users, user);
+    if !found.registered {
+        return false;
+    }
+    if sets::within(set, found.set) {
+        return true;
+    }
+    let lines = side.seniority;
+    let reach = seniority::with_juniors(lines, side.lines, found.set);
+    sets::within(set, reach)
 }

@@ -14,8 +14,8 @@ use borrow.Author.Tests.{eqb-true, eq-eqb}
 use Rattle.basis.specs.Lists.{any}
 use Rattle.basis.proofs.Bools.{and-left, and-right, and-both, or-cases, or-left, or-right, both-ways, never, fails}
 use Rattle.basis.proofs.Lists.{any-at, any-of, getD-in}
-use Rattle.sets.specs.Set.{has, union}
-use Rattle.sets.proofs.Laws.{has-union, has-one, has-none, has-setOf, has-setOf-none, same-set}
+use Rattle.sets.specs.Set.{has, union, within}
+use Rattle.sets.proofs.Laws.{has-union, has-one, has-none, has-setOf, has-setOf-none, same-set, within-iff}
 use Rattle.seniority.specs.declared.Direct.{Direct}
 use Rattle.seniority.specs.Seniority.{direct, Senior, chain, senior, heldOrSenior, heldOrJunior, reach, From, Ordered, extended}
 use Rattle.seniority.specs.Seniority.Senior.{one, more}
@@ -283,6 +283,11 @@ module _ (n : ℕ) (ls : List Direct) (o : Ordered n ls) where
 
     pub reach-is : (r : ℕ) → ((v : ℕ) → has r v ≡ heldOrSenior ls s v) → r ≡ reach ls n s
     reach-is r e = same-set r (reach ls n s) (λ v. e v ∙ sym (has-reach v))
+
+    -- what is assigned is in reach, without a look at the lines
+    pub assigned-reached : (x : ℕ) → within x s ≡ true → within x (reach ls n s) ≡ true
+    unfolding heldOrSenior
+    assigned-reached x w = within-iff x (reach ls n s) .1 (λ v h. has-reach v ∙ rw (within-iff x s .0 w v h))
 
 -- ---- one line of an array further
 
