@@ -1,24 +1,19 @@
 -- Check 11 on a board: one law for each way out of the test of an entry, and the entries tested place by place.
 use Prim.Native.Nat.{ℕ, _+_, _≤_, _<_}
 use mathlib.Core.Path.{_≡_, refl, _∙_}
-use mathlib.Core.Bool.{Bool, true, false, not, _&&_}
+use mathlib.Core.Bool.{Bool, true, false, _&&_}
 use mathlib.Core.List.{List}
 use lib.ListN.{length, getD, drop, drop-of-length-le}
-use borrow.Author.Tests.{not-true, not-false}
 use Rattle.basis.specs.Choice.{given}
 use Rattle.basis.specs.Lists.{all}
 use Rattle.basis.proofs.Bools.{and-left}
 use Rattle.basis.proofs.Walk.{rest-next}
-use Rattle.sets.specs.Set.{within}
 use Rattle.policy.specs.Policy.{Policy}
 use Rattle.policy.specs.Value.{sideOf, entriesOf, policyOf}
 use Rattle.policy.specs.Valid.{valid}
-use Rattle.policy.specs.declared.value.SideValue.{SideValue}
-use Rattle.policy.specs.declared.value.Register.{Register}
 use Rattle.policy.specs.declared.value.PolicyValue.{PolicyValue}
 use Rattle.board.specs.declared.Session.{Session}
 use Rattle.board.specs.declared.Board.{Board}
-use Rattle.board.specs.declared.reach.Found.{Found}
 use Rattle.board.specs.Board.{closed, entryOf, entryFits, boardFits, fits}
 use Rattle.board.specs.Machine.{entry}
 
