@@ -1,5 +1,5 @@
 -- The claim about a list as the code runs it follows from demand 3 at the calls of the list.
-use mathlib.Core.Path.{_≡_, ap}
+use mathlib.Core.Path.{ap}
 use mathlib.Core.List.{List, map}
 use borrow.Author.Tests.{le-ltb}
 use lib.ListN.{length}

@@ -1,7 +1,7 @@
 -- The run of the calls among some items, with the answers of all: one item more is one step more.
 use Prim.Native.Nat.{ℕ, suc, _+_, _≤_, _<_}
 use mathlib.Core.Path.{_≡_, refl, sym, ap, _∙_}
-use mathlib.Core.List.{List, [], _∷_, _++_, map}
+use mathlib.Core.List.{List, [], _∷_, _++_, map, map-append}
 use mathlib.Core.Option.{Option, none, some}
 use native.Mathlib.Numerals.{add-one}
 use native.Mathlib.Omega.{arith}
@@ -14,10 +14,6 @@ use Rattle.board.specs.Machine.{Call, Out, Ran, run}
 use Rattle.runner.specs.Calls.{callsIn}
 use Rattle.runner.specs.Run.{answerByte, answersTo}
 use Rattle.runner.specs.Inner.{itemStep}
-
-map-snoc : {A B : Type 0} (g : A → B) (xs : List A) (x : A) → map g (xs ++ (x ∷ [])) ≡ map g xs ++ (g x ∷ [])
-map-snoc g [] x = refl
-map-snoc {A} {B} g (y ∷ xs) x = ap {B = List B} (λ r. g y ∷ r) (map-snoc g xs x)
 
 module _ {S : Type 0} (f : Call → S → Out S) where
   abbrev pub woven : List (Option Call) → S → Ran S
@@ -87,7 +83,7 @@ module _ {S : Type 0} (f : Call → S → Out S) where
           let q : o ≡ itemStep f x (before .state) = rw (← r .state) eo in
           let w : wovenBytes (take (i + 1) items) start ≡ wovenBytes (take i items) start ++ (y ∷ []) =
           ap (λ (z : Ran S). map answerByte (z .replies)) e
-          ∙ map-snoc answerByte (before .replies) (itemStep f x (before .state) .reply)
+          ∙ map-append answerByte (before .replies) (itemStep f x (before .state) .reply ∷ [])
           ∙ ap (λ (k : ℕ). wovenBytes (take i items) start ++ (k ∷ [])) (sym (ey ∙ ap (λ (z : Out S). answerByte (z .reply)) q)) in
           record {
             few = omega arith;

@@ -1,4 +1,4 @@
--- A list of calls as numbers, "four numbers a call: 0 open, 1 add, 2 drop, 3 close, 4 request, then its arguments".
+-- A list of calls as numbers, four to a call: its kind, then its arguments in the order of document 01.
 use Prim.Native.Nat.{ℕ}
 use mathlib.Core.Bool.{cond}
 use mathlib.Core.List.{List, [], _∷_}
@@ -22,7 +22,7 @@ abbrev pub itemOf : Item → Option Call
 itemOf (Is c) = some (callOf c)
 itemOf NoCall = none
 
--- the call that four numbers are, if they are one; close has 0 for its third argument
+-- the call that four numbers are, if they are one: kind 0 is open, 1 add, 2 drop, 3 close, 4 request; close has 0 for a third argument
 unfoldable pub callIn : ℕ → ℕ → ℕ → ℕ → Option Call
 callIn kind a b c =
     cond (eqb kind 0) (some (opens a b c))

@@ -17,7 +17,7 @@ use Rattle.runner.specs.declared.Verdict.{Verdict}
 use Rattle.runner.specs.declared.Verdict.the-variants.{Answered, Refused}
 use Rattle.runner.specs.declared.Ran.{Ran as CodeRan}
 
--- "0 denied, 1 granted, 2 done, or the refusal"
+-- an answer as a byte: 0 denied, 1 granted, 2 done, or the refusal
 abbrev pub answerByte : Reply → ℕ
 answerByte denied = 0
 answerByte granted = 1
