@@ -4,3 +4,4 @@ pub mod Demand3
 pub mod Examples
 pub mod OneRequest
 pub mod Serving
+pub mod Runner

@@ -1,0 +1,28 @@
+-- A refusal's number is a byte.
+use Prim.Native.Nat.{_<_}
+use lib.Dec.{lit<}
+use Rattle.policy.specs.Answers.{numberOf}
+use Rattle.policy.specs.declared.refusal.Refusal.{Refusal}
+use Rattle.policy.specs.declared.refusal.Refusal.the-variants.{TextTooLong, LineFeedMissing, KindNotAllowed, WrongFieldCount, MalformedField, OutOfRange, NotRising, UnequalWidths, UnbalancedFormula, EndMissing, InvalidState, UnknownAction, UnknownSession, UnregisteredUser, UnregisteredObject, SessionOpen, SessionNotOpen, SessionOfAnother, SetOutOfReach, BufferTooShort}
+
+pub number-byte : (r : Refusal) → numberOf r < 256
+number-byte TextTooLong = lit< tt
+number-byte LineFeedMissing = lit< tt
+number-byte KindNotAllowed = lit< tt
+number-byte WrongFieldCount = lit< tt
+number-byte MalformedField = lit< tt
+number-byte OutOfRange = lit< tt
+number-byte NotRising = lit< tt
+number-byte UnequalWidths = lit< tt
+number-byte UnbalancedFormula = lit< tt
+number-byte EndMissing = lit< tt
+number-byte InvalidState = lit< tt
+number-byte UnknownAction = lit< tt
+number-byte UnknownSession = lit< tt
+number-byte UnregisteredUser = lit< tt
+number-byte UnregisteredObject = lit< tt
+number-byte SessionOpen = lit< tt
+number-byte SessionNotOpen = lit< tt
+number-byte SessionOfAnother = lit< tt
+number-byte SetOutOfReach = lit< tt
+number-byte BufferTooShort = lit< tt

@@ -1,0 +1,5 @@
+pub mod Bytes
+pub mod Examples
+pub mod Items
+pub mod Outcome
+pub mod Weaving

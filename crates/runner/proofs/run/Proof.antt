@@ -1,0 +1,112 @@
+-- `runner::run` meets its contract: before place i the board and the answers are those of the first i items.
+use Prim.Native.Nat.{_-_, _≤_}
+use mathlib.Core.Path.{_≡_, refl}
+use native.Mathlib.Omega.{arith}
+use lib.ListN.{length}
+use borrow.Author.Needs.{needs}
+use Rattle.board.specs.Board.{labelsOf, outOf, boardStep}
+use Rattle.runner.specs.Calls.{itemOf, itemsIn}
+use Rattle.runner.proofs.Outcome.{run-refused, run-answered}
+use Rattle.runner.proofs.Weaving.{Reached, reached-none, reached-long, reached-more}
+use Rattle.runner.proofs.run.Statement.{statement}
+use Rattle.runner.proofs.run.Tie as tie
+
+abbrev Inv-loop : tie.InvT-loop
+Inv-loop policy counts users objects table calls answers₀ n board₀ i₀ answers board i =
+    (n ≡ length (itemsIn calls)) × (n ≤ length answers₀)
+    × Reached (boardStep policy (labelsOf counts users objects table)) (itemsIn calls) board₀ answers₀ i board answers
+
+abbrev μ-loop : tie.MeasureT-loop
+μ-loop policy counts users objects table calls answers₀ n board₀ i₀ answers board i = n - i
+
+-- the answers keep their length
+long : (c : tie.At-loop Inv-loop μ-loop) → length (c .loop .answers) ≡ length (c .before .before .before .before .before .before .before .before .before .args .answers .now)
+long c =
+    let a = c .before .before .before .before .before .before .before .before .before .args in
+    reached-long (boardStep (a .policy) (labelsOf (a .counts) (a .users .now) (a .objects .now) (a .table .now))) (itemsIn (a .calls .now))
+    (c .before .before .fresh .result) (a .answers .now) (c .loop .i) (c .loop .board) (c .loop .answers) (c .loop .inv .2) (rw (← c .loop .inv .0) (c .loop .inv .1))
+
+count-of-requires : tie.Need-count-of-requires Inv-loop μ-loop
+count-of-requires c κs = search needs
+
+fresh-requires : tie.Need-fresh-requires Inv-loop μ-loop
+fresh-requires c κs = search needs
+
+returns : tie.Need-returns Inv-loop μ-loop
+returns c =
+    let a = c .before .before .before .before .before .before .before .before .args in
+    let n = c .before .before .count-of .ensures (a .calls .now) refl in
+    run-refused (a .policy) (labelsOf (a .counts) (a .users .now) (a .objects .now) (a .table .now)) (a .calls .now) (a .answers .now)
+    (c .before .fresh .result) (c .before .fresh .ensures) (omega arith)
+
+loop-holds : tie.Need-loop-holds Inv-loop μ-loop
+loop-holds c =
+    let a = c .before .before .before .before .before .before .before .before .args in (
+      c .before .before .count-of .ensures (a .calls .now) refl,
+      omega arith,
+      reached-none (boardStep (a .policy) (labelsOf (a .counts) (a .users .now) (a .objects .now) (a .table .now))) (itemsIn (a .calls .now))
+          (c .before .fresh .result) (a .answers .now),
+    )
+
+item-at-requires : tie.Need-item-at-requires Inv-loop μ-loop
+item-at-requires c κs = search needs
+
+answer-requires : tie.Need-answer-requires Inv-loop μ-loop
+answer-requires c κs = search needs
+
+byte-of-requires : tie.Need-byte-of-requires Inv-loop μ-loop
+byte-of-requires c κs = search needs
+
+slice-write-answers : tie.Need-slice-write-answers Inv-loop μ-loop
+slice-write-answers c = omega (arith, long (c .before .before .before .before))
+
+add-i : tie.Need-add-i Inv-loop μ-loop
+add-i c = search needs
+
+loop-less : tie.Need-loop-less Inv-loop μ-loop
+loop-less c = search needs
+
+loop-again : tie.Need-loop-again Inv-loop μ-loop
+loop-again c =
+    let l = c .before .before .before .before .before in
+    let a = l .before .before .before .before .before .before .before .before .before .args in (
+      l .loop .inv .0,
+      l .loop .inv .1,
+      reached-more (boardStep (a .policy) (labelsOf (a .counts) (a .users .now) (a .objects .now) (a .table .now))) (itemsIn (a .calls .now))
+          (l .before .before .fresh .result) (a .answers .now) (l .loop .i) (l .loop .board) (l .loop .answers) (l .loop .inv .2)
+          (rw (← l .loop .inv .0) (c .before .before .before .before .loop-test .taken)) (rw (← l .loop .inv .0) (l .loop .inv .1))
+          (itemOf (c .before .before .before .item-at .result)) (c .before .before .before .item-at .ensures)
+          (outOf (c .before .before .answer .result)) (c .before .before .answer .ensures)
+          (c .before .byte-of .result) (c .before .byte-of .ensures),
+    )
+
+same-length : tie.Need-same-length Inv-loop μ-loop
+same-length c = long (c .before)
+
+returns-2 : tie.Need-returns-2 Inv-loop μ-loop
+returns-2 c =
+    let l = c .before in
+    let a = l .before .before .before .before .before .before .before .before .before .args in
+    run-answered (a .policy) (labelsOf (a .counts) (a .users .now) (a .objects .now) (a .table .now)) (a .calls .now) (a .answers .now) (l .loop .board)
+    (rw (← l .loop .inv .0) (l .loop .inv .1)) (l .before .before .fresh .result) (l .before .before .fresh .ensures) (l .loop .i) (l .loop .answers)
+    (l .loop .inv .2) (rw (← l .loop .inv .0) (c .loop-test .left)) _ (l .loop .inv .0)
+
+pub run-spec : {M : Type 1} → statement M
+run-spec =
+    tie.close
+    (tie.spec
+    Inv-loop
+    μ-loop
+    count-of-requires
+    fresh-requires
+    returns
+    loop-holds
+    item-at-requires
+    answer-requires
+    byte-of-requires
+    slice-write-answers
+    add-i
+    loop-less
+    loop-again
+    same-length
+    returns-2)
