@@ -18,6 +18,7 @@ use labels::Compiled;
 use labels::Counts;
 use libc::STDIN_FILENO;
 use libc::STDOUT_FILENO;
+use policy::refusal::number_of;
 use policy::value::PolicyValue;
 use policy::value::Reading;
 use policy::value::Verdict;
@@ -175,7 +176,7 @@ fn write_reading(reading: Reading, buf: &mut [u8]) -> usize
             write_rules(policy, buf, at)
         }
         Verdict::Refused(refusal, line) => report::refusal_line(
-            report::number_of(refusal),
+            number_of(refusal),
             line as u32,
             buf,
         ),

@@ -2,10 +2,8 @@
 ghost use mathlib.Core.Path.{_≡_};
 ghost use Prim.Native.Nat.{_/_, _%_, _^_, _<_, _≤_};
 ghost use lib.ListN.{length};
-ghost use Rattle.policy.specs.Answers.{numberOf};
 ghost use Rattle.writer.specs.Put.{Put};
 ghost use Rattle.report.specs.Lines.{refusalLine, labelsLine, actionLine, setsLine, tupleLine, lineRoom, startRoom, Some};
-use policy::refusal::Refusal;
 use writer::line;
 
 // Room for any of these lines.
@@ -15,34 +13,6 @@ pub const ROOM: usize = 32;
 pub struct Lines {
     pub at: usize,
     pub next: usize,
-}
-
-// The document's number of a refusal.
-pub fn number_of(refusal: Refusal) -> u32
-    ensures { λ r. ⌜ r ≡ numberOf refusal ⌝ }
-{
-    match refusal {
-        Refusal::TextTooLong => 1,
-        Refusal::LineFeedMissing => 2,
-        Refusal::KindNotAllowed => 3,
-        Refusal::WrongFieldCount => 4,
-        Refusal::MalformedField => 5,
-        Refusal::OutOfRange => 6,
-        Refusal::NotRising => 7,
-        Refusal::UnequalWidths => 8,
-        Refusal::UnbalancedFormula => 9,
-        Refusal::EndMissing => 10,
-        Refusal::InvalidState => 11,
-        Refusal::UnknownAction => 12,
-        Refusal::UnknownSession => 13,
-        Refusal::UnregisteredUser => 14,
-        Refusal::UnregisteredObject => 15,
-        Refusal::SessionOpen => 16,
-        Refusal::SessionNotOpen => 17,
-        Refusal::SessionOfAnother => 18,
-        Refusal::SetOutOfReach => 19,
-        Refusal::BufferTooShort => 20,
-    }
 }
 
 // The line of a refused text.

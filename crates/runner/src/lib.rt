@@ -10,6 +10,7 @@ use board::Board;
 use board::Step;
 use labels::Counts;
 use policy::refusal::Refusal;
+use policy::refusal::number_of;
 use policy::value::PolicyValue;
 
 mod list;
@@ -95,7 +96,7 @@ fn byte_of(answer: Answer) -> u8
         Answer::Done => 2,
         Answer::Granted => 1,
         Answer::Denied => 0,
-        Answer::Refused(why) => report::number_of(why) as u8,
+        Answer::Refused(why) => number_of(why) as u8,
     }
 }
 

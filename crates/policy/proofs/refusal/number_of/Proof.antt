@@ -1,7 +1,7 @@
--- `report::number_of` meets its contract: each arm gives the number of its refusal.
+-- `policy::refusal::number_of` meets its contract: each arm gives the number of its refusal.
 use borrow.Author.Needs.{needs}
-use Rattle.report.proofs.number_of.Statement.{statement}
-use Rattle.report.proofs.number_of.Tie as tie
+use Rattle.policy.proofs.refusal.number_of.Statement.{statement}
+use Rattle.policy.proofs.refusal.number_of.Tie as tie
 
 enum-told : tie.Need-enum-told
 enum-told c = search needs
