@@ -1,0 +1,70 @@
+// A packed policy unpacked: each number as its word.
+use crate::packed::PackedPolicy;
+use crate::packed::PackedRule;
+use crate::packed::PackedRules;
+use crate::word;
+use policy::value::PolicyValue;
+use policy::value::RULE_PLACES;
+use policy::value::RuleValue;
+use policy::value::Rules;
+use policy::value::Slot;
+use policy::value::WORD_PLACES;
+use words::Word;
+
+fn words(from: [u32; WORD_PLACES]) -> [Slot; WORD_PLACES] {
+    let mut words = [Slot { word: Word::True }; WORD_PLACES];
+    let mut i = 0;
+    while i < WORD_PLACES {
+        let w = word::unpack(from[i]);
+        words[i] = Slot { word: w };
+        i += 1;
+    }
+    words
+}
+
+fn rule(from: PackedRule) -> RuleValue {
+    let numbers = from.words;
+    let slots = words(numbers);
+    RuleValue {
+        action: from.action,
+        count: from.count,
+        words: slots,
+    }
+}
+
+fn rules(from: PackedRules) -> Rules {
+    let packed = from.entries;
+    let words = [Slot { word: Word::True }; WORD_PLACES];
+    let mut entries = [RuleValue {
+        action: 0,
+        count: 0,
+        words,
+    }; RULE_PLACES];
+    let mut i = 0;
+    while i < RULE_PLACES {
+        let r = packed[i];
+        entries[i] = rule(r);
+        i += 1;
+    }
+    Rules {
+        count: from.count,
+        entries,
+    }
+}
+
+pub fn unpack(from: PackedPolicy) -> PolicyValue {
+    let user = from.user;
+    let object = from.object;
+    let users = from.users;
+    let objects = from.objects;
+    let packed = from.rules;
+    let values = rules(packed);
+    PolicyValue {
+        form: from.form,
+        user,
+        object,
+        users,
+        objects,
+        rules: values,
+    }
+}
