@@ -1,4 +1,18 @@
 // The calls for C and Rust. A policy goes packed, and everything else by value or in lent buffers.
+ghost use mathlib.Core.Path.{_≡_};
+ghost use Rattle.policy.specs.Read.{readText};
+ghost use Rattle.policy.specs.Valid.{valid};
+ghost use Rattle.policy.specs.Write.{write, writeBuffer};
+ghost use Rattle.formula.specs.Decide.{decide};
+ghost use Rattle.tuples.specs.Tuples.{list, listBuffer, decideByTuples};
+ghost use Rattle.labels.specs.Compile.{lent, compile, compileBuffers};
+ghost use Rattle.labels.specs.Apart.{Tells};
+ghost use Rattle.labels.specs.declared.Apartness.{Apartness};
+ghost use Rattle.board.specs.Machine.{opens, adds, drops, closes, requests};
+ghost use Rattle.board.specs.Board.{Labels, labelsOf, fresh, boardStep};
+ghost use Rattle.embed.specs.Packed.{unpackedPolicy};
+ghost use Rattle.embed.specs.Answers.{replyNumber, packedReading, counted, packedCounts, separation, packedStep, labelsWith};
+
 mod answer;
 mod pack;
 pub mod packed;
@@ -13,38 +27,29 @@ use crate::packed::PackedStep;
 use crate::packed::Separation;
 use board::Board;
 use labels::Counts;
-use policy::value::Verdict;
 
 // The policy of a text, or the refusal and its line.
 #[no_mangle]
-pub extern "C" fn helvemoik_read(text: &[u8]) -> PackedReading {
-    let r = reader::read(text);
-    let v = r.verdict;
-    let value = r.policy;
-    let policy = pack::pack(value);
-    match v {
-        Verdict::Accepted => PackedReading {
-            refusal: 0,
-            line: 0,
-            policy,
-        },
-        Verdict::Refused(why, line) => PackedReading {
-            refusal: report::number_of(why),
-            line,
-            policy,
-        },
-    }
+pub extern "C" fn helvemoik_read(text: &[u8]) -> PackedReading
+    ensures { λ r. ⌜ r ≡ packedReading (readText (now (text .entry))) ⌝ }
+{
+    answer::reading(reader::read(text))
 }
 
 // The text of a policy, put into the buffer.
 #[no_mangle]
-pub extern "C" fn helvemoik_write(policy: PackedPolicy, buffer: &mut [u8]) -> Counted {
+pub extern "C" fn helvemoik_write(policy: PackedPolicy, buffer: &mut [u8]) -> Counted
+    ensures answer { λ r. ⌜ r ≡ counted (write (unpackedPolicy policy) (now (buffer .entry))) ⌝ }
+    ensures bytes { λ r. ⌜ now (buffer .exit) ≡ writeBuffer (unpackedPolicy policy) (now (buffer .entry)) ⌝ }
+{
     answer::written(writer::write(unpack::unpack(policy), buffer))
 }
 
 // Check 11.
 #[no_mangle]
-pub extern "C" fn helvemoik_valid(policy: PackedPolicy) -> bool {
+pub extern "C" fn helvemoik_valid(policy: PackedPolicy) -> bool
+    ensures { λ r. ⌜ r ≡ valid (unpackedPolicy policy) ⌝ }
+{
     validity::check(unpack::unpack(policy))
 }
 
@@ -55,13 +60,18 @@ pub extern "C" fn helvemoik_decide(
     action: u32,
     user: u32,
     object: u32,
-) -> u32 {
+) -> u32
+    ensures { λ r. ⌜ r ≡ replyNumber (decide (unpackedPolicy policy) action user object) ⌝ }
+{
     answer::decision(formula::decide(unpack::unpack(policy), action, user, object))
 }
 
 // Stores the tuples of an action.
 #[no_mangle]
-pub extern "C" fn helvemoik_list(policy: PackedPolicy, action: u32, buffer: &mut [u16]) -> Counted {
+pub extern "C" fn helvemoik_list(policy: PackedPolicy, action: u32, buffer: &mut [u16]) -> Counted
+    ensures answer { λ r. ⌜ r ≡ counted (list (unpackedPolicy policy) action (now (buffer .entry))) ⌝ }
+    ensures tuples { λ r. ⌜ now (buffer .exit) ≡ listBuffer (unpackedPolicy policy) action (now (buffer .entry)) ⌝ }
+{
     answer::listed(tuples::list(unpack::unpack(policy), action, buffer))
 }
 
@@ -73,7 +83,9 @@ pub extern "C" fn helvemoik_decide_by_tuples(
     object: u32,
     listing: &[u16],
     count: usize,
-) -> u32 {
+) -> u32
+    ensures { λ r. ⌜ r ≡ replyNumber (decideByTuples (unpackedPolicy policy) user object (now (listing .entry)) count) ⌝ }
+{
     answer::decision(tuples::decide(
         unpack::unpack(policy),
         user,
@@ -90,7 +102,10 @@ pub extern "C" fn helvemoik_compile(
     users: &mut [u8],
     objects: &mut [u8],
     table: &mut [u8],
-) -> PackedCounts {
+) -> PackedCounts
+    ensures answer { λ r. ⌜ r ≡ packedCounts (compile (unpackedPolicy policy) (lent (now (users .entry)) (now (objects .entry)) (now (table .entry)))) ⌝ }
+    ensures buffers { λ r. ⌜ lent (now (users .exit)) (now (objects .exit)) (now (table .exit)) ≡ compileBuffers (unpackedPolicy policy) (lent (now (users .entry)) (now (objects .entry)) (now (table .entry))) ⌝ }
+{
     answer::counts(labels::compiler::compile(
         unpack::unpack(policy),
         users,
@@ -101,13 +116,17 @@ pub extern "C" fn helvemoik_compile(
 
 // Whether something tells two user sets apart.
 #[no_mangle]
-pub extern "C" fn helvemoik_apart(policy: PackedPolicy, one: u32, other: u32) -> Separation {
+pub extern "C" fn helvemoik_apart(policy: PackedPolicy, one: u32, other: u32) -> Separation
+    ensures { λ r. ⌜ ((a : Apartness) × Tells (unpackedPolicy policy) one other a × (r ≡ separation a)) ⌝ }
+{
     answer::separation(labels::apart::apart(unpack::unpack(policy), one, other))
 }
 
 // A board that holds no session.
 #[no_mangle]
-pub extern "C" fn helvemoik_fresh() -> Board {
+pub extern "C" fn helvemoik_fresh() -> Board
+    ensures { λ r. ⌜ r ≡ fresh ⌝ }
+{
     board::fresh()
 }
 
@@ -119,7 +138,9 @@ pub extern "C" fn helvemoik_open(
     user: u32,
     session: u32,
     set: u32,
-) -> PackedStep {
+) -> PackedStep
+    ensures { λ r. ⌜ ((l : Labels) → r ≡ packedStep (boardStep (unpackedPolicy policy) l (opens user session set) board)) ⌝ }
+{
     answer::step(board::open(
         board,
         unpack::unpack(policy),
@@ -137,7 +158,9 @@ pub extern "C" fn helvemoik_add(
     user: u32,
     session: u32,
     set: u32,
-) -> PackedStep {
+) -> PackedStep
+    ensures { λ r. ⌜ ((l : Labels) → r ≡ packedStep (boardStep (unpackedPolicy policy) l (adds user session set) board)) ⌝ }
+{
     answer::step(board::add(
         board,
         unpack::unpack(policy),
@@ -155,7 +178,9 @@ pub extern "C" fn helvemoik_drop(
     user: u32,
     session: u32,
     set: u32,
-) -> PackedStep {
+) -> PackedStep
+    ensures { λ r. ⌜ ((l : Labels) → r ≡ packedStep (boardStep (unpackedPolicy policy) l (drops user session set) board)) ⌝ }
+{
     answer::step(board::drop(
         board,
         unpack::unpack(policy),
@@ -172,7 +197,9 @@ pub extern "C" fn helvemoik_close(
     policy: PackedPolicy,
     user: u32,
     session: u32,
-) -> PackedStep {
+) -> PackedStep
+    ensures { λ r. ⌜ ((l : Labels) → r ≡ packedStep (boardStep (unpackedPolicy policy) l (closes user session) board)) ⌝ }
+{
     answer::step(board::close(board, unpack::unpack(policy), user, session))
 }
 
@@ -189,7 +216,9 @@ pub extern "C" fn helvemoik_request(
     session: u32,
     action: u32,
     object: u32,
-) -> PackedStep {
+) -> PackedStep
+    ensures { λ r. ⌜ r ≡ packedStep (boardStep (unpackedPolicy policy) (labelsWith nu «no» (now (users .entry)) (now (objects .entry)) (now (table .entry))) (requests session action object) board) ⌝ }
+{
     let counts = Counts {
         users: nu,
         objects: no,

@@ -1,4 +1,8 @@
 // A policy value packed: each word as its number.
+ghost use mathlib.Core.Path.{_≡_};
+ghost use mathlib.Core.List.{map};
+ghost use Rattle.policy.specs.declared.value.Slot.{Slot};
+ghost use Rattle.embed.specs.Packed.{packedWord, packedRule, packedRules, packedPolicy};
 use crate::packed::PackedPolicy;
 use crate::packed::PackedRule;
 use crate::packed::PackedRules;
@@ -10,7 +14,9 @@ use policy::value::Rules;
 use policy::value::Slot;
 use policy::value::WORD_PLACES;
 
-fn words(from: [Slot; WORD_PLACES]) -> [u32; WORD_PLACES] {
+fn words(from: [Slot; WORD_PLACES]) -> [u32; WORD_PLACES]
+    ensures { λ r. ⌜ r ≡ map (λ (x : Slot). packedWord (x .word)) from ⌝ }
+{
     let mut words = [0; WORD_PLACES];
     let mut i = 0;
     while i < WORD_PLACES {
@@ -22,7 +28,9 @@ fn words(from: [Slot; WORD_PLACES]) -> [u32; WORD_PLACES] {
     words
 }
 
-fn rule(from: RuleValue) -> PackedRule {
+fn rule(from: RuleValue) -> PackedRule
+    ensures { λ r. ⌜ r ≡ packedRule from ⌝ }
+{
     let slots = from.words;
     let packed = words(slots);
     PackedRule {
@@ -32,7 +40,9 @@ fn rule(from: RuleValue) -> PackedRule {
     }
 }
 
-fn rules(from: Rules) -> PackedRules {
+fn rules(from: Rules) -> PackedRules
+    ensures { λ r. ⌜ r ≡ packedRules from ⌝ }
+{
     let values = from.entries;
     let words = [0; WORD_PLACES];
     let mut entries = [PackedRule {
@@ -52,7 +62,9 @@ fn rules(from: Rules) -> PackedRules {
     }
 }
 
-pub fn pack(from: PolicyValue) -> PackedPolicy {
+pub fn pack(from: PolicyValue) -> PackedPolicy
+    ensures { λ r. ⌜ r ≡ packedPolicy from ⌝ }
+{
     let user = from.user;
     let object = from.object;
     let users = from.users;

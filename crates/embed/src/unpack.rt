@@ -1,4 +1,8 @@
 // A packed policy unpacked: each number as its word.
+ghost use mathlib.Core.Path.{_≡_};
+ghost use mathlib.Core.List.{map};
+ghost use Rattle.policy.specs.Value.{slot};
+ghost use Rattle.embed.specs.Packed.{unpackedWord, unpackedRule, unpackedRules, unpackedPolicy};
 use crate::packed::PackedPolicy;
 use crate::packed::PackedRule;
 use crate::packed::PackedRules;
@@ -11,7 +15,9 @@ use policy::value::Slot;
 use policy::value::WORD_PLACES;
 use words::Word;
 
-fn words(from: [u32; WORD_PLACES]) -> [Slot; WORD_PLACES] {
+fn words(from: [u32; WORD_PLACES]) -> [Slot; WORD_PLACES]
+    ensures { λ r. ⌜ r ≡ map (λ n. slot (unpackedWord n)) from ⌝ }
+{
     let mut words = [Slot { word: Word::True }; WORD_PLACES];
     let mut i = 0;
     while i < WORD_PLACES {
@@ -22,7 +28,9 @@ fn words(from: [u32; WORD_PLACES]) -> [Slot; WORD_PLACES] {
     words
 }
 
-fn rule(from: PackedRule) -> RuleValue {
+fn rule(from: PackedRule) -> RuleValue
+    ensures { λ r. ⌜ r ≡ unpackedRule from ⌝ }
+{
     let numbers = from.words;
     let slots = words(numbers);
     RuleValue {
@@ -32,7 +40,9 @@ fn rule(from: PackedRule) -> RuleValue {
     }
 }
 
-fn rules(from: PackedRules) -> Rules {
+fn rules(from: PackedRules) -> Rules
+    ensures { λ r. ⌜ r ≡ unpackedRules from ⌝ }
+{
     let packed = from.entries;
     let words = [Slot { word: Word::True }; WORD_PLACES];
     let mut entries = [RuleValue {
@@ -52,7 +62,9 @@ fn rules(from: PackedRules) -> Rules {
     }
 }
 
-pub fn unpack(from: PackedPolicy) -> PolicyValue {
+pub fn unpack(from: PackedPolicy) -> PolicyValue
+    ensures { λ r. ⌜ r ≡ unpackedPolicy from ⌝ }
+{
     let user = from.user;
     let object = from.object;
     let users = from.users;

@@ -1,17 +1,23 @@
 // A word as a number, and back.
+ghost use mathlib.Core.Path.{_≡_};
+ghost use Rattle.embed.specs.Packed as spec;
 use words::Comparison;
 use words::Holding;
 use words::Word;
 
 // The number of a kind with its two bytes.
-fn number(kind: u8, first: u8, second: u8) -> u32 {
+fn number(kind: u8, first: u8, second: u8) -> u32
+    ensures { λ r. ⌜ r ≡ spec.number kind first second ⌝ }
+{
     kind as u32 * 65536 + first as u32 * 256 + second as u32
 }
 
 // The number of a word.
-pub fn pack(word: Word) -> u32 {
+pub fn pack(word: Word) -> u32
+    ensures { λ r. ⌜ r ≡ spec.packedWord word ⌝ }
+{
     match word {
-        Word::True => 0,
+        Word::True => number(0, 0, 0),
         Word::False => number(1, 0, 0),
         Word::Holds(h) => match h {
             Holding::User(v) => number(5, v, 0),
@@ -27,8 +33,17 @@ pub fn pack(word: Word) -> u32 {
     }
 }
 
-// The word of a kind with its two bytes, as far as it has them.
-fn of_kind(kind: u32, first: u8, second: u8) -> Word {
+// The word that stands for a number which is no word's.
+fn missing() -> Word
+    ensures { λ r. ⌜ r ≡ spec.missing ⌝ }
+{
+    Word::Holds(Holding::User(255))
+}
+
+// The word of a kind, with as many of the two bytes as it has.
+fn of_kind(kind: u32, first: u8, second: u8) -> Word
+    ensures { λ r. ⌜ r ≡ spec.wordOf kind first second ⌝ }
+{
     match kind {
         0 => Word::True,
         1 => Word::False,
@@ -39,16 +54,17 @@ fn of_kind(kind: u32, first: u8, second: u8) -> Word {
         6 => Word::Holds(Holding::Object(first)),
         7 => Word::Compares(Comparison::Dominates(first, second)),
         8 => Word::Compares(Comparison::Equals(first, second)),
-        _ => Word::Holds(Holding::User(255)),
+        _ => missing(),
     }
 }
 
-// The word of a number; the missing word where the number is no word's.
-pub fn unpack(n: u32) -> Word {
-    let w = of_kind(n / 65536, (n / 256 % 256) as u8, (n % 256) as u8);
-    if pack(w) == n {
-        w
-    } else {
-        Word::Holds(Holding::User(255))
+// The word of a number. Most places of a policy are blank, and so 0: they are told at once.
+pub fn unpack(n: u32) -> Word
+    ensures { λ r. ⌜ r ≡ spec.unpackedWord n ⌝ }
+{
+    if n == 0 {
+        return Word::True;
     }
+    let w = of_kind(n / 65536, (n / 256 % 256) as u8, (n % 256) as u8);
+    if pack(w) == n { w } else { missing() }
 }

@@ -1,56 +1,55 @@
+-- `embed::pack::rules` meets its contract: the places passed hold the packed rules there.
+use Rattle.basis.proofs.Lists.{long}
+use Rattle.embed.specs.Packed.{packedRule, packedRules}
 use Prim.Native.Nat.{_-_, _≤_}
+use mathlib.Core.Path.{_≡_, sym}
+use native.Mathlib.Omega.{arith}
+use lib.ListN.{length}
+use Rattle.policy.specs.Value.{rulePlaces}
+use Rattle.embed.proofs.Mapped.{Mapped, mapped-none, mapped-more, mapped-all}
 use borrow.Author.Needs.{needs}
 use Rattle.embed.proofs.pack.rules.Statement.{statement}
 use Rattle.embed.proofs.pack.rules.Tie as tie
-use Rattle.embed.proofs.pack.rules.Reads as reads
-use Rattle.embed.proofs.pack.rules.Lts as lts
-use Rattle.embed.proofs.pack.rule.Reads as rule-reads
 
 abbrev Inv-loop : tie.InvT-loop
-Inv-loop from values entries₀ i₀ entries i = i ≤ 8
+Inv-loop from values entries₀ i₀ entries i = Mapped packedRule i values entries
 
 abbrev μ-loop : tie.MeasureT-loop
-μ-loop from values entries₀ i₀ entries i = 8 - i
+μ-loop from values entries₀ i₀ entries i = rulePlaces - i
 
--- src/pack.rt:44:5
 loop-holds : tie.Need-loop-holds Inv-loop μ-loop
-loop-holds c = search needs
+loop-holds c = let l : length (c .before .args .from .entries) ≡ rulePlaces = search (needs, long) in mapped-none (sym l)
 
--- src/pack.rt:45:17
 mul-r : tie.Need-mul-r Inv-loop μ-loop
 mul-r c = search needs
 
--- src/pack.rt:45:17
 array-copy-out-r : tie.Need-array-copy-out-r Inv-loop μ-loop
 array-copy-out-r c = search needs
 
--- src/pack.rt:46:22
 rule-requires : tie.Need-rule-requires Inv-loop μ-loop
 rule-requires c κs = search needs
 
--- src/pack.rt:46:9
 mul-entries : tie.Need-mul-entries Inv-loop μ-loop
 mul-entries c = search needs
 
--- src/pack.rt:46:9
 array-set-from-entries : tie.Need-array-set-from-entries Inv-loop μ-loop
 array-set-from-entries c = search needs
 
--- src/pack.rt:47:9
 add-i : tie.Need-add-i Inv-loop μ-loop
 add-i c = search needs
 
--- src/pack.rt:44:5
 loop-less : tie.Need-loop-less Inv-loop μ-loop
 loop-less c = search needs
 
--- src/pack.rt:44:5
 loop-again : tie.Need-loop-again Inv-loop μ-loop
-loop-again c = search needs
+loop-again c = mapped-more (c .before .before .before .loop .inv) _ (search (needs, long)) (c .rule .ensures)
 
--- src/pack.rt:35:1
 returns : tie.Need-returns Inv-loop μ-loop
-returns c = search needs
+unfolding packedRules
+returns c =
+    let l : length (c .before .before .before .args .from .entries) ≡ rulePlaces = search (needs, long) in
+    let h : length (c .before .before .before .args .from .entries) ≤ c .before .loop .i = omega arith in
+    rw (mapped-all (c .before .loop .inv) h)
 
 pub rules-spec : {M : Type 1} → statement M
 rules-spec =

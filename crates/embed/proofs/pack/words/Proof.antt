@@ -1,56 +1,49 @@
-use Prim.Native.Nat.{_-_, _≤_}
+-- `embed::pack::words` meets its contract: the places passed hold the numbers of the words there.
+use Rattle.basis.proofs.Lists.{long}
+use Rattle.policy.specs.Value.{wordPlaces}
+use Rattle.policy.specs.declared.value.Slot.{Slot}
+use Rattle.embed.specs.Packed.{packedWord}
+use Prim.Native.Nat.{_-_}
+use Rattle.embed.proofs.Mapped.{Mapped, mapped-none, mapped-more, mapped-all}
 use borrow.Author.Needs.{needs}
 use Rattle.embed.proofs.pack.words.Statement.{statement}
 use Rattle.embed.proofs.pack.words.Tie as tie
-use Rattle.embed.proofs.pack.words.Reads as reads
-use Rattle.embed.proofs.pack.words.Lts as lts
-use Rattle.embed.proofs.word.pack.Reads as pack-reads
 
 abbrev Inv-loop : tie.InvT-loop
-Inv-loop from words₀ i₀ words i = i ≤ 32
+Inv-loop from words₀ i₀ words i = Mapped (λ (x : Slot). packedWord (x .word)) i from words
 
 abbrev μ-loop : tie.MeasureT-loop
-μ-loop from words₀ i₀ words i = 32 - i
+μ-loop from words₀ i₀ words i = wordPlaces - i
 
--- src/pack.rt:16:5
 loop-holds : tie.Need-loop-holds Inv-loop μ-loop
-loop-holds c = search needs
+loop-holds c = mapped-none (search (needs, long))
 
--- src/pack.rt:17:20
 mul-slot : tie.Need-mul-slot Inv-loop μ-loop
 mul-slot c = search needs
 
--- src/pack.rt:17:20
 array-copy-out-slot : tie.Need-array-copy-out-slot Inv-loop μ-loop
 array-copy-out-slot c = search needs
 
--- src/pack.rt:19:20
 pack-requires : tie.Need-pack-requires Inv-loop μ-loop
 pack-requires c κs = search needs
 
--- src/pack.rt:19:9
 mul-words : tie.Need-mul-words Inv-loop μ-loop
 mul-words c = search needs
 
--- src/pack.rt:19:9
 array-write-words : tie.Need-array-write-words Inv-loop μ-loop
 array-write-words c = search needs
 
--- src/pack.rt:20:9
 add-i : tie.Need-add-i Inv-loop μ-loop
 add-i c = search needs
 
--- src/pack.rt:16:5
 loop-less : tie.Need-loop-less Inv-loop μ-loop
 loop-less c = search needs
 
--- src/pack.rt:16:5
 loop-again : tie.Need-loop-again Inv-loop μ-loop
-loop-again c = search needs
+loop-again c = mapped-more (c .before .before .before .loop .inv) _ (search (needs, long)) (c .pack .ensures)
 
--- src/pack.rt:13:1
 returns : tie.Need-returns Inv-loop μ-loop
-returns c = search needs
+returns c = mapped-all (c .before .loop .inv) (search (needs, long))
 
 pub words-spec : {M : Type 1} → statement M
 words-spec =

@@ -1,56 +1,48 @@
-use Prim.Native.Nat.{_-_, _≤_}
+-- `embed::unpack::words` meets its contract: the places passed hold the words of the numbers there.
+use mathlib.Core.Path.{ap}
+use Rattle.policy.specs.Value.{wordPlaces, slot}
+use Rattle.embed.specs.Packed.{unpackedWord}
+use Prim.Native.Nat.{_-_}
+use Rattle.embed.proofs.Mapped.{Mapped, mapped-none, mapped-more, mapped-all}
 use borrow.Author.Needs.{needs}
 use Rattle.embed.proofs.unpack.words.Statement.{statement}
 use Rattle.embed.proofs.unpack.words.Tie as tie
-use Rattle.embed.proofs.unpack.words.Reads as reads
-use Rattle.embed.proofs.unpack.words.Lts as lts
-use Rattle.embed.proofs.word.unpack.Reads as unpack-reads
 
 abbrev Inv-loop : tie.InvT-loop
-Inv-loop from words₀ i₀ words i = i ≤ 32
+Inv-loop from words₀ i₀ words i = Mapped (λ n. slot (unpackedWord n)) i from words
 
 abbrev μ-loop : tie.MeasureT-loop
-μ-loop from words₀ i₀ words i = 32 - i
+μ-loop from words₀ i₀ words i = wordPlaces - i
 
--- src/unpack.rt:17:5
 loop-holds : tie.Need-loop-holds Inv-loop μ-loop
-loop-holds c = search needs
+loop-holds c = mapped-none (search needs)
 
--- src/unpack.rt:18:30
 mul-unpack : tie.Need-mul-unpack Inv-loop μ-loop
 mul-unpack c = search needs
 
--- src/unpack.rt:18:30
 array-read-unpack : tie.Need-array-read-unpack Inv-loop μ-loop
 array-read-unpack c = search needs
 
--- src/unpack.rt:18:13
 unpack-requires : tie.Need-unpack-requires Inv-loop μ-loop
 unpack-requires c κs = search needs
 
--- src/unpack.rt:19:9
 mul-words : tie.Need-mul-words Inv-loop μ-loop
 mul-words c = search needs
 
--- src/unpack.rt:19:9
 array-set-from-words : tie.Need-array-set-from-words Inv-loop μ-loop
 array-set-from-words c = search needs
 
--- src/unpack.rt:20:9
 add-i : tie.Need-add-i Inv-loop μ-loop
 add-i c = search needs
 
--- src/unpack.rt:17:5
 loop-less : tie.Need-loop-less Inv-loop μ-loop
 loop-less c = search needs
 
--- src/unpack.rt:17:5
 loop-again : tie.Need-loop-again Inv-loop μ-loop
-loop-again c = search needs
+loop-again c = mapped-more (c .before .before .loop .inv) _ (search needs) (ap slot (c .unpack .ensures))
 
--- src/unpack.rt:14:1
 returns : tie.Need-returns Inv-loop μ-loop
-returns c = search needs
+returns c = mapped-all (c .before .loop .inv) (search needs)
 
 pub words-spec : {M : Type 1} → statement M
 words-spec =
