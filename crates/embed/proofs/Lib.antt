@@ -1,3 +1,5 @@
 pub mod Mapped
 pub mod Packing
 pub mod Answers
+pub mod RoundTrip
+pub mod Crossing

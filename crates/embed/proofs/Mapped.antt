@@ -1,10 +1,10 @@
 -- An array that is filled place by place with the images of another array's elements: after k turns its first k places are these.
 use Prim.Native.Nat.{ℕ, _+_, _≤_, _<_}
 use mathlib.Core.Path.{_≡_, refl, sym, _∙_}
-use mathlib.Core.List.{List, [], _∷_, _++_, map, map-append}
+use mathlib.Core.List.{List, [], _∷_, map, map-append}
 use native.Mathlib.Numerals.{add-one}
 use native.Mathlib.Omega.{arith}
-use lib.ListN.{length, getD, take, set, length-set, length-map}
+use lib.ListN.{length, getD, take, set, length-set}
 use lib.Seq.{take-suc, take-suc-set, take-all}
 
 pub record Mapped {A B : Type 0} (f : A → B) (k : ℕ) (xs : List A) (ys : List B) : Type 0 where
@@ -25,7 +25,7 @@ module _ {A B : Type 0} {f : A → B} {xs : List A} {ys : List B} where
         size = length-set ys k y ∙ s;
         within = omega arith;
         done =
-          rw (add-one k, take-suc-set ys k y g, take-suc xs k d h, map-append f (take k xs) (getD xs k d ∷ []), m .done, e);
+            rw (add-one k, take-suc-set ys k y g, take-suc xs k d h, map-append f (take k xs) (getD xs k d ∷ []), m .done, e);
       }
 
   -- all places are filled

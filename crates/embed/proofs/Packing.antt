@@ -1,7 +1,6 @@
--- Words and policy values, packed and unpacked: what unpacking a number finds, and that each way undoes the other.
+-- What unpacking finds at a number: the word that its kind and its bytes name, or the missing word.
 use Prim.Native.Nat.{ℕ, _+_, _≤_}
-use mathlib.Core.Path.{_≡_, refl, sym, ap, _∙_}
-use mathlib.Core.Bool.{true, false}
+use mathlib.Core.Path.{_≡_, sym, ap, _∙_}
 use native.Mathlib.Omega.{arith}
 use borrow.Author.Tests.{eq-eqb, ne-eqb}
 use lib.ListN.{List·getD-eq-default}

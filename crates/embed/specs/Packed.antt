@@ -110,6 +110,9 @@ unpackedPolicy p =
       rules = unpackedRules (p .rules);
     }
 
--- every word of the value, those past a count too
-unfoldable pub wordsInBytes : PolicyValue → Bool
-wordsInBytes v = all (λ (r : RuleValue). all (λ (x : Slot). inBytes (x .word)) (r .words)) (v .rules .entries)
+-- a test of every word of a value, those past a count too
+abbrev pub ruleWords : (Word → Bool) → RuleValue → Bool
+ruleWords f r = all (λ (x : Slot). f (x .word)) (r .words)
+
+unfoldable pub everyWord : (Word → Bool) → PolicyValue → Bool
+everyWord f v = all (ruleWords f) (v .rules .entries)

@@ -9,7 +9,7 @@ ghost use Rattle.labels.specs.Compile.{lent, compile, compileBuffers};
 ghost use Rattle.labels.specs.Apart.{Tells};
 ghost use Rattle.labels.specs.declared.Apartness.{Apartness};
 ghost use Rattle.board.specs.Machine.{opens, adds, drops, closes, requests};
-ghost use Rattle.board.specs.Board.{Labels, labelsOf, fresh, boardStep};
+ghost use Rattle.board.specs.Board.{Labels, fresh, boardStep};
 ghost use Rattle.embed.specs.Packed.{unpackedPolicy};
 ghost use Rattle.embed.specs.Answers.{replyNumber, packedReading, counted, packedCounts, separation, packedStep, labelsWith};
 
@@ -55,12 +55,7 @@ pub extern "C" fn helvemoik_valid(policy: PackedPolicy) -> bool
 
 // Decides by the formula on two sets.
 #[no_mangle]
-pub extern "C" fn helvemoik_decide(
-    policy: PackedPolicy,
-    action: u32,
-    user: u32,
-    object: u32,
-) -> u32
+pub extern "C" fn helvemoik_decide(policy: PackedPolicy, action: u32, user: u32, object: u32) -> u32
     ensures { λ r. ⌜ r ≡ replyNumber (decide (unpackedPolicy policy) action user object) ⌝ }
 {
     answer::decision(formula::decide(unpack::unpack(policy), action, user, object))
@@ -86,13 +81,7 @@ pub extern "C" fn helvemoik_decide_by_tuples(
 ) -> u32
     ensures { λ r. ⌜ r ≡ replyNumber (decideByTuples (unpackedPolicy policy) user object (now (listing .entry)) count) ⌝ }
 {
-    answer::decision(tuples::decide(
-        unpack::unpack(policy),
-        user,
-        object,
-        listing,
-        count,
-    ))
+    answer::decision(tuples::decide(unpack::unpack(policy), user, object, listing, count))
 }
 
 // Fills the three buffers with labels and table.
@@ -106,12 +95,7 @@ pub extern "C" fn helvemoik_compile(
     ensures answer { λ r. ⌜ r ≡ packedCounts (compile (unpackedPolicy policy) (lent (now (users .entry)) (now (objects .entry)) (now (table .entry)))) ⌝ }
     ensures buffers { λ r. ⌜ lent (now (users .exit)) (now (objects .exit)) (now (table .exit)) ≡ compileBuffers (unpackedPolicy policy) (lent (now (users .entry)) (now (objects .entry)) (now (table .entry))) ⌝ }
 {
-    answer::counts(labels::compiler::compile(
-        unpack::unpack(policy),
-        users,
-        objects,
-        table,
-    ))
+    answer::counts(labels::compiler::compile(unpack::unpack(policy), users, objects, table))
 }
 
 // Whether something tells two user sets apart.
@@ -141,13 +125,7 @@ pub extern "C" fn helvemoik_open(
 ) -> PackedStep
     ensures { λ r. ⌜ ((l : Labels) → r ≡ packedStep (boardStep (unpackedPolicy policy) l (opens user session set) board)) ⌝ }
 {
-    answer::step(board::open(
-        board,
-        unpack::unpack(policy),
-        user,
-        session,
-        set,
-    ))
+    answer::step(board::open(board, unpack::unpack(policy), user, session, set))
 }
 
 // The session's held set gains these values.
@@ -161,13 +139,7 @@ pub extern "C" fn helvemoik_add(
 ) -> PackedStep
     ensures { λ r. ⌜ ((l : Labels) → r ≡ packedStep (boardStep (unpackedPolicy policy) l (adds user session set) board)) ⌝ }
 {
-    answer::step(board::add(
-        board,
-        unpack::unpack(policy),
-        user,
-        session,
-        set,
-    ))
+    answer::step(board::add(board, unpack::unpack(policy), user, session, set))
 }
 
 // The session's held set loses these values.
@@ -181,13 +153,7 @@ pub extern "C" fn helvemoik_drop(
 ) -> PackedStep
     ensures { λ r. ⌜ ((l : Labels) → r ≡ packedStep (boardStep (unpackedPolicy policy) l (drops user session set) board)) ⌝ }
 {
-    answer::step(board::drop(
-        board,
-        unpack::unpack(policy),
-        user,
-        session,
-        set,
-    ))
+    answer::step(board::drop(board, unpack::unpack(policy), user, session, set))
 }
 
 // Closes the session.
