@@ -7,9 +7,9 @@ use Rattle.policy.specs.Read.{Outcome}
 use Rattle.policy.specs.Answers.{refusedBy, refusalIn, ReadAs}
 use Rattle.policy.specs.declared.value.Reading.{Reading}
 use Rattle.policy.specs.declared.value.Verdict.{Verdict}
-use Rattle.embed.specs.Packed.{packedPolicy}
+use Rattle.packing.specs.Packed.{packedPolicy}
 use Rattle.embed.specs.Answers.{packedReading}
-use Rattle.embed.specs.declared.packed.PackedPolicy.{PackedPolicy}
+use Rattle.packing.specs.declared.value.PackedPolicy.{PackedPolicy}
 use Rattle.embed.specs.declared.packed.PackedReading.{PackedReading}
 
 abbrev with-refusal : Option (ℕ × ℕ) → PackedPolicy → PackedReading

@@ -10,7 +10,7 @@ use Rattle.labels.specs.declared.Apartness.the-variants.{Alike, Apart, Refused}
 use Rattle.board.specs.Machine.{Out}
 use Rattle.board.specs.Board.{Labels, labelsOf}
 use Rattle.board.specs.declared.Board.{Board}
-use Rattle.embed.specs.Packed.{packedPolicy}
+use Rattle.packing.specs.Packed.{packedPolicy}
 use Rattle.embed.specs.declared.packed.PackedReading.{PackedReading}
 use Rattle.embed.specs.declared.packed.Counted.{Counted}
 use Rattle.embed.specs.declared.packed.PackedCounts.{PackedCounts}

@@ -9,7 +9,6 @@ ghost use Rattle.tuples.specs.Tuples as tuples;
 ghost use Rattle.labels.specs.Compile as labels;
 ghost use Rattle.board.specs.Board as board;
 ghost use Rattle.embed.specs.Answers as spec;
-use crate::pack;
 use crate::packed::Counted;
 use crate::packed::PackedCounts;
 use crate::packed::PackedReading;
@@ -32,7 +31,7 @@ pub fn reading(x: Reading) -> PackedReading
     ensures { λ r. ⌜ ((o : Outcome) → ReadAs o x → r ≡ spec.packedReading o) ⌝ }
 {
     let value = x.policy;
-    let policy = pack::pack(value);
+    let policy = packing::pack::pack(value);
     let verdict = x.verdict;
     match verdict {
         Verdict::Accepted => PackedReading {

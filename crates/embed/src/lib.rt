@@ -10,23 +10,20 @@ ghost use Rattle.labels.specs.Apart.{Tells};
 ghost use Rattle.labels.specs.declared.Apartness.{Apartness};
 ghost use Rattle.board.specs.Machine.{opens, adds, drops, closes, requests};
 ghost use Rattle.board.specs.Board.{Labels, fresh, boardStep};
-ghost use Rattle.embed.specs.Packed.{unpackedPolicy};
+ghost use Rattle.packing.specs.Packed.{unpackedPolicy};
 ghost use Rattle.embed.specs.Answers.{replyNumber, packedReading, counted, packedCounts, separation, packedStep, labelsWith};
 
 mod answer;
-mod pack;
 pub mod packed;
-mod unpack;
-mod word;
 
 use crate::packed::Counted;
 use crate::packed::PackedCounts;
-use crate::packed::PackedPolicy;
 use crate::packed::PackedReading;
 use crate::packed::PackedStep;
 use crate::packed::Separation;
 use board::Board;
 use labels::Counts;
+use packing::value::PackedPolicy;
 
 // The policy of a text, or the refusal and its line.
 #[no_mangle]
@@ -42,7 +39,7 @@ pub extern "C" fn helvemoik_write(policy: PackedPolicy, buffer: &mut [u8]) -> Co
     ensures answer { λ r. ⌜ r ≡ counted (write (unpackedPolicy policy) (now (buffer .entry))) ⌝ }
     ensures bytes { λ r. ⌜ now (buffer .exit) ≡ writeBuffer (unpackedPolicy policy) (now (buffer .entry)) ⌝ }
 {
-    answer::written(writer::write(unpack::unpack(policy), buffer))
+    answer::written(writer::write(packing::unpack::unpack(policy), buffer))
 }
 
 // Check 11.
@@ -50,7 +47,7 @@ pub extern "C" fn helvemoik_write(policy: PackedPolicy, buffer: &mut [u8]) -> Co
 pub extern "C" fn helvemoik_valid(policy: PackedPolicy) -> bool
     ensures { λ r. ⌜ r ≡ valid (unpackedPolicy policy) ⌝ }
 {
-    validity::check(unpack::unpack(policy))
+    validity::check(packing::unpack::unpack(policy))
 }
 
 // Decides by the formula on two sets.
@@ -58,7 +55,7 @@ pub extern "C" fn helvemoik_valid(policy: PackedPolicy) -> bool
 pub extern "C" fn helvemoik_decide(policy: PackedPolicy, action: u32, user: u32, object: u32) -> u32
     ensures { λ r. ⌜ r ≡ replyNumber (decide (unpackedPolicy policy) action user object) ⌝ }
 {
-    answer::decision(formula::decide(unpack::unpack(policy), action, user, object))
+    answer::decision(formula::decide(packing::unpack::unpack(policy), action, user, object))
 }
 
 // Stores the tuples of an action.
@@ -67,7 +64,7 @@ pub extern "C" fn helvemoik_list(policy: PackedPolicy, action: u32, buffer: &mut
     ensures answer { λ r. ⌜ r ≡ counted (list (unpackedPolicy policy) action (now (buffer .entry))) ⌝ }
     ensures tuples { λ r. ⌜ now (buffer .exit) ≡ listBuffer (unpackedPolicy policy) action (now (buffer .entry)) ⌝ }
 {
-    answer::listed(tuples::list(unpack::unpack(policy), action, buffer))
+    answer::listed(tuples::list(packing::unpack::unpack(policy), action, buffer))
 }
 
 // Decides by the first `count` tuples of a listing.
@@ -81,7 +78,13 @@ pub extern "C" fn helvemoik_decide_by_tuples(
 ) -> u32
     ensures { λ r. ⌜ r ≡ replyNumber (decideByTuples (unpackedPolicy policy) user object (now (listing .entry)) count) ⌝ }
 {
-    answer::decision(tuples::decide(unpack::unpack(policy), user, object, listing, count))
+    answer::decision(tuples::decide(
+        packing::unpack::unpack(policy),
+        user,
+        object,
+        listing,
+        count,
+    ))
 }
 
 // Fills the three buffers with labels and table.
@@ -95,7 +98,12 @@ pub extern "C" fn helvemoik_compile(
     ensures answer { λ r. ⌜ r ≡ packedCounts (compile (unpackedPolicy policy) (lent (now (users .entry)) (now (objects .entry)) (now (table .entry)))) ⌝ }
     ensures buffers { λ r. ⌜ lent (now (users .exit)) (now (objects .exit)) (now (table .exit)) ≡ compileBuffers (unpackedPolicy policy) (lent (now (users .entry)) (now (objects .entry)) (now (table .entry))) ⌝ }
 {
-    answer::counts(labels::compiler::compile(unpack::unpack(policy), users, objects, table))
+    answer::counts(labels::compiler::compile(
+        packing::unpack::unpack(policy),
+        users,
+        objects,
+        table,
+    ))
 }
 
 // Whether something tells two user sets apart.
@@ -103,7 +111,7 @@ pub extern "C" fn helvemoik_compile(
 pub extern "C" fn helvemoik_apart(policy: PackedPolicy, one: u32, other: u32) -> Separation
     ensures { λ r. ⌜ ((a : Apartness) × Tells (unpackedPolicy policy) one other a × (r ≡ separation a)) ⌝ }
 {
-    answer::separation(labels::apart::apart(unpack::unpack(policy), one, other))
+    answer::separation(labels::apart::apart(packing::unpack::unpack(policy), one, other))
 }
 
 // A board that holds no session.
@@ -125,7 +133,7 @@ pub extern "C" fn helvemoik_open(
 ) -> PackedStep
     ensures { λ r. ⌜ ((l : Labels) → r ≡ packedStep (boardStep (unpackedPolicy policy) l (opens user session set) board)) ⌝ }
 {
-    answer::step(board::open(board, unpack::unpack(policy), user, session, set))
+    answer::step(board::open(board, packing::unpack::unpack(policy), user, session, set))
 }
 
 // The session's held set gains these values.
@@ -139,7 +147,7 @@ pub extern "C" fn helvemoik_add(
 ) -> PackedStep
     ensures { λ r. ⌜ ((l : Labels) → r ≡ packedStep (boardStep (unpackedPolicy policy) l (adds user session set) board)) ⌝ }
 {
-    answer::step(board::add(board, unpack::unpack(policy), user, session, set))
+    answer::step(board::add(board, packing::unpack::unpack(policy), user, session, set))
 }
 
 // The session's held set loses these values.
@@ -153,7 +161,7 @@ pub extern "C" fn helvemoik_drop(
 ) -> PackedStep
     ensures { λ r. ⌜ ((l : Labels) → r ≡ packedStep (boardStep (unpackedPolicy policy) l (drops user session set) board)) ⌝ }
 {
-    answer::step(board::drop(board, unpack::unpack(policy), user, session, set))
+    answer::step(board::drop(board, packing::unpack::unpack(policy), user, session, set))
 }
 
 // Closes the session.
@@ -166,7 +174,7 @@ pub extern "C" fn helvemoik_close(
 ) -> PackedStep
     ensures { λ r. ⌜ ((l : Labels) → r ≡ packedStep (boardStep (unpackedPolicy policy) l (closes user session) board)) ⌝ }
 {
-    answer::step(board::close(board, unpack::unpack(policy), user, session))
+    answer::step(board::close(board, packing::unpack::unpack(policy), user, session))
 }
 
 // Grants or denies an action on an object by the labels.
@@ -191,7 +199,7 @@ pub extern "C" fn helvemoik_request(
     };
     answer::step(board::request(
         board,
-        unpack::unpack(policy),
+        packing::unpack::unpack(policy),
         counts,
         users,
         objects,

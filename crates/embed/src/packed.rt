@@ -1,33 +1,6 @@
-// What crosses to C and Rust by value where a word stands in it: words as numbers, and answers as numbers beside their values.
+// The answers as they cross to C and Rust: numbers beside their values.
 use board::Board;
-use policy::value::RULE_PLACES;
-use policy::value::Register;
-use policy::value::SideValue;
-use policy::value::WORD_PLACES;
-
-// A rule: its action and the packed words of its formula.
-#[repr(C)]
-pub struct PackedRule {
-    pub action: u32,
-    pub count: usize,
-    pub words: [u32; WORD_PLACES],
-}
-
-#[repr(C)]
-pub struct PackedRules {
-    pub count: usize,
-    pub entries: [PackedRule; RULE_PLACES],
-}
-
-#[repr(C)]
-pub struct PackedPolicy {
-    pub form: u32,
-    pub user: SideValue,
-    pub object: SideValue,
-    pub users: Register,
-    pub objects: Register,
-    pub rules: PackedRules,
-}
+use packing::value::PackedPolicy;
 
 // The answer of reading: refusal 0 is an accepted text. Beside a refusal stand its line and the blank value, which check 11 refuses.
 #[repr(C)]
