@@ -1,0 +1,13 @@
+-- `embed::answer::step` meets its contract.
+use borrow.Author.Needs.{needs}
+use Rattle.embed.proofs.answer.step.Statement.{statement}
+use Rattle.embed.proofs.answer.step.Tie as tie
+
+answer-requires : tie.Need-answer-requires
+answer-requires c κs = search needs
+
+returns : tie.Need-returns
+returns c = rw (c .answer .ensures)
+
+pub step-spec : {M : Type 1} → statement M
+step-spec = tie.close (tie.spec answer-requires returns)

@@ -1,0 +1,58 @@
+-- The numbers that answers cross as.
+use Prim.Native.Nat.{ℕ}
+use mathlib.Core.List.{List}
+use Rattle.basis.specs.Choice.{given, Result, gives, refuses}
+use Rattle.policy.specs.Read.{Outcome}
+use Rattle.policy.specs.Answers.{numberOf, Reply, done, granted, denied, refused, refusalIn, valueIn}
+use Rattle.labels.specs.declared.Counts.{Counts}
+use Rattle.labels.specs.declared.Apartness.{Apartness}
+use Rattle.labels.specs.declared.Apartness.the-variants.{Alike, Apart, Refused}
+use Rattle.board.specs.Machine.{Out}
+use Rattle.board.specs.Board.{Labels, labelsOf}
+use Rattle.board.specs.declared.Board.{Board}
+use Rattle.packing.specs.Packed.{packedPolicy}
+use Rattle.embed.specs.declared.packed.PackedReading.{PackedReading}
+use Rattle.embed.specs.declared.packed.Counted.{Counted}
+use Rattle.embed.specs.declared.packed.PackedCounts.{PackedCounts}
+use Rattle.embed.specs.declared.packed.Separation.{Separation}
+use Rattle.embed.specs.declared.packed.PackedStep.{PackedStep}
+
+-- 0 denied, 1 granted, 2 done, or the refusal, of which these calls have 11 to 20
+abbrev pub replyNumber : Reply → ℕ
+replyNumber denied = 0
+replyNumber granted = 1
+replyNumber done = 2
+replyNumber (refused n) = n
+
+-- the refusal and its line, 0 and 0 where the text is accepted, beside the text's value
+abbrev pub packedReading : Outcome → PackedReading
+packedReading o =
+    record {
+      refusal = given (refusalIn o) 0 (λ x. x .0);
+      line = given (refusalIn o) 0 (λ x. x .1);
+      policy = packedPolicy (valueIn o);
+    }
+
+-- the count and no refusal, or the refusal and 0
+abbrev pub counted : Result ℕ → Counted
+counted (gives n) = record { refusal = 0; count = n }
+counted (refuses n) = record { refusal = n; count = 0 }
+
+-- NU, NO and no refusal, or the refusal, 0 and 0
+abbrev pub packedCounts : Result Counts → PackedCounts
+packedCounts (gives c) = record { refusal = 0; users = c .users; objects = c .objects }
+packedCounts (refuses n) = record { refusal = n; users = 0; objects = 0 }
+
+-- 0 alike, 1 apart with the action and the object set, or the refusal
+abbrev pub separation : Apartness → Separation
+separation Alike = record { answer = 0; action = 0; object = 0 }
+separation (Apart w) = record { answer = 1; action = w .action; object = w .object }
+separation (Refused r) = record { answer = numberOf r; action = 0; object = 0 }
+
+-- the answer's number and the board
+abbrev pub packedStep : Out Board → PackedStep
+packedStep o = record { answer = replyNumber (o .reply); board = o .state }
+
+-- the lent buffers with NU and NO as two numbers
+abbrev pub labelsWith : ℕ → ℕ → List ℕ → List ℕ → List ℕ → Labels
+labelsWith m n users objects table = labelsOf (record { users = m; objects = n }) users objects table

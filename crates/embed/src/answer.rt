@@ -1,0 +1,152 @@
+// Answers as numbers: 0 denied, 1 granted, 2 done, or the refusal.
+ghost use mathlib.Core.Path.{_≡_};
+ghost use Rattle.basis.specs.Choice.{gives, refuses};
+ghost use Rattle.policy.specs.Read.{Outcome};
+ghost use Rattle.policy.specs.Answers.{numberOf, ReadAs};
+ghost use Rattle.writer.specs.Answer as writer;
+ghost use Rattle.formula.specs.Decide as formula;
+ghost use Rattle.tuples.specs.Tuples as tuples;
+ghost use Rattle.labels.specs.Compile as labels;
+ghost use Rattle.board.specs.Board as board;
+ghost use Rattle.embed.specs.Answers as spec;
+use crate::packed::Counted;
+use crate::packed::PackedCounts;
+use crate::packed::PackedReading;
+use crate::packed::PackedStep;
+use crate::packed::Separation;
+use board::Answer;
+use board::Step;
+use formula::Decision;
+use labels::Apartness;
+use labels::Compiled;
+use policy::refusal::Refusal;
+use policy::refusal::number_of;
+use policy::value::Reading;
+use policy::value::Verdict;
+use tuples::Listing;
+use writer::Written;
+
+// A reading, with its policy packed.
+pub fn reading(x: Reading) -> PackedReading
+    ensures { λ r. ⌜ ((o : Outcome) → ReadAs o x → r ≡ spec.packedReading o) ⌝ }
+{
+    let value = x.policy;
+    let policy = packing::pack::pack(value);
+    let verdict = x.verdict;
+    match verdict {
+        Verdict::Accepted => PackedReading {
+            refusal: 0,
+            line: 0,
+            policy,
+        },
+        Verdict::Refused(why, line) => PackedReading {
+            refusal: number_of(why),
+            line,
+            policy,
+        },
+    }
+}
+
+pub fn decision(d: Decision) -> u32
+    ensures { λ r. ⌜ r ≡ spec.replyNumber (formula.replyOf d) ⌝ }
+{
+    match d {
+        Decision::Granted => 1,
+        Decision::Denied => 0,
+        Decision::Refused(r) => number_of(r),
+    }
+}
+
+fn answer(a: Answer) -> u32
+    ensures { λ r. ⌜ r ≡ spec.replyNumber (board.replyOf a) ⌝ }
+{
+    match a {
+        Answer::Done => 2,
+        Answer::Granted => 1,
+        Answer::Denied => 0,
+        Answer::Refused(r) => number_of(r),
+    }
+}
+
+pub fn step(s: Step) -> PackedStep
+    ensures { λ r. ⌜ r ≡ spec.packedStep (board.outOf s) ⌝ }
+{
+    let a = s.answer;
+    let board = s.board;
+    PackedStep {
+        answer: answer(a),
+        board,
+    }
+}
+
+fn stored(count: usize) -> Counted
+    ensures { λ r. ⌜ r ≡ spec.counted (gives count) ⌝ }
+{
+    Counted { refusal: 0, count }
+}
+
+fn refused(why: Refusal) -> Counted
+    ensures { λ r. ⌜ r ≡ spec.counted (refuses (numberOf why)) ⌝ }
+{
+    Counted {
+        refusal: number_of(why),
+        count: 0,
+    }
+}
+
+pub fn written(w: Written) -> Counted
+    ensures { λ r. ⌜ r ≡ spec.counted (writer.answerOf w) ⌝ }
+{
+    match w {
+        Written::Stored(n) => stored(n),
+        Written::Refused(r) => refused(r),
+    }
+}
+
+pub fn listed(l: Listing) -> Counted
+    ensures { λ r. ⌜ r ≡ spec.counted (tuples.listed l) ⌝ }
+{
+    match l {
+        Listing::Stored(n) => stored(n),
+        Listing::Refused(r) => refused(r),
+    }
+}
+
+pub fn counts(c: Compiled) -> PackedCounts
+    ensures { λ r. ⌜ r ≡ spec.packedCounts (labels.stored c) ⌝ }
+{
+    match c {
+        Compiled::Stored(n) => PackedCounts {
+            refusal: 0,
+            users: n.users,
+            objects: n.objects,
+        },
+        Compiled::Refused(r) => PackedCounts {
+            refusal: number_of(r),
+            users: 0,
+            objects: 0,
+        },
+    }
+}
+
+pub fn separation(a: Apartness) -> Separation
+    ensures { λ r. ⌜ r ≡ spec.separation a ⌝ }
+{
+    match a {
+        Apartness::Alike => Separation {
+            answer: 0,
+            action: 0,
+            object: 0,
+        },
+        Apartness::Apart(w) => Separation {
+            answer: 1,
+            action: w.action,
+            object: w.object,
+        },
+        Apartness::Refused(r) => Separation {
+            answer: number_of(r),
+            action: 0,
+            object: 0,
+        },
+    }
+}

@@ -1,0 +1,4 @@
+pub mod Mapped
+pub mod Packing
+pub mod RoundTrip
+pub mod Crossing

@@ -1,0 +1,15 @@
+-- `packing::unpack::rule` meets its contract: its words are unpacked.
+use Rattle.packing.specs.Packed.{unpackedRule}
+use borrow.Author.Needs.{needs}
+use Rattle.packing.proofs.unpack.rule.Statement.{statement}
+use Rattle.packing.proofs.unpack.rule.Tie as tie
+
+words-requires : tie.Need-words-requires
+words-requires c κs = search needs
+
+returns : tie.Need-returns
+unfolding unpackedRule
+returns c = rw (c .words .ensures)
+
+pub rule-spec : {M : Type 1} → statement M
+rule-spec = tie.close (tie.spec words-requires returns)

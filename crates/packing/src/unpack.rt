@@ -1,0 +1,82 @@
+// A packed policy unpacked: each number as its word.
+ghost use mathlib.Core.Path.{_≡_};
+ghost use mathlib.Core.List.{map};
+ghost use Rattle.policy.specs.Value.{slot};
+ghost use Rattle.packing.specs.Packed.{unpackedWord, unpackedRule, unpackedRules, unpackedPolicy};
+use crate::value::PackedPolicy;
+use crate::value::PackedRule;
+use crate::value::PackedRules;
+use crate::word;
+use policy::value::PolicyValue;
+use policy::value::RULE_PLACES;
+use policy::value::RuleValue;
+use policy::value::Rules;
+use policy::value::Slot;
+use policy::value::WORD_PLACES;
+use words::Word;
+
+fn words(from: [u32; WORD_PLACES]) -> [Slot; WORD_PLACES]
+    ensures { λ r. ⌜ r ≡ map (λ n. slot (unpackedWord n)) from ⌝ }
+{
+    let mut words = [Slot { word: Word::True }; WORD_PLACES];
+    let mut i = 0;
+    while i < WORD_PLACES {
+        let w = word::unpack(from[i]);
+        words[i] = Slot { word: w };
+        i += 1;
+    }
+    words
+}
+
+fn rule(from: PackedRule) -> RuleValue
+    ensures { λ r. ⌜ r ≡ unpackedRule from ⌝ }
+{
+    let numbers = from.words;
+    let slots = words(numbers);
+    RuleValue {
+        action: from.action,
+        count: from.count,
+        words: slots,
+    }
+}
+
+fn rules(from: PackedRules) -> Rules
+    ensures { λ r. ⌜ r ≡ unpackedRules from ⌝ }
+{
+    let packed = from.entries;
+    let words = [Slot { word: Word::True }; WORD_PLACES];
+    let mut entries = [RuleValue {
+        action: 0,
+        count: 0,
+        words,
+    }; RULE_PLACES];
+    let mut i = 0;
+    while i < RULE_PLACES {
+        let r = packed[i];
+        entries[i] = rule(r);
+        i += 1;
+    }
+    Rules {
+        count: from.count,
+        entries,
+    }
+}
+
+pub fn unpack(from: PackedPolicy) -> PolicyValue
+    ensures { λ r. ⌜ r ≡ unpackedPolicy from ⌝ }
+{
+    let user = from.user;
+    let object = from.object;
+    let users = from.users;
+    let objects = from.objects;
+    let packed = from.rules;
+    let values = rules(packed);
+    PolicyValue {
+        form: from.form,
+        user,
+        object,
+        users,
+        objects,
+        rules: values,
+    }
+}

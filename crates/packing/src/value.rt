@@ -1,0 +1,29 @@
+// A policy value as it crosses to C and Rust: an enum cannot cross, so each word goes as its number.
+use policy::value::RULE_PLACES;
+use policy::value::Register;
+use policy::value::SideValue;
+use policy::value::WORD_PLACES;
+
+// A rule: its action and the packed words of its formula.
+#[repr(C)]
+pub struct PackedRule {
+    pub action: u32,
+    pub count: usize,
+    pub words: [u32; WORD_PLACES],
+}
+
+#[repr(C)]
+pub struct PackedRules {
+    pub count: usize,
+    pub entries: [PackedRule; RULE_PLACES],
+}
+
+#[repr(C)]
+pub struct PackedPolicy {
+    pub form: u32,
+    pub user: SideValue,
+    pub object: SideValue,
+    pub users: Register,
+    pub objects: Register,
+    pub rules: PackedRules,
+}

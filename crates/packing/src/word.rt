@@ -1,0 +1,70 @@
+// A word as a number, and back.
+ghost use mathlib.Core.Path.{_≡_};
+ghost use Rattle.packing.specs.Packed as spec;
+use words::Comparison;
+use words::Holding;
+use words::Word;
+
+// The number of a kind with its two bytes.
+fn number(kind: u8, first: u8, second: u8) -> u32
+    ensures { λ r. ⌜ r ≡ spec.number kind first second ⌝ }
+{
+    kind as u32 * 65536 + first as u32 * 256 + second as u32
+}
+
+// The number of a word.
+pub fn pack(word: Word) -> u32
+    ensures { λ r. ⌜ r ≡ spec.packedWord word ⌝ }
+{
+    match word {
+        Word::True => number(0, 0, 0),
+        Word::False => number(1, 0, 0),
+        Word::Holds(h) => match h {
+            Holding::User(v) => number(5, v, 0),
+            Holding::Object(v) => number(6, v, 0),
+        },
+        Word::Compares(c) => match c {
+            Comparison::Dominates(i, j) => number(7, i, j),
+            Comparison::Equals(i, j) => number(8, i, j),
+        },
+        Word::Not => number(2, 0, 0),
+        Word::And => number(3, 0, 0),
+        Word::Or => number(4, 0, 0),
+    }
+}
+
+// The word that stands for a number which is no word's.
+fn missing() -> Word
+    ensures { λ r. ⌜ r ≡ spec.missing ⌝ }
+{
+    Word::Holds(Holding::User(255))
+}
+
+// The word of a kind, with as many of the two bytes as it has.
+fn of_kind(kind: u32, first: u8, second: u8) -> Word
+    ensures { λ r. ⌜ r ≡ spec.wordOf kind first second ⌝ }
+{
+    match kind {
+        0 => Word::True,
+        1 => Word::False,
+        2 => Word::Not,
+        3 => Word::And,
+        4 => Word::Or,
+        5 => Word::Holds(Holding::User(first)),
+        6 => Word::Holds(Holding::Object(first)),
+        7 => Word::Compares(Comparison::Dominates(first, second)),
+        8 => Word::Compares(Comparison::Equals(first, second)),
+        _ => missing(),
+    }
+}
+
+// The word of a number. Most places of a policy are blank, and so 0: they are told at once.
+pub fn unpack(n: u32) -> Word
+    ensures { λ r. ⌜ r ≡ spec.unpackedWord n ⌝ }
+{
+    if n == 0 {
+        return Word::True;
+    }
+    let w = of_kind(n / 65536, (n / 256 % 256) as u8, (n % 256) as u8);
+    if pack(w) == n { w } else { missing() }
+}

@@ -1,0 +1,236 @@
+/*
+ * Helvemoik: label policies on a comment screen, for C.
+ *
+ * Link libembed.a, which `rt staticlib embed` writes to target/staticlib. See docs/EMBEDDING.md for what a caller must keep to: nothing checks
+ * this header against the library's source.
+ *
+ * Everything goes by value or in lent buffers. There is no heap and no global state. No call has a precondition on its numbers: whatever is
+ * handed in gets its result or one refusal.
+ *
+ * A slice is a pointer and then a length, counted in elements. The lent buffers of one call do not overlap.
+ */
+#ifndef HELVEMOIK_H
+#define HELVEMOIK_H
+
+#include <stdbool.h>
+#include <stddef.h>
+#include <stdint.h>
+
+#ifdef __cplusplus
+extern "C" {
+#endif
+
+/* ---- sizes */
+
+enum {
+    HELVEMOIK_TEXT_BYTES = 8192,   /* the longest text that is read, and room for any text that is written */
+    HELVEMOIK_WIDTH_PLACES = 7,    /* attributes of a side, and values of a side */
+    HELVEMOIK_LINE_PLACES = 21,    /* direct seniorities of a side */
+    HELVEMOIK_ENTRY_PLACES = 64,   /* registered users (of which a text has at most 32), or objects */
+    HELVEMOIK_WORD_PLACES = 32,    /* words of a formula */
+    HELVEMOIK_RULE_PLACES = 8,     /* rules */
+    HELVEMOIK_SESSIONS = 32,       /* session numbers */
+    HELVEMOIK_MOST_LABELS = 128,   /* room for the labels of a side */
+    HELVEMOIK_MOST_TABLE = 16384,  /* room for a table, and for the tuples of an action */
+    HELVEMOIK_MOST_TUPLES = 16384
+};
+
+/* ---- refusals, by the numbers of document 01 */
+
+enum {
+    HELVEMOIK_TEXT_TOO_LONG = 1,
+    HELVEMOIK_LINE_FEED_MISSING = 2,
+    HELVEMOIK_KIND_NOT_ALLOWED = 3,
+    HELVEMOIK_WRONG_FIELD_COUNT = 4,
+    HELVEMOIK_MALFORMED_FIELD = 5,
+    HELVEMOIK_OUT_OF_RANGE = 6,
+    HELVEMOIK_NOT_RISING = 7,
+    HELVEMOIK_UNEQUAL_WIDTHS = 8,
+    HELVEMOIK_UNBALANCED_FORMULA = 9,
+    HELVEMOIK_END_MISSING = 10,
+    HELVEMOIK_INVALID_STATE = 11,
+    HELVEMOIK_UNKNOWN_ACTION = 12,
+    HELVEMOIK_UNKNOWN_SESSION = 13,
+    HELVEMOIK_UNREGISTERED_USER = 14,
+    HELVEMOIK_UNREGISTERED_OBJECT = 15,
+    HELVEMOIK_SESSION_OPEN = 16,
+    HELVEMOIK_SESSION_NOT_OPEN = 17,
+    HELVEMOIK_SESSION_OF_ANOTHER = 18,
+    HELVEMOIK_SET_OUT_OF_REACH = 19,
+    HELVEMOIK_BUFFER_TOO_SHORT = 20
+};
+
+/* The answers of a decision and of a session call that are no refusal. */
+enum {
+    HELVEMOIK_DENIED = 0,
+    HELVEMOIK_GRANTED = 1,
+    HELVEMOIK_DONE = 2
+};
+
+/* The answers of helvemoik_apart that are no refusal. */
+enum {
+    HELVEMOIK_ALIKE = 0,
+    HELVEMOIK_APART = 1
+};
+
+/* ---- the policy value: the text's lines by kind, in text order; every place past a count is 0 */
+
+/* `usen,V,J` or `osen,V,J`. */
+struct helvemoik_direct {
+    uint32_t senior;
+    uint32_t junior;
+};
+
+/* One side, users or objects. */
+struct helvemoik_side {
+    size_t attributes;
+    uint32_t widths[HELVEMOIK_WIDTH_PLACES];
+    size_t lines;
+    struct helvemoik_direct seniority[HELVEMOIK_LINE_PLACES];
+};
+
+/* `user,N,S` or `object,N,S`. */
+struct helvemoik_entry {
+    uint32_t number;
+    uint32_t set;
+};
+
+struct helvemoik_register {
+    size_t count;
+    struct helvemoik_entry entries[HELVEMOIK_ENTRY_PLACES];
+};
+
+/*
+ * `rule,A,w,w,..`. A word is kind * 65536 + first * 256 + second, where the kind of t is 0, f 1, n 2, a 3, r 4, u 5, o 6, d 7, q 8; first
+ * is the value or the user attribute, second the object attribute, each 0 where the word has none. Any other number stands for a word that
+ * no policy has: check 11 refuses the policy.
+ */
+struct helvemoik_rule {
+    uint32_t action;
+    size_t count;
+    uint32_t words[HELVEMOIK_WORD_PLACES];
+};
+
+struct helvemoik_rules {
+    size_t count;
+    struct helvemoik_rule entries[HELVEMOIK_RULE_PLACES];
+};
+
+struct helvemoik_policy {
+    uint32_t form;
+    struct helvemoik_side user;
+    struct helvemoik_side object;
+    struct helvemoik_register users;
+    struct helvemoik_register objects;
+    struct helvemoik_rules rules;
+};
+
+/* ---- the board: an entry for each session number; while it is live, its user and the set it holds */
+
+struct helvemoik_session {
+    bool live;
+    uint32_t user;
+    uint32_t held;
+};
+
+struct helvemoik_board {
+    struct helvemoik_session sessions[HELVEMOIK_SESSIONS];
+};
+
+/* ---- answers */
+
+/* refusal 0: the text is accepted, and line is 0. Else the refusal, its line, and a policy that check 11 refuses. */
+struct helvemoik_reading {
+    uint32_t refusal;
+    size_t line;
+    struct helvemoik_policy policy;
+};
+
+/* refusal 0: so many elements are stored. Else the refusal, and count is 0. */
+struct helvemoik_counted {
+    uint32_t refusal;
+    size_t count;
+};
+
+/* refusal 0: users is NU and objects is NO. Else the refusal, 0 and 0. */
+struct helvemoik_counts {
+    uint32_t refusal;
+    uint32_t users;
+    uint32_t objects;
+};
+
+/* answer HELVEMOIK_ALIKE, 0, 0; HELVEMOIK_APART with an action and an object set that tell the user sets apart; or the refusal, 0, 0. */
+struct helvemoik_separation {
+    uint32_t answer;
+    uint32_t action;
+    uint32_t object;
+};
+
+/* HELVEMOIK_DONE, HELVEMOIK_GRANTED, HELVEMOIK_DENIED or the refusal, and the board after the call: after a refusal the old one. */
+struct helvemoik_step {
+    uint32_t answer;
+    struct helvemoik_board board;
+};
+
+/* ---- calls on a policy */
+
+/* The policy of a text, or the refusal (1 to 10) and its line. */
+struct helvemoik_reading helvemoik_read(const uint8_t *text, size_t text_length);
+
+/* The text of a policy, at the start of the buffer; what lies past it stays. Refusals 11, 20, which leave the buffer. */
+struct helvemoik_counted helvemoik_write(struct helvemoik_policy policy, uint8_t *buffer, size_t buffer_length);
+
+/* Check 11: whether the policy is what reading some accepted text yields. */
+bool helvemoik_valid(struct helvemoik_policy policy);
+
+/* Whether the action's formula is true at a user set and an object set: granted or denied. Refusals 11, 12, 19. */
+uint32_t helvemoik_decide(struct helvemoik_policy policy, uint32_t action, uint32_t user, uint32_t object);
+
+/* The tuples of an action, each user set * 2^O + object set, rising; what lies past them stays. Refusals 11, 12, 20, which leave the buffer. */
+struct helvemoik_counted helvemoik_list(struct helvemoik_policy policy, uint32_t action, uint16_t *buffer, size_t buffer_length);
+
+/* Whether the pair of sets is one of the first `count` tuples of a listing: granted or denied. Refusals 11, 19, 20. */
+uint32_t helvemoik_decide_by_tuples(struct helvemoik_policy policy, uint32_t user, uint32_t object,
+                                    const uint16_t *listing, size_t listing_length, size_t count);
+
+/* The labels of the user sets, those of the object sets, and their table; what lies past each stays. Refusals 11, 20, which leave all three. */
+struct helvemoik_counts helvemoik_compile(struct helvemoik_policy policy, uint8_t *users, size_t users_length,
+                                          uint8_t *objects, size_t objects_length, uint8_t *table, size_t table_length);
+
+/* Whether some action and object set tell two user sets apart. Refusals 11, 19. */
+struct helvemoik_separation helvemoik_apart(struct helvemoik_policy policy, uint32_t one, uint32_t other);
+
+/* ---- session calls: each takes a board and gives the board after it */
+
+/* A board that holds no session. */
+struct helvemoik_board helvemoik_fresh(void);
+
+/* Opens a session of the user that holds the set. Refusals 11, 13, 14, 16, 19. */
+struct helvemoik_step helvemoik_open(struct helvemoik_board board, struct helvemoik_policy policy,
+                                     uint32_t user, uint32_t session, uint32_t set);
+
+/* The session's held set gains these values. Refusals 11, 13, 14, 17, 18, 19. */
+struct helvemoik_step helvemoik_add(struct helvemoik_board board, struct helvemoik_policy policy,
+                                    uint32_t user, uint32_t session, uint32_t set);
+
+/* The session's held set loses these values. Refusals 11, 13, 14, 17, 18, 19. */
+struct helvemoik_step helvemoik_drop(struct helvemoik_board board, struct helvemoik_policy policy,
+                                     uint32_t user, uint32_t session, uint32_t set);
+
+/* Closes the session. Refusals 11, 13, 14, 17, 18. */
+struct helvemoik_step helvemoik_close(struct helvemoik_board board, struct helvemoik_policy policy, uint32_t user, uint32_t session);
+
+/*
+ * Whether the action on the registered object is granted to the session's held set, by labels and table as helvemoik_compile filled them,
+ * with the NU and NO that it returned: granted or denied. Refusals 11, 12, 13, 15, 17, 20.
+ */
+struct helvemoik_step helvemoik_request(struct helvemoik_board board, struct helvemoik_policy policy, uint32_t nu, uint32_t no,
+                                        const uint8_t *users, size_t users_length, const uint8_t *objects, size_t objects_length,
+                                        const uint8_t *table, size_t table_length,
+                                        uint32_t session, uint32_t action, uint32_t object);
+
+#ifdef __cplusplus
+}
+#endif
+
+#endif
