@@ -21,8 +21,12 @@ fn words(from: [u32; WORD_PLACES]) -> [Slot; WORD_PLACES]
     let mut words = [Slot { word: Word::True }; WORD_PLACES];
     let mut i = 0;
     while i < WORD_PLACES {
-        let w = word::unpack(from[i]);
-        words[i] = Slot { word: w };
+        // Most places of a policy are blank, as the array is.
+        let n = from[i];
+        if n != 0 {
+            let w = word::unpack(n);
+            words[i] = Slot { word: w };
+        }
         i += 1;
     }
     words

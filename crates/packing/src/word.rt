@@ -58,13 +58,10 @@ fn of_kind(kind: u32, first: u8, second: u8) -> Word
     }
 }
 
-// The word of a number. Most places of a policy are blank, and so 0: they are told at once.
+// The word of a number.
 pub fn unpack(n: u32) -> Word
     ensures { λ r. ⌜ r ≡ spec.unpackedWord n ⌝ }
 {
-    if n == 0 {
-        return Word::True;
-    }
     let w = of_kind(n / 65536, (n / 256 % 256) as u8, (n % 256) as u8);
     if pack(w) == n { w } else { missing() }
 }

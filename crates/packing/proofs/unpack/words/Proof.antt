@@ -1,27 +1,34 @@
--- `packing::unpack::words` meets its contract: the places passed hold the words of the numbers there.
-use mathlib.Core.Path.{ap}
-use Rattle.policy.specs.Value.{wordPlaces, slot}
-use Rattle.packing.specs.Packed.{unpackedWord}
-use Prim.Native.Nat.{_-_}
-use Rattle.packing.proofs.Mapped.{Mapped, mapped-none, mapped-more, mapped-all}
+-- `packing::unpack::words` meets its contract: the places passed hold the words of the numbers there, and the others are blank.
+use Prim.Native.Nat.{ℕ, _-_}
+use mathlib.Core.Path.{_≡_, ap}
+use mathlib.Core.Logic.{⊎-elim}
 use borrow.Author.Needs.{needs}
+use Rattle.words.specs.declared.Word.the-variants.{True}
+use Rattle.policy.specs.Value.{wordPlaces, slot}
+use Rattle.packing.specs.Packed.{packedWord, wordOf, unpackedWord}
+use Rattle.packing.proofs.Mapped.{MappedOver, over-none, over-more, over-kept, mapped-all}
 use Rattle.packing.proofs.unpack.words.Statement.{statement}
 use Rattle.packing.proofs.unpack.words.Tie as tie
 
+-- the number 0 is a blank place's
+zero-blank : (n : ℕ) → n ≡ 0 → slot True ≡ slot (unpackedWord n)
+unfolding unpackedWord packedWord wordOf
+zero-blank n e = rw e
+
 abbrev Inv-loop : tie.InvT-loop
-Inv-loop from words₀ i₀ words i = Mapped (λ n. slot (unpackedWord n)) i from words
+Inv-loop from words₀ i₀ words i = MappedOver (slot True) (λ n. slot (unpackedWord n)) i from words
 
 abbrev μ-loop : tie.MeasureT-loop
 μ-loop from words₀ i₀ words i = wordPlaces - i
 
 loop-holds : tie.Need-loop-holds Inv-loop μ-loop
-loop-holds c = mapped-none (search needs)
+loop-holds c = over-none wordPlaces (search needs)
 
-mul-unpack : tie.Need-mul-unpack Inv-loop μ-loop
-mul-unpack c = search needs
+mul-n : tie.Need-mul-n Inv-loop μ-loop
+mul-n c = search needs
 
-array-read-unpack : tie.Need-array-read-unpack Inv-loop μ-loop
-array-read-unpack c = search needs
+array-read-n : tie.Need-array-read-n Inv-loop μ-loop
+array-read-n c = search needs
 
 unpack-requires : tie.Need-unpack-requires Inv-loop μ-loop
 unpack-requires c κs = search needs
@@ -39,10 +46,12 @@ loop-less : tie.Need-loop-less Inv-loop μ-loop
 loop-less c = search needs
 
 loop-again : tie.Need-loop-again Inv-loop μ-loop
-loop-again c = mapped-more (c .before .before .loop .inv) _ (search needs) (ap slot (c .unpack .ensures))
+loop-again c =
+    let m = c .before .before .loop .inv in
+    ⊎-elim (λ w. rw (w .2) (over-more m 0 (search needs) (ap slot (w .1 .ensures)))) (λ w. rw (w .1) (over-kept m 0 (search needs) (zero-blank _ (w .0 .left)))) (c .if1 .came)
 
 returns : tie.Need-returns Inv-loop μ-loop
-returns c = mapped-all (c .before .loop .inv) (search needs)
+returns c = mapped-all (c .before .loop .inv .mapped) (search needs)
 
 pub words-spec : {M : Type 1} → statement M
 words-spec =
@@ -51,8 +60,8 @@ words-spec =
     Inv-loop
     μ-loop
     loop-holds
-    mul-unpack
-    array-read-unpack
+    mul-n
+    array-read-n
     unpack-requires
     mul-words
     array-set-from-words
