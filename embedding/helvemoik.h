@@ -7,7 +7,8 @@
  * Everything goes by value or in lent buffers. There is no heap and no global state. No call has a precondition on its numbers: whatever is
  * handed in gets its result or one refusal.
  *
- * A slice is a pointer and then a length, counted in elements. The lent buffers of one call do not overlap.
+ * A lent buffer is a pointer, which is not NULL even where the length is 0, and then a length, counted in elements. The buffers of one call
+ * do not overlap.
  */
 #ifndef HELVEMOIK_H
 #define HELVEMOIK_H
@@ -31,8 +32,8 @@ enum {
     HELVEMOIK_RULE_PLACES = 8,     /* rules */
     HELVEMOIK_SESSIONS = 32,       /* session numbers */
     HELVEMOIK_MOST_LABELS = 128,   /* room for the labels of a side */
-    HELVEMOIK_MOST_TABLE = 16384,  /* room for a table, and for the tuples of an action */
-    HELVEMOIK_MOST_TUPLES = 16384
+    HELVEMOIK_MOST_TABLE = 16384,  /* room for a table */
+    HELVEMOIK_MOST_TUPLES = 16384  /* room for the tuples of an action */
 };
 
 /* ---- refusals, by the numbers of document 01 */
@@ -171,6 +172,10 @@ struct helvemoik_step {
     uint32_t answer;
     struct helvemoik_board board;
 };
+
+/* The library is for x86-64. A compiler that lays the structs out otherwise refuses this line. */
+typedef char helvemoik_layout[sizeof(struct helvemoik_policy) == 2640 && sizeof(struct helvemoik_board) == 384
+                              && sizeof(struct helvemoik_reading) == 2656 && sizeof(struct helvemoik_step) == 388 ? 1 : -1];
 
 /* ---- calls on a policy */
 

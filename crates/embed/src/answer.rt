@@ -1,4 +1,4 @@
-// Answers as numbers: 0 denied, 1 granted, 2 done, or the refusal.
+// Answers as they cross: 0 denied, 1 granted, 2 done, or the refusal's number.
 ghost use mathlib.Core.Path.{_≡_};
 ghost use Rattle.basis.specs.Choice.{gives, refuses};
 ghost use Rattle.policy.specs.Read.{Outcome};
@@ -47,6 +47,7 @@ pub fn reading(x: Reading) -> PackedReading
     }
 }
 
+// The number of a decision.
 pub fn decision(d: Decision) -> u32
     ensures { λ r. ⌜ r ≡ spec.replyNumber (formula.replyOf d) ⌝ }
 {
@@ -57,6 +58,7 @@ pub fn decision(d: Decision) -> u32
     }
 }
 
+// The number of a session call's answer.
 fn answer(a: Answer) -> u32
     ensures { λ r. ⌜ r ≡ spec.replyNumber (board.replyOf a) ⌝ }
 {
@@ -68,6 +70,7 @@ fn answer(a: Answer) -> u32
     }
 }
 
+// A step, with its answer as a number.
 pub fn step(s: Step) -> PackedStep
     ensures { λ r. ⌜ r ≡ spec.packedStep (board.outOf s) ⌝ }
 {
@@ -79,12 +82,14 @@ pub fn step(s: Step) -> PackedStep
     }
 }
 
+// So many were stored.
 fn stored(count: usize) -> Counted
     ensures { λ r. ⌜ r ≡ spec.counted (gives count) ⌝ }
 {
     Counted { refusal: 0, count }
 }
 
+// Nothing was stored.
 fn refused(why: Refusal) -> Counted
     ensures { λ r. ⌜ r ≡ spec.counted (refuses (numberOf why)) ⌝ }
 {
@@ -94,6 +99,7 @@ fn refused(why: Refusal) -> Counted
     }
 }
 
+// What writing answers.
 pub fn written(w: Written) -> Counted
     ensures { λ r. ⌜ r ≡ spec.counted (writer.answerOf w) ⌝ }
 {
@@ -103,6 +109,7 @@ pub fn written(w: Written) -> Counted
     }
 }
 
+// What listing answers.
 pub fn listed(l: Listing) -> Counted
     ensures { λ r. ⌜ r ≡ spec.counted (tuples.listed l) ⌝ }
 {
@@ -112,6 +119,7 @@ pub fn listed(l: Listing) -> Counted
     }
 }
 
+// What compiling answers.
 pub fn counts(c: Compiled) -> PackedCounts
     ensures { λ r. ⌜ r ≡ spec.packedCounts (labels.stored c) ⌝ }
 {
@@ -129,6 +137,7 @@ pub fn counts(c: Compiled) -> PackedCounts
     }
 }
 
+// What Apart answers.
 pub fn separation(a: Apartness) -> Separation
     ensures { λ r. ⌜ r ≡ spec.separation a ⌝ }
 {

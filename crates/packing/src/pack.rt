@@ -14,6 +14,7 @@ use policy::value::Rules;
 use policy::value::Slot;
 use policy::value::WORD_PLACES;
 
+// The numbers of a formula's words, blanks too.
 fn words(from: [Slot; WORD_PLACES]) -> [u32; WORD_PLACES]
     ensures { λ r. ⌜ r ≡ map (λ (x : Slot). packedWord (x .word)) from ⌝ }
 {
@@ -28,6 +29,7 @@ fn words(from: [Slot; WORD_PLACES]) -> [u32; WORD_PLACES]
     words
 }
 
+// A rule, with its words as numbers.
 fn rule(from: RuleValue) -> PackedRule
     ensures { λ r. ⌜ r ≡ packedRule from ⌝ }
 {
@@ -40,6 +42,7 @@ fn rule(from: RuleValue) -> PackedRule
     }
 }
 
+// The rules, those past the count too.
 fn rules(from: Rules) -> PackedRules
     ensures { λ r. ⌜ r ≡ packedRules from ⌝ }
 {
@@ -62,6 +65,7 @@ fn rules(from: Rules) -> PackedRules
     }
 }
 
+// A policy value, valid or not, packed.
 pub fn pack(from: PolicyValue) -> PackedPolicy
     ensures { λ r. ⌜ r ≡ packedPolicy from ⌝ }
 {

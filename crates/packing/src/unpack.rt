@@ -15,6 +15,7 @@ use policy::value::Slot;
 use policy::value::WORD_PLACES;
 use words::Word;
 
+// The words of a formula's numbers, blanks too.
 fn words(from: [u32; WORD_PLACES]) -> [Slot; WORD_PLACES]
     ensures { λ r. ⌜ r ≡ map (λ n. slot (unpackedWord n)) from ⌝ }
 {
@@ -32,6 +33,7 @@ fn words(from: [u32; WORD_PLACES]) -> [Slot; WORD_PLACES]
     words
 }
 
+// A rule, with its numbers as words.
 fn rule(from: PackedRule) -> RuleValue
     ensures { λ r. ⌜ r ≡ unpackedRule from ⌝ }
 {
@@ -44,6 +46,7 @@ fn rule(from: PackedRule) -> RuleValue
     }
 }
 
+// The rules, those past the count too.
 fn rules(from: PackedRules) -> Rules
     ensures { λ r. ⌜ r ≡ unpackedRules from ⌝ }
 {
@@ -66,6 +69,7 @@ fn rules(from: PackedRules) -> Rules
     }
 }
 
+// The policy value that a packed policy stands for, whatever it holds.
 pub fn unpack(from: PackedPolicy) -> PolicyValue
     ensures { λ r. ⌜ r ≡ unpackedPolicy from ⌝ }
 {

@@ -12,12 +12,14 @@ pub struct PackedRule {
     pub words: [u32; WORD_PLACES],
 }
 
+// The rules, in text order; every place past the count is 0 in a valid policy.
 #[repr(C)]
 pub struct PackedRules {
     pub count: usize,
     pub entries: [PackedRule; RULE_PLACES],
 }
 
+// A policy value: all but the rules as it is.
 #[repr(C)]
 pub struct PackedPolicy {
     pub form: u32,

@@ -1,0 +1,108 @@
+/*
+ * A screen's morning: the hall's card is read, its policy compiled, and a member of staff opens a session, works and closes it.
+ *
+ * usage: example FILE, where FILE is a policy text such as examples/front-desk.txt.
+ */
+#include <stdio.h>
+#include <string.h>
+
+#include "helvemoik.h"
+
+/* What the screen keeps: the policy, the board, and the compiled labels with their table. */
+static struct helvemoik_policy policy;
+static struct helvemoik_board board;
+static struct helvemoik_counts counts;
+static uint8_t user_labels[HELVEMOIK_MOST_LABELS];
+static uint8_t object_labels[HELVEMOIK_MOST_LABELS];
+static uint8_t table[HELVEMOIK_MOST_TABLE];
+
+/* One byte more than the longest text, so that a longer one is seen to be longer. */
+static uint8_t card[HELVEMOIK_TEXT_BYTES + 1];
+static uint8_t copy[HELVEMOIK_TEXT_BYTES];
+static uint16_t tuples[HELVEMOIK_MOST_TUPLES];
+
+static size_t load(const char *name) {
+    FILE *file = fopen(name, "rb");
+    if (!file)
+        return 0;
+    size_t n = fread(card, 1, sizeof card, file);
+    fclose(file);
+    return n;
+}
+
+static const char *word(uint32_t answer) {
+    switch (answer) {
+    case HELVEMOIK_DENIED: return "denied";
+    case HELVEMOIK_GRANTED: return "granted";
+    case HELVEMOIK_DONE: return "done";
+    default: return "refused";
+    }
+}
+
+/* Takes the step's board and prints its answer. */
+static void took(const char *call, struct helvemoik_step step) {
+    board = step.board;
+    printf("%s: %s", call, word(step.answer));
+    if (step.answer > HELVEMOIK_DONE)
+        printf(" %u", (unsigned)step.answer);
+    printf("\n");
+}
+
+static void request(uint32_t session, uint32_t action, uint32_t object) {
+    char call[64];
+    snprintf(call, sizeof call, "request %u %u %u", (unsigned)session, (unsigned)action, (unsigned)object);
+    took(call, helvemoik_request(board, policy, counts.users, counts.objects, user_labels, sizeof user_labels,
+                                 object_labels, sizeof object_labels, table, sizeof table, session, action, object));
+}
+
+static void list(uint32_t action) {
+    struct helvemoik_counted listed = helvemoik_list(policy, action, tuples, HELVEMOIK_MOST_TUPLES);
+    printf("list %u: refusal %u, %zu tuples", (unsigned)action, (unsigned)listed.refusal, listed.count);
+    if (listed.count > 0)
+        printf(", the first %u, by tuples 1 and 1: %s", (unsigned)tuples[0],
+               word(helvemoik_decide_by_tuples(policy, 1, 1, tuples, HELVEMOIK_MOST_TUPLES, listed.count)));
+    printf("\n");
+}
+
+int main(int argc, char **argv) {
+    size_t length = argc > 1 ? load(argv[1]) : 0;
+    struct helvemoik_reading reading = helvemoik_read(card, length);
+    printf("read: refusal %u, line %zu\n", (unsigned)reading.refusal, reading.line);
+    if (reading.refusal != 0)
+        return 1;
+    policy = reading.policy;
+    printf("valid: %s\n", helvemoik_valid(policy) ? "yes" : "no");
+
+    struct helvemoik_counted written = helvemoik_write(policy, copy, sizeof copy);
+    printf("write: refusal %u, %zu bytes, %s\n", (unsigned)written.refusal, written.count,
+           written.count == length && memcmp(copy, card, length) == 0 ? "the same text" : "another text");
+
+    counts = helvemoik_compile(policy, user_labels, sizeof user_labels, object_labels, sizeof object_labels, table, sizeof table);
+    printf("compile: refusal %u, NU %u, NO %u\n", (unsigned)counts.refusal, (unsigned)counts.users, (unsigned)counts.objects);
+    for (uint32_t action = 0; action < 4; action++)
+        list(action);
+    printf("decide 1 2 2: %s\n", word(helvemoik_decide(policy, 1, 2, 2)));
+    struct helvemoik_separation apart = helvemoik_apart(policy, 1, 2);
+    printf("apart 1 2: answer %u, action %u, object set %u\n", (unsigned)apart.answer, (unsigned)apart.action, (unsigned)apart.object);
+
+    board = helvemoik_fresh();
+    took("open 2 5 1", helvemoik_open(board, policy, 2, 5, 1));
+    took("open 2 5 1", helvemoik_open(board, policy, 2, 5, 1));
+    request(5, 0, 0);
+    request(5, 2, 1);
+    took("add 2 5 4", helvemoik_add(board, policy, 2, 5, 4));
+    request(5, 2, 1);
+    took("add 2 5 8", helvemoik_add(board, policy, 2, 5, 8));
+    took("drop 1 5 4", helvemoik_drop(board, policy, 1, 5, 4));
+    took("drop 2 5 4", helvemoik_drop(board, policy, 2, 5, 4));
+    request(5, 2, 1);
+    request(5, 9, 1);
+    request(5, 0, 63);
+    took("close 2 5", helvemoik_close(board, policy, 2, 5));
+    request(5, 0, 0);
+
+    /* A word that no policy has: check 11 refuses the policy. */
+    policy.rules.entries[0].words[0] = 9 * 65536;
+    printf("valid: %s\n", helvemoik_valid(policy) ? "yes" : "no");
+    return 0;
+}
