@@ -6,11 +6,13 @@
 
 #![forbid(unsafe_code)]
 
+pub mod case_file;
 pub mod cases;
 pub mod formula;
 pub mod labels;
 pub mod lister;
 pub mod machine;
 pub mod policy;
+pub mod stored;
 pub mod text;
 pub mod tuples;

@@ -1,0 +1,144 @@
+//! The case files that are stored with the product: the requirement's examples
+//! with the requirement's answers, and made cases from one seed.
+
+use crate::case_file::{made, text_lines};
+
+const SEED: u64 = 3;
+const CASES: u64 = 700;
+/// The most bytes of a file; a case larger than that is left out.
+const FILE: usize = 65_536;
+/// A case of at most so many bytes is always taken, and larger ones up to a sum.
+const SMALL: usize = 2_400;
+const LARGE_SUM: usize = 350_000;
+/// A large case that is always taken: every set of both sides has its own label.
+const LABEL_PER_SET: u64 = 690;
+
+/// The text of the requirement.
+const TEXT: &str = "policy,1
+uattr,2
+oattr,1
+usen,1,0
+user,0,2
+object,0,1
+rule,0,u0,o0,a
+rule,3,u1,n
+end
+";
+
+/// What the requirement says of its text: labels, table, tuples, and calls.
+const ANSWERS: &str = "Y
+W,85,0
+L,4,2,6,0,3,2
+u,0,1,2,2
+o,0,1
+g,8,8,8,9,0,1
+T,0,3,0,3,3,3,5,5,7,7
+T,3,4,0,4,0,3
+F,3,3,0,2
+S
+O,0,0,1,0
+O,0,1,3,0
+O,0,2,4,19
+D,0,0,4,19
+Q,0,1,0,2
+Q,0,8,0,12
+Q,0,3,0,1
+Q,1,3,0,2
+D,0,1,2,0
+A,0,1,2,0
+N,0,0,1,1,0,3
+";
+
+/// The requirement's edges: what stands for a line of the text, or after its
+/// end, and what reading answers.
+const EDGES: [(&str, &str, &str); 16] = [
+    ("uattr,2\n", "uattr,3\nuattr,4\n", "Y"),
+    ("uattr,2\n", "uattr,4\nuattr,4\n", "R,6,2"),
+    ("oattr,1\n", "oattr,3\noattr,4\n", "Y"),
+    ("oattr,1\n", "oattr,4\noattr,4\n", "R,6,3"),
+    ("user,0,2\n", "user,31,2\n", "Y"),
+    ("user,0,2\n", "user,32,2\n", "R,6,4"),
+    ("object,0,1\n", "object,63,1\n", "Y"),
+    ("object,0,1\n", "object,64,1\n", "R,6,5"),
+    ("rule,3,u1,n\n", "rule,7,u1,n\n", "Y"),
+    ("rule,3,u1,n\n", "rule,8,u1,n\n", "R,6,7"),
+    ("usen,1,0\n", "usen,0,0\n", "R,6,3"),
+    ("user,0,2\n", "user,01,2\n", "R,5,4"),
+    ("user,0,2\n", "user,0,01\n", "R,5,4"),
+    ("end\n", "end\nend\n", "R,3,9"),
+    ("end\n", "end\n\n", "R,3,9"),
+    ("end\n", "", "R,10,8"),
+];
+
+/// The files by their numbers: the examples, then the made cases.
+pub fn files() -> Vec<String> {
+    let mut files = vec![examples(), String::new()];
+    let mut large = 0;
+    for case in 0..CASES {
+        let lines = made(SEED, case, u32::MAX);
+        if lines.len() > SMALL && case != LABEL_PER_SET {
+            if lines.len() > FILE || large + lines.len() > LARGE_SUM {
+                continue;
+            }
+            large += lines.len();
+        }
+        match files.last_mut() {
+            Some(file) if file.len() + lines.len() <= FILE => *file += &lines,
+            _ => files.push(lines),
+        }
+    }
+    files
+}
+
+fn examples() -> String {
+    let numbered = example_cases().into_iter().enumerate();
+    numbered
+        .map(|(case, (text, answers))| {
+            format!("C,{case}\n{}{answers}", text_lines(text.as_bytes()))
+        })
+        .collect()
+}
+
+/// Texts, each with the answers' lines, of which the first is the reading's.
+fn example_cases() -> Vec<(String, String)> {
+    let no_rules = TEXT.replace("rule,0,u0,o0,a\nrule,3,u1,n\n", "");
+    let all_alike = "Y\nL,4,2,1,0,1,1\nu,0,0,0,0\no,0,0\ng,0\n";
+    let mut cases = vec![
+        (TEXT.to_string(), ANSWERS.to_string()),
+        (no_rules, all_alike.to_string()),
+        (String::new(), "R,10,0\n".to_string()),
+    ];
+    for (old, new, answer) in EDGES {
+        cases.push((TEXT.replace(old, new), format!("{answer}\n")));
+    }
+    for (words, answer) in [(32, "Y"), (33, "R,4,6")] {
+        let rule = format!("rule,0,t{}\n", ",n".repeat(words - 1));
+        let text = TEXT.replace("rule,0,u0,o0,a\n", &rule);
+        cases.push((text, format!("{answer}\n")));
+    }
+    cases
+}
+
+#[cfg(test)]
+mod tests {
+    use super::*;
+    use crate::text::read;
+
+    #[test]
+    fn the_examples_are_read_as_the_requirement_says() {
+        for (text, answers) in example_cases() {
+            let reading = match read(text.as_bytes()) {
+                Ok(_) => "Y".to_string(),
+                Err(refused) => format!("R,{},{}", refused.refusal, refused.line),
+            };
+            assert_eq!(answers.lines().next(), Some(reading.as_str()), "{text}");
+        }
+    }
+
+    #[test]
+    fn every_edge_changes_the_text() {
+        assert!(EDGES
+            .iter()
+            .all(|(old, new, _)| TEXT.replace(old, new) != TEXT));
+    }
+}
