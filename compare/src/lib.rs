@@ -5,8 +5,11 @@
 #![deny(unsafe_code)]
 
 pub mod boundary;
+pub mod comparison;
+pub mod damage;
 #[allow(unsafe_code)]
 pub mod engine;
 pub mod plain;
 pub mod sample;
 pub mod timing;
+pub mod value;

@@ -51,7 +51,7 @@ use reference::labels::{apart, compile, Labelling};
 use reference::machine::{run, Answer, Call};
 use reference::policy::{Policy, Refusal, Set, ACTIONS};
 use reference::text::{read, write};
-use reference::tuples::{decide_by_tuples, tuples};
+use reference::tuples::{decide_by_tuples, tuples, Stored};
 use std::io::{self, BufWriter, Write};
 
 const BYTES_IN_A_LINE: usize = 32;
@@ -119,13 +119,13 @@ fn write_labelling(out: &mut impl Write, labelling: &Labelling) -> io::Result<()
     write_bytes(out, 'g', &labelling.table)
 }
 
-fn write_tuples(out: &mut impl Write, policy: &Policy) -> io::Result<Vec<Vec<u32>>> {
+fn write_tuples(out: &mut impl Write, policy: &Policy) -> io::Result<Vec<Vec<Stored>>> {
     let mut listings = Vec::new();
     for action in 0..ACTIONS {
         let listing = tuples(policy, action).expect("an action");
         writeln!(out, "T {action} {}", listing.len())?;
         for line in listing.chunks(TUPLES_IN_A_LINE) {
-            let numbers: Vec<String> = line.iter().map(u32::to_string).collect();
+            let numbers: Vec<String> = line.iter().map(Stored::to_string).collect();
             writeln!(out, "t {}", numbers.join(" "))?;
         }
         listings.push(listing);
@@ -137,7 +137,7 @@ fn write_decisions(
     out: &mut impl Write,
     rng: &mut Rng,
     policy: &Policy,
-    listings: &[Vec<u32>],
+    listings: &[Vec<Stored>],
     largest: u32,
 ) -> io::Result<()> {
     for _ in 0..DECISIONS {
@@ -150,7 +150,7 @@ fn write_decisions(
         let (action, listing) = rng.pick(&Vec::from_iter(listings.iter().enumerate()));
         let (us, os) = sets(rng, policy, largest);
         let count = listing_count(rng, listing.len() as u32, largest);
-        let answer = decision(decide_by_tuples(policy, us, os, listing, count));
+        let answer = decision(decide_by_tuples(policy, us, os, listing, count as usize));
         writeln!(out, "B {action} {us} {os} {count} {answer}")?;
     }
     for _ in 0..DECISIONS {
