@@ -264,11 +264,12 @@ impl Engine for Faulty {
 fn every_fault_is_found() {
     let plan = Plan {
         seed: 5,
-        texts: 4_000,
-        calls: 80_000,
+        texts: 2_000,
+        calls: 40_000,
     };
     for fault in FAULTS {
-        let found = compare(&Faulty(fault), plan).expect_err(&format!("{fault:?} is not found"));
-        assert!(!found.what.is_empty());
+        let found = compare(&Faulty(fault), plan);
+        let difference = found.expect_err(&format!("{fault:?} is not found"));
+        println!("{fault:?}: case {}", difference.case);
     }
 }

@@ -185,20 +185,24 @@ impl Trial<'_> {
         let rng = &mut self.rng;
         for _ in 0..rng.below(3) {
             match rng.below(4) {
-                0 => buffers.nu = odd(rng),
-                1 => {
-                    let no = buffers.no;
-                    let near = [no + 1, no - no.min(1), 0, 1, u32::MAX];
-                    buffers.no = match rng.chance(1, 2) {
-                        true => rng.pick(&near),
-                        false => odd(rng),
-                    };
-                }
+                0 => buffers.nu = other_count(rng, buffers.nu),
+                1 => buffers.no = other_count(rng, buffers.no),
                 2 => shorten(rng, &mut buffers),
                 _ => overwrite(rng, &mut buffers),
             }
         }
         buffers
+    }
+}
+
+/// Another NU or NO: near the right one or far off.
+fn other_count(rng: &mut Rng, count: u32) -> u32 {
+    match rng.below(6) {
+        0 => count + 1,
+        1 => count.saturating_sub(1),
+        2 => 0,
+        3 => u32::MAX,
+        _ => odd(rng),
     }
 }
 
