@@ -26,8 +26,18 @@ impl Trial<'_> {
         (set(rng, sides.0, u32::MAX), set(rng, sides.1, u32::MAX))
     }
 
+    /// An action, mostly one that has a rule.
+    fn some_action(&mut self, known: &Known) -> u32 {
+        match &known.policy {
+            Some(policy) if !policy.rules.is_empty() && self.rng.chance(3, 4) => {
+                policy.rules[self.rng.index(policy.rules.len())].action
+            }
+            _ => action(&mut self.rng, u32::MAX),
+        }
+    }
+
     pub(super) fn deciding(&mut self, known: &Known) -> Outcome {
-        let action = action(&mut self.rng, u32::MAX);
+        let action = self.some_action(known);
         let (user, object) = self.sets(known);
         let found = self.engine.decide(&known.value, action, user, object);
         self.coverage.count_call("decide", found);
@@ -40,7 +50,7 @@ impl Trial<'_> {
     }
 
     pub(super) fn listing(&mut self, known: &Known) -> Outcome {
-        let action = action(&mut self.rng, u32::MAX);
+        let action = self.some_action(known);
         let tuples: &[u16] = match &known.policy {
             Some(policy) if action < 8 => known.tuples(policy, action),
             _ => &[],
@@ -91,7 +101,7 @@ impl Trial<'_> {
     fn some_listing(&mut self, known: &Known) -> Vec<u16> {
         match &known.policy {
             Some(policy) if self.rng.chance(3, 4) => {
-                let action = self.rng.below(8);
+                let action = self.some_action(known) % 8;
                 known.tuples(policy, action).to_vec()
             }
             _ => (0..self.rng.below(20))

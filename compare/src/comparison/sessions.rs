@@ -321,9 +321,12 @@ fn request_on(rng: &mut Rng, policy: &Policy, session: u32) -> Call {
         _ if objects.is_empty() => rng.below(64),
         _ => rng.pick(&objects),
     };
+    let actions: Vec<u32> = policy.rules.iter().map(|rule| rule.action).collect();
     let action = match rng.below(12) {
         0 => odd(rng),
-        _ => rng.below(8),
+        1..=3 => rng.below(8),
+        _ if actions.is_empty() => rng.below(8),
+        _ => rng.pick(&actions),
     };
     Call::Request {
         session,
