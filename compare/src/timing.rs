@@ -3,20 +3,43 @@
 use std::hint::black_box;
 use std::time::{Duration, Instant};
 
-/// How often the two take turns, and how long a turn lasts at least.
-const ROUNDS: usize = 40;
-const TURN: Duration = Duration::from_millis(2);
+/// How often the two take turns at most, how long a turn lasts at least, and
+/// how long all turns may take. Turns are short, so that some find the
+/// machine idle.
+const ROUNDS: usize = 400;
+const TURN: Duration = Duration::from_micros(250);
+const ALL_TURNS: Duration = Duration::from_secs(2);
 
-/// The least time of one call of each, in nanoseconds. The least is what
-/// remains when nothing else of the machine comes between.
-pub fn race<A, B>(mut one: impl FnMut() -> A, mut other: impl FnMut() -> B) -> (f64, f64) {
+/// What a race of two jobs gives.
+pub struct Times {
+    /// The least time of one call of each, in nanoseconds: what remains when
+    /// nothing else of the machine comes between.
+    pub one: f64,
+    pub other: f64,
+    /// The median over the rounds of the first's time by the second's, which
+    /// a machine that is now fast and now slow hardly moves.
+    pub ratio: f64,
+}
+
+/// Times two jobs in turns.
+pub fn race<A, B>(mut one: impl FnMut() -> A, mut other: impl FnMut() -> B) -> Times {
     let (one_count, other_count) = (calls_in_a_turn(&mut one), calls_in_a_turn(&mut other));
     let (mut one_least, mut other_least) = (f64::MAX, f64::MAX);
-    for _ in 0..ROUNDS {
-        one_least = one_least.min(time(&mut one, one_count));
-        other_least = other_least.min(time(&mut other, other_count));
+    let mut ratios = Vec::new();
+    let start = Instant::now();
+    while ratios.len() < ROUNDS && start.elapsed() < ALL_TURNS {
+        let one_time = time(&mut one, one_count);
+        let other_time = time(&mut other, other_count);
+        one_least = one_least.min(one_time);
+        other_least = other_least.min(other_time);
+        ratios.push(one_time / other_time);
     }
-    (one_least, other_least)
+    ratios.sort_by(f64::total_cmp);
+    Times {
+        one: one_least,
+        other: other_least,
+        ratio: ratios[ratios.len() / 2],
+    }
 }
 
 fn calls_in_a_turn<T>(call: &mut impl FnMut() -> T) -> u32 {

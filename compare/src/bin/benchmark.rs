@@ -1,7 +1,8 @@
 //! The engine's time beside plain Rust's, in one run.
 //!
-//! Each row is the least time of one call over rounds in turns. Buffers are
-//! long enough, and are used again and not cleared between the calls.
+//! Each row has the least time of one call of each, over many rounds in turns,
+//! and the median of the rounds' ratios. Buffers are long enough, and are used
+//! again and not cleared between the calls.
 
 #![deny(unsafe_code)]
 
@@ -10,15 +11,15 @@ use helvemoik_compare::engine::{Archive, Engine, Labels};
 use helvemoik_compare::plain;
 use helvemoik_compare::plain::policy::Policy;
 use helvemoik_compare::sample::{Sample, SIZES};
-use helvemoik_compare::timing::{race, shown};
+use helvemoik_compare::timing::{race, shown, Times};
 use reference::machine::Call;
 use std::hint::black_box;
 
-fn row(sample: &Sample, job: &str, (engine, plain): (f64, f64)) {
+fn row(sample: &Sample, job: &str, times: Times) {
     let values = sample.size.values;
-    let (engine_shown, plain_shown) = (shown(engine), shown(plain));
-    let ratio = engine / plain;
-    println!("| {job} | {values} + {values} | {engine_shown} | {plain_shown} | {ratio:.2} |");
+    let (engine, plain) = (shown(times.one), shown(times.other));
+    let ratio = times.ratio;
+    println!("| {job} | {values} + {values} | {engine} | {plain} | {ratio:.2} |");
 }
 
 fn measure_texts(sample: &Sample) {
