@@ -1,61 +1,80 @@
-//! Two jobs timed in turns.
+//! Jobs timed in turns.
 
 use std::hint::black_box;
 use std::time::{Duration, Instant};
 
-/// How often the two take turns at most, how long a turn lasts at least, and
+/// How often the jobs take turns at most, how long a turn lasts at least, and
 /// how long all turns may take. Turns are short, so that some find the
 /// machine idle.
 const ROUNDS: usize = 400;
 const TURN: Duration = Duration::from_micros(250);
-const ALL_TURNS: Duration = Duration::from_secs(2);
+const ALL_TURNS: Duration = Duration::from_secs(3);
 
-/// What a race of two jobs gives.
-pub struct Times {
-    /// The least time of one call of each, in nanoseconds: what remains when
-    /// nothing else of the machine comes between.
-    pub one: f64,
-    pub other: f64,
-    /// The median over the rounds of the first's time by the second's, which
-    /// a machine that is now fast and now slow hardly moves.
-    pub ratio: f64,
+/// A job to time: it does its call so many times.
+pub type Job<'a> = Box<dyn FnMut(u32) + 'a>;
+
+/// A job of a call whose answer nobody needs.
+pub fn job<'a, T>(mut call: impl FnMut() -> T + 'a) -> Job<'a> {
+    Box::new(move |count| {
+        for _ in 0..count {
+            // By reference: a large answer is not copied once more.
+            black_box(&call());
+        }
+    })
 }
 
-/// Times two jobs in turns.
-pub fn race<A, B>(mut one: impl FnMut() -> A, mut other: impl FnMut() -> B) -> Times {
-    let (one_count, other_count) = (calls_in_a_turn(&mut one), calls_in_a_turn(&mut other));
-    let (mut one_least, mut other_least) = (f64::MAX, f64::MAX);
-    let mut ratios = Vec::new();
+/// What a race gives.
+pub struct Times<const N: usize> {
+    /// The least time of one call of each job, in nanoseconds: what remains
+    /// when nothing else of the machine comes between.
+    pub least: [f64; N],
+    /// For each job, the median over the rounds of the first job's time by its
+    /// own, which a machine that is now fast and now slow hardly moves.
+    pub ratios: [f64; N],
+}
+
+/// Times jobs in turns.
+pub fn race<const N: usize>(mut jobs: [Job; N]) -> Times<N> {
+    let counts = jobs.each_mut().map(calls_in_a_turn);
+    let mut rounds: Vec<[f64; N]> = Vec::new();
     let start = Instant::now();
-    while ratios.len() < ROUNDS && start.elapsed() < ALL_TURNS {
-        let one_time = time(&mut one, one_count);
-        let other_time = time(&mut other, other_count);
-        one_least = one_least.min(one_time);
-        other_least = other_least.min(other_time);
-        ratios.push(one_time / other_time);
+    while rounds.len() < ROUNDS && (rounds.is_empty() || start.elapsed() < ALL_TURNS) {
+        let mut times = [0.0; N];
+        for place in 0..N {
+            times[place] = time(&mut jobs[place], counts[place]);
+        }
+        rounds.push(times);
     }
-    ratios.sort_by(f64::total_cmp);
-    Times {
-        one: one_least,
-        other: other_least,
-        ratio: ratios[ratios.len() / 2],
+    let mut times = Times {
+        least: [f64::MAX; N],
+        ratios: [0.0; N],
+    };
+    for place in 0..N {
+        let least = rounds.iter().map(|round| round[place]);
+        times.least[place] = least.fold(f64::MAX, f64::min);
+        let ratios = rounds.iter().map(|round| round[0] / round[place]);
+        times.ratios[place] = median(ratios.collect());
     }
+    times
 }
 
-fn calls_in_a_turn<T>(call: &mut impl FnMut() -> T) -> u32 {
+fn median(mut numbers: Vec<f64>) -> f64 {
+    numbers.sort_by(f64::total_cmp);
+    numbers[numbers.len() / 2]
+}
+
+fn calls_in_a_turn(job: &mut Job) -> u32 {
     let mut count = 1;
-    while time(call, count) * f64::from(count) < TURN.as_nanos() as f64 {
+    while time(job, count) * f64::from(count) < TURN.as_nanos() as f64 {
         count *= 2;
     }
     count
 }
 
-fn time<T>(call: &mut impl FnMut() -> T, count: u32) -> f64 {
+/// The time of one call, in nanoseconds.
+fn time(job: &mut Job, count: u32) -> f64 {
     let start = Instant::now();
-    for _ in 0..count {
-        // By reference: a large answer is not copied once more.
-        black_box(&call());
-    }
+    job(count);
     start.elapsed().as_nanos() as f64 / f64::from(count)
 }
 

@@ -1,6 +1,8 @@
 //! The engine's time beside plain Rust's, in one run.
 //!
-//! Each row has the least time of one call of each, over many rounds in turns,
+//! Plain Rust is measured twice: with its own policy value by reference, and
+//! behind the engine's boundary, where it too is handed packed words and boards by
+//! value. Each row has the least time of one call, over many rounds in turns,
 //! and the median of the rounds' ratios. Buffers are long enough, and are used
 //! again and not cleared between the calls.
 
@@ -8,116 +10,118 @@
 
 use helvemoik_compare::boundary::{Board, PackedPolicy, DONE, SESSIONS};
 use helvemoik_compare::engine::{Archive, Engine, Labels};
-use helvemoik_compare::plain;
 use helvemoik_compare::plain::policy::Policy;
+use helvemoik_compare::plain::{self, Plain};
 use helvemoik_compare::sample::{Sample, SIZES};
-use helvemoik_compare::timing::{race, shown, Times};
+use helvemoik_compare::timing::{job, race, shown, Job};
 use reference::machine::Call;
 use std::hint::black_box;
 
-fn row(sample: &Sample, job: &str, times: Times) {
+/// A row of the table: the engine, plain Rust, and plain Rust behind the boundary.
+fn row(sample: &Sample, name: &str, jobs: [Job; 3]) {
     let values = sample.size.values;
-    let (engine, plain) = (shown(times.one), shown(times.other));
-    let ratio = times.ratio;
-    println!("| {job} | {values} + {values} | {engine} | {plain} | {ratio:.2} |");
+    let times = race(jobs);
+    let [engine, plain, packed] = times.least.map(shown);
+    let [_, ratio, packed_ratio] = times.ratios;
+    println!(
+        "| {name} | {values} + {values} | {engine} | {plain} | {ratio:.2} | {packed} | {packed_ratio:.2} |"
+    );
 }
 
 fn measure_texts(sample: &Sample) {
     let (packed, policy) = (&sample.packed, &sample.policy);
     let text = sample.text.as_slice();
-    let read = race(
-        || Archive.read(black_box(text)),
-        || plain::reader::read(black_box(text)),
-    );
+    let read = [
+        job(|| Archive.read(black_box(text))),
+        job(|| plain::reader::read(black_box(text))),
+        job(|| Plain.read(black_box(text))),
+    ];
     row(sample, "read", read);
-    let check = race(
-        || Archive.valid(black_box(packed)),
-        || plain::checks::valid(black_box(policy)),
-    );
+    let check = [
+        job(|| Archive.valid(black_box(packed))),
+        job(|| plain::checks::valid(black_box(policy))),
+        job(|| Plain.valid(black_box(packed))),
+    ];
     row(sample, "check 11", check);
-    let (mut one, mut other) = ([0; 8192], [0; 8192]);
-    let write = race(
-        || Archive.write(black_box(packed), &mut one),
-        || plain::writer::write(black_box(policy), &mut other),
-    );
-    assert_eq!(one, other);
+    let mut buffers = [[0; 8192]; 3];
+    let [one, two, three] = &mut buffers;
+    let write = [
+        job(|| Archive.write(black_box(packed), one)),
+        job(|| plain::writer::write(black_box(policy), two)),
+        job(|| Plain.write(black_box(packed), three)),
+    ];
     row(sample, "write", write);
+    assert!(buffers.iter().all(|buffer| *buffer == buffers[0]));
 }
 
 fn measure_decisions(sample: &Sample) {
     let (packed, policy) = (&sample.packed, &sample.policy);
-    let (mut one, mut other) = (vec![0; 1 << 14], vec![0; 1 << 14]);
-    let list = race(
-        || Archive.list(black_box(packed), 0, &mut one),
-        || plain::tuples::list(black_box(policy), 0, &mut other),
-    );
-    assert_eq!(one, other);
+    let mut buffers = [const { [0; 1 << 14] }; 3];
+    let [one, two, three] = &mut buffers;
+    let list = [
+        job(|| Archive.list(black_box(packed), 0, one)),
+        job(|| plain::tuples::list(black_box(policy), 0, two)),
+        job(|| Plain.list(black_box(packed), 0, three)),
+    ];
     row(sample, "list", list);
+    assert!(buffers.iter().all(|buffer| *buffer == buffers[0]));
     let set = black_box((1 << sample.size.values) - 1);
-    let decide = race(
-        || Archive.decide(black_box(packed), 0, set, set),
-        || plain::formula::decide(black_box(policy), 0, set, set),
-    );
+    let decide = [
+        job(|| Archive.decide(black_box(packed), 0, set, set)),
+        job(|| plain::formula::decide(black_box(policy), 0, set, set)),
+        job(|| Plain.decide(black_box(packed), 0, set, set)),
+    ];
     row(sample, "decide", decide);
     // Alike, so that every object set is looked at.
-    let apart = race(
-        || Archive.apart(black_box(packed), set, set),
-        || plain::labels::apart(black_box(policy), set, set),
-    );
+    let apart = [
+        job(|| Archive.apart(black_box(packed), set, set)),
+        job(|| plain::labels::apart(black_box(policy), set, set)),
+        job(|| Plain.apart(black_box(packed), set, set)),
+    ];
     row(sample, "apart", apart);
 }
 
 /// Three buffers that are always long enough.
+#[derive(Clone, PartialEq, Eq)]
 struct Buffers {
     users: [u8; 128],
     objects: [u8; 128],
     table: [u8; 128 * 128],
 }
 
-impl Buffers {
-    fn new() -> Self {
-        Buffers {
-            users: [0; 128],
-            objects: [0; 128],
-            table: [0; 128 * 128],
-        }
-    }
-}
+const EMPTY: Buffers = Buffers {
+    users: [0; 128],
+    objects: [0; 128],
+    table: [0; 128 * 128],
+};
 
 fn measure_compile(sample: &Sample) {
     let (packed, policy) = (&sample.packed, &sample.policy);
-    let (mut one, mut other) = (Buffers::new(), Buffers::new());
-    let compile = race(
-        || {
-            let b = &mut one;
-            Archive.compile(
-                black_box(packed),
-                &mut b.users,
-                &mut b.objects,
-                &mut b.table,
-            )
-        },
-        || {
-            let b = &mut other;
-            plain::labels::compile(
-                black_box(policy),
-                &mut b.users,
-                &mut b.objects,
-                &mut b.table,
-            )
-        },
-    );
-    assert_eq!(one.users, other.users);
-    assert_eq!(one.objects, other.objects);
-    assert_eq!(one.table, other.table);
+    let mut buffers = [EMPTY; 3];
+    let [a, b, c] = &mut buffers;
+    let compile = [
+        job(|| {
+            let packed = black_box(packed);
+            Archive.compile(packed, &mut a.users, &mut a.objects, &mut a.table)
+        }),
+        job(|| {
+            let policy = black_box(policy);
+            plain::labels::compile(policy, &mut b.users, &mut b.objects, &mut b.table)
+        }),
+        job(|| {
+            let packed = black_box(packed);
+            Plain.compile(packed, &mut c.users, &mut c.objects, &mut c.table)
+        }),
+    ];
     row(sample, "compile", compile);
+    assert!(buffers.iter().all(|filled| *filled == buffers[0]));
 }
 
 fn measure_sessions(sample: &Sample) {
     let (packed, policy, board) = (&sample.packed, &sample.policy, &sample.board);
-    let mut b = Buffers::new();
+    let mut b = EMPTY;
     let counts = Archive.compile(packed, &mut b.users, &mut b.objects, &mut b.table);
-    let labels = Labels {
+    let labels = &Labels {
         nu: counts.users,
         no: counts.objects,
         users: &b.users,
@@ -125,45 +129,53 @@ fn measure_sessions(sample: &Sample) {
         table: &b.table,
     };
     let last = SESSIONS as u32 - 1;
-    let open = race(
-        || Archive.open(black_box(board), black_box(packed), 0, last, 0),
-        || {
+    let open = [
+        job(|| Archive.open(black_box(board), black_box(packed), 0, last, 0)),
+        job(|| {
             let mut board = *black_box(board);
             let answer = plain::board::open(&mut board, black_box(policy), 0, last, 0);
             (answer, board)
-        },
-    );
+        }),
+        job(|| Plain.open(black_box(board), black_box(packed), 0, last, 0)),
+    ];
     row(sample, "open", open);
-    let request = race(
-        || Archive.request(black_box(board), black_box(packed), &labels, 0, 0, 0),
-        || plain::board::request(black_box(board), black_box(policy), &labels, 0, 0, 0),
-    );
+    let request = [
+        job(|| Archive.request(black_box(board), black_box(packed), labels, 0, 0, 0)),
+        job(|| plain::board::request(black_box(board), black_box(policy), labels, 0, 0, 0)),
+        job(|| Plain.request(black_box(board), black_box(packed), labels, 0, 0, 0)),
+    ];
     row(sample, "request", request);
     let calls = sample.calls.as_slice();
-    let after = by_engine(packed, &labels, calls);
-    assert_eq!(after, by_plain(policy, &labels, calls));
-    let thousand = race(
-        || by_engine(black_box(packed), &labels, black_box(calls)),
-        || by_plain(black_box(policy), &labels, black_box(calls)),
-    );
+    let after = by_engine(&Archive, packed, labels, calls);
+    assert_eq!(after, by_plain(policy, labels, calls));
+    let thousand = [
+        job(|| by_engine(&Archive, black_box(packed), labels, calls)),
+        job(|| by_plain(black_box(policy), labels, calls)),
+        job(|| by_engine(&Plain, black_box(packed), labels, calls)),
+    ];
     row(sample, "a thousand calls", thousand);
 }
 
 /// The sum of the answers of a list of calls, and the board after it.
-fn by_engine(policy: &PackedPolicy, labels: &Labels, calls: &[Call]) -> (u32, Board) {
-    let mut board = Archive.fresh();
+fn by_engine<E: Engine>(
+    engine: &E,
+    policy: &PackedPolicy,
+    labels: &Labels,
+    calls: &[Call],
+) -> (u32, Board) {
+    let mut board = engine.fresh();
     let mut sum = 0;
     for call in calls {
         let step = match *call {
-            Call::Open { user, session, set } => Archive.open(&board, policy, user, session, set),
-            Call::Add { user, session, set } => Archive.add(&board, policy, user, session, set),
-            Call::Drop { user, session, set } => Archive.drop(&board, policy, user, session, set),
-            Call::Close { user, session } => Archive.close(&board, policy, user, session),
+            Call::Open { user, session, set } => engine.open(&board, policy, user, session, set),
+            Call::Add { user, session, set } => engine.add(&board, policy, user, session, set),
+            Call::Drop { user, session, set } => engine.drop(&board, policy, user, session, set),
+            Call::Close { user, session } => engine.close(&board, policy, user, session),
             Call::Request {
                 session,
                 action,
                 object,
-            } => Archive.request(&board, policy, labels, session, action, object),
+            } => engine.request(&board, policy, labels, session, action, object),
         };
         sum += step.answer;
         board = step.board;
@@ -194,8 +206,10 @@ fn by_plain(policy: &Policy, labels: &Labels, calls: &[Call]) -> (u32, Board) {
 }
 
 fn main() {
-    println!("| job | values | engine | plain Rust | ratio |");
-    println!("| --- | --- | --- | --- | --- |");
+    println!(
+        "| job | values | engine | plain Rust | ratio | plain Rust behind the boundary | ratio |"
+    );
+    println!("| --- | --- | ---: | ---: | ---: | ---: | ---: |");
     for size in SIZES {
         let sample = Sample::of(size);
         measure_texts(&sample);
