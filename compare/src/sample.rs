@@ -138,8 +138,8 @@ fn board(size: Size, policy: &Policy) -> Board {
     board
 }
 
-/// All sessions are opened and then used, half of the calls requests; each is
-/// closed and opened again now and then.
+/// All sessions are opened and then used, nearly half of the calls requests;
+/// each is closed and opened again now and then.
 fn calls(size: Size, policy: &Policy) -> Vec<Call> {
     let open = |session: u32| {
         let (user, set) = owner(size, policy, session);
@@ -164,4 +164,23 @@ fn calls(size: Size, policy: &Policy) -> Vec<Call> {
     }
     calls.truncate(1000);
     calls
+}
+
+#[cfg(test)]
+mod tests {
+    use super::*;
+    use reference::machine::{run, Answer};
+
+    #[test]
+    fn no_call_of_a_sample_is_refused() {
+        for size in SIZES {
+            let sample = Sample::of(size);
+            let policy = reference::text::read(&sample.text).expect("accepted");
+            let (answers, _) = run(&policy, &sample.calls);
+            let refused = answers
+                .iter()
+                .any(|answer| matches!(answer, Answer::Refused(_)));
+            assert!(!refused && answers.len() == 1000);
+        }
+    }
 }
