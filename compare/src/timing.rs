@@ -4,11 +4,11 @@ use std::hint::black_box;
 use std::time::{Duration, Instant};
 
 /// How often the jobs take turns at most, how long a turn lasts at least, and
-/// how long all turns may take. Turns are short, so that some find the
+/// how long all turns may take. Turns are short, so that many find the
 /// machine idle.
-const ROUNDS: usize = 400;
-const TURN: Duration = Duration::from_micros(250);
-const ALL_TURNS: Duration = Duration::from_secs(3);
+const ROUNDS: usize = 1000;
+const TURN: Duration = Duration::from_micros(200);
+const ALL_TURNS: Duration = Duration::from_secs(5);
 
 /// A job to time: it does its call so many times.
 pub type Job<'a> = Box<dyn FnMut(u32) + 'a>;
@@ -23,44 +23,25 @@ pub fn job<'a, T>(mut call: impl FnMut() -> T + 'a) -> Job<'a> {
     })
 }
 
-/// What a race gives.
-pub struct Times<const N: usize> {
-    /// The least time of one call of each job, in nanoseconds: what remains
-    /// when nothing else of the machine comes between.
-    pub least: [f64; N],
-    /// For each job, the median over the rounds of the first job's time by its
-    /// own, which a machine that is now fast and now slow hardly moves.
-    pub ratios: [f64; N],
-}
-
-/// Times jobs in turns.
-pub fn race<const N: usize>(mut jobs: [Job; N]) -> Times<N> {
+/// Times jobs in turns: the time of one call of each, in nanoseconds, that a
+/// tenth of its turns stayed below. The turns above it are those that other
+/// work of the machine came between.
+pub fn race<const N: usize>(mut jobs: [Job; N]) -> [f64; N] {
     let counts = jobs.each_mut().map(calls_in_a_turn);
-    let mut rounds: Vec<[f64; N]> = Vec::new();
+    let mut times = [const { Vec::new() }; N];
     let start = Instant::now();
-    while rounds.len() < ROUNDS && (rounds.is_empty() || start.elapsed() < ALL_TURNS) {
-        let mut times = [0.0; N];
-        for place in 0..N {
-            times[place] = time(&mut jobs[place], counts[place]);
+    for _ in 0..ROUNDS {
+        for ((job, count), times) in jobs.iter_mut().zip(counts).zip(&mut times) {
+            times.push(time(job, count));
         }
-        rounds.push(times);
+        if start.elapsed() > ALL_TURNS {
+            break;
+        }
     }
-    let mut times = Times {
-        least: [f64::MAX; N],
-        ratios: [0.0; N],
-    };
-    for place in 0..N {
-        let least = rounds.iter().map(|round| round[place]);
-        times.least[place] = least.fold(f64::MAX, f64::min);
-        let ratios = rounds.iter().map(|round| round[0] / round[place]);
-        times.ratios[place] = median(ratios.collect());
-    }
-    times
-}
-
-fn median(mut numbers: Vec<f64>) -> f64 {
-    numbers.sort_by(f64::total_cmp);
-    numbers[numbers.len() / 2]
+    times.map(|mut times: Vec<f64>| {
+        times.sort_by(f64::total_cmp);
+        times[times.len() / 10]
+    })
 }
 
 fn calls_in_a_turn(job: &mut Job) -> u32 {

@@ -2,8 +2,8 @@
 //!
 //! Plain Rust is measured twice: with its own policy value by reference, and
 //! behind the engine's boundary, where it too is handed packed words and boards by
-//! value. Each row has the least time of one call, over many rounds in turns,
-//! and the median of the rounds' ratios. Buffers are long enough, and are used
+//! value. A time is that of one call, the tenth percentile of many turns, and a
+//! ratio the engine's time by the other. Buffers are long enough, and are used
 //! again and not cleared between the calls.
 
 #![deny(unsafe_code)]
@@ -21,8 +21,8 @@ use std::hint::black_box;
 fn row(sample: &Sample, name: &str, jobs: [Job; 3]) {
     let values = sample.size.values;
     let times = race(jobs);
-    let [engine, plain, packed] = times.least.map(shown);
-    let [_, ratio, packed_ratio] = times.ratios;
+    let [engine, plain, packed] = times.map(shown);
+    let [ratio, packed_ratio] = [times[0] / times[1], times[0] / times[2]];
     println!(
         "| {name} | {values} + {values} | {engine} | {plain} | {ratio:.2} | {packed} | {packed_ratio:.2} |"
     );
