@@ -49,7 +49,7 @@ use crate::labels::{apart, compile, Labelling};
 use crate::machine::{run, step, Answer, Call, Sessions};
 use crate::policy::{Policy, Refusal, Set, ACTIONS};
 use crate::text::{read, write};
-use crate::tuples::{decide_by_tuples, tuples};
+use crate::tuples::{decide_by_tuples, tuples, Stored};
 use std::fmt::Write;
 
 /// Decisions of each sort in an accepted case.
@@ -187,7 +187,7 @@ fn label_lines(out: &mut String, rng: &mut Rng, policy: &Policy, labelling: &Lab
     }
 }
 
-fn tuple_lines(out: &mut String, rng: &mut Rng, policy: &Policy) -> Vec<Vec<u32>> {
+fn tuple_lines(out: &mut String, rng: &mut Rng, policy: &Policy) -> Vec<Vec<Stored>> {
     line(out, format!("T,{},16384,12,0", 8 + rng.below(3)));
     let mut listings = Vec::new();
     for action in 0..ACTIONS {
@@ -207,8 +207,8 @@ fn tuple_lines(out: &mut String, rng: &mut Rng, policy: &Policy) -> Vec<Vec<u32>
 }
 
 /// Rising numbers as runs, each by its first and its last.
-fn runs(numbers: &[u32]) -> String {
-    let mut runs: Vec<(u32, u32)> = Vec::new();
+fn runs(numbers: &[Stored]) -> String {
+    let mut runs: Vec<(Stored, Stored)> = Vec::new();
     for &number in numbers {
         match runs.last_mut() {
             Some(run) if run.1 + 1 == number => run.1 = number,
@@ -223,7 +223,7 @@ fn decision_lines(
     out: &mut String,
     rng: &mut Rng,
     policy: &Policy,
-    listings: &[Vec<u32>],
+    listings: &[Vec<Stored>],
     largest: u32,
 ) {
     for _ in 0..DECISIONS {
@@ -236,7 +236,7 @@ fn decision_lines(
         let (action, listing) = rng.pick(&Vec::from_iter(listings.iter().enumerate()));
         let (us, os) = sets(rng, policy, largest);
         let count = listing_count(rng, listing.len() as u32, largest);
-        let answer = decision(decide_by_tuples(policy, us, os, listing, count));
+        let answer = decision(decide_by_tuples(policy, us, os, listing, count as usize));
         line(out, format!("B,{action},{us},{os},{count},{answer}"));
     }
     for _ in 0..DECISIONS {

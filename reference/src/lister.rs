@@ -23,7 +23,7 @@ fn listing(policy: &Policy) -> String {
         let action = rule.action;
         let tuples = tuples(policy, action).expect("an action of a rule");
         output += &format!("action,{action},{}\n", tuples.len());
-        for tuple in tuples {
+        for tuple in tuples.into_iter().map(u32::from) {
             let (user_set, object_set) =
                 (tuple / policy.object_sets(), tuple % policy.object_sets());
             output += &format!("tuple,{action},{user_set},{object_set}\n");

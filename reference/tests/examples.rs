@@ -213,7 +213,7 @@ fn tuples_are_not_tried_by_subset() {
     let policy = policy(TEXT);
     let listing = tuples(&policy, 3).expect("listed");
     for object_set in 0..2 {
-        let count = listing.len() as u32;
+        let count = listing.len();
         assert_eq!(
             decide_by_tuples(&policy, 1, object_set, &listing, count),
             Ok(true)

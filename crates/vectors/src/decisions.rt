@@ -6,6 +6,7 @@ use formula::Decision;
 use labels::Apartness;
 use labels::Witness;
 use policy::refusal::Refusal;
+use policy::refusal::number_of;
 use policy::value::PolicyValue;
 use tuples::Listing;
 
@@ -57,7 +58,14 @@ pub fn by_tuples(policy: PolicyValue, line: &[u8]) -> Outcome {
     let a = n.values;
     let mut buffer = [BLANK; PAIRS];
     let listing = tuples::list(policy, a[0], &mut buffer);
-    let decision = decide_by(policy, a[1], a[2], &buffer, count_of(listing), cursor::size(a[3]));
+    let decision = decide_by(
+        policy,
+        a[1],
+        a[2],
+        &buffer,
+        count_of(listing),
+        cursor::size(a[3]),
+    );
     outcome::compared(outcome::of_decision(decision), a[4])
 }
 
@@ -159,14 +167,14 @@ fn counted_so(listing: Listing, answer: u32, count: u32) -> bool {
             }
             n == cursor::size(count)
         }
-        Listing::Refused(why) => report::number_of(why) == answer,
+        Listing::Refused(why) => number_of(why) == answer,
     }
 }
 
 fn answer_of(listing: Listing) -> u32 {
     match listing {
         Listing::Stored(_) => outcome::DONE,
-        Listing::Refused(why) => report::number_of(why),
+        Listing::Refused(why) => number_of(why),
     }
 }
 

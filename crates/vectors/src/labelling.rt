@@ -5,6 +5,7 @@ use crate::outcome::Outcome;
 use labels::Compiled;
 use labels::Counts;
 use policy::refusal::Refusal;
+use policy::refusal::number_of;
 use policy::value::PolicyValue;
 
 // What stands in a buffer before a call.
@@ -75,7 +76,7 @@ fn compiled_so(compiled: Compiled, answer: u32, users: u32, objects: u32) -> Lab
             Labelled { outcome, counts }
         }
         Compiled::Refused(why) => {
-            let outcome = outcome::compared(report::number_of(why), answer);
+            let outcome = outcome::compared(number_of(why), answer);
             let counts = no_counts();
             Labelled { outcome, counts }
         }

@@ -137,7 +137,16 @@ fn play_files() -> Run {
     let mut tally = tally::none();
     let mut i = 0u8;
     while i < FILES {
-        let path = [b'c', b'a', b's', b'e', b's', b'-', b'0' + i / 10, b'0' + i % 10];
+        let path = [
+            b'c',
+            b'a',
+            b's',
+            b'e',
+            b's',
+            b'-',
+            b'0' + i / 10,
+            b'0' + i % 10,
+        ];
         let fd = os::open_read(&path);
         if fd < 0 {
             return Run { good: true, tally };

@@ -2,6 +2,7 @@
 use board::Answer;
 use formula::Decision;
 use labels::Apartness;
+use policy::refusal::number_of;
 
 // The engine agrees; or what it answers instead; or the first place at which its result differs; or the line is in no form that is known.
 pub enum Outcome {
@@ -26,7 +27,7 @@ pub fn of_decision(decision: Decision) -> u32 {
     match decision {
         Decision::Granted => GRANTED,
         Decision::Denied => DENIED,
-        Decision::Refused(why) => report::number_of(why),
+        Decision::Refused(why) => number_of(why),
     }
 }
 
@@ -35,7 +36,7 @@ pub fn of_answer(answer: Answer) -> u32 {
         Answer::Done => DONE,
         Answer::Granted => GRANTED,
         Answer::Denied => DENIED,
-        Answer::Refused(why) => report::number_of(why),
+        Answer::Refused(why) => number_of(why),
     }
 }
 
@@ -43,7 +44,7 @@ pub fn of_apartness(answer: Apartness) -> u32 {
     match answer {
         Apartness::Alike => ALIKE,
         Apartness::Apart(_) => APART,
-        Apartness::Refused(why) => report::number_of(why),
+        Apartness::Refused(why) => number_of(why),
     }
 }
 

@@ -102,7 +102,14 @@ fn value_line(tag: u8, line: &[u8], state: State, text: &[u8]) -> Outcome {
     }
 }
 
-fn played(tag: u8, line: &[u8], state: State, users: &[u8], objects: &[u8], table: &[u8]) -> Played {
+fn played(
+    tag: u8,
+    line: &[u8],
+    state: State,
+    users: &[u8],
+    objects: &[u8],
+    table: &[u8],
+) -> Played {
     let policy = state.policy;
     let counts = state.counts;
     let board = state.board;

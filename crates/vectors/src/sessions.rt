@@ -107,17 +107,7 @@ pub fn request_in(
     let u = cursor::front(users, cursor::size(a[3]));
     let o = cursor::front(objects, cursor::size(a[4]));
     let t = cursor::front(table, cursor::size(a[5]));
-    let step = board::request(
-        board,
-        policy,
-        counts,
-        u,
-        o,
-        t,
-        a[0],
-        a[1],
-        a[2],
-    );
+    let step = board::request(board, policy, counts, u, o, t, a[0], a[1], a[2]);
     answered(step, a[6])
 }
 

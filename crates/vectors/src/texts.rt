@@ -6,6 +6,7 @@ use crate::outcome;
 use crate::outcome::Outcome;
 use policy::TEXT_BYTES;
 use policy::refusal::Refusal;
+use policy::refusal::number_of;
 use policy::value::PolicyValue;
 use policy::value::Verdict;
 use writer::Written;
@@ -109,8 +110,8 @@ fn refused_so(line: &[u8], why: Refusal, at: usize) -> Outcome {
         return Outcome::Malformed;
     }
     let a = n.values;
-    if report::number_of(why) != a[0] {
-        return Outcome::Answers(report::number_of(why));
+    if number_of(why) != a[0] {
+        return Outcome::Answers(number_of(why));
     }
     outcome::at_end(at, cursor::size(a[1]))
 }
@@ -130,7 +131,7 @@ fn read_so(tag: u8, line: &[u8], verdict: Verdict, valid: bool) -> Outcome {
         }
         Verdict::Refused(why, at) => {
             if tag != b'R' {
-                return Outcome::Answers(report::number_of(why));
+                return Outcome::Answers(number_of(why));
             }
             if valid {
                 return Outcome::Answers(outcome::DONE);
@@ -193,8 +194,8 @@ pub fn written_so(policy: PolicyValue, line: &[u8], text: &[u8]) -> Outcome {
             outcome::at_end(unlike_text(text, &buffer), TEXT_BYTES)
         }
         Written::Refused(why) => {
-            if report::number_of(why) != a[1] {
-                return Outcome::Answers(report::number_of(why));
+            if number_of(why) != a[1] {
+                return Outcome::Answers(number_of(why));
             }
             outcome::at_end(unlike_text(&[], &buffer), TEXT_BYTES)
         }

@@ -1,0 +1,146 @@
+//! The types of the header `embedding/helvemoik.h`, which cross as they are.
+
+/// The places of each array of a policy value.
+pub const WIDTH_PLACES: usize = 7;
+pub const LINE_PLACES: usize = 21;
+pub const ENTRY_PLACES: usize = 64;
+pub const WORD_PLACES: usize = 32;
+pub const RULE_PLACES: usize = 8;
+
+/// The entries of a board.
+pub const SESSIONS: usize = 32;
+
+/// A direct line of seniority.
+#[repr(C)]
+#[derive(Debug, Clone, Copy, Default, PartialEq, Eq)]
+pub struct Direct {
+    pub senior: u32,
+    pub junior: u32,
+}
+
+#[repr(C)]
+#[derive(Debug, Clone, Copy, Default, PartialEq, Eq)]
+pub struct SideValue {
+    pub attributes: usize,
+    pub widths: [u32; WIDTH_PLACES],
+    pub lines: usize,
+    pub seniority: [Direct; LINE_PLACES],
+}
+
+#[repr(C)]
+#[derive(Debug, Clone, Copy, Default, PartialEq, Eq)]
+pub struct Entry {
+    pub number: u32,
+    pub set: u32,
+}
+
+#[repr(C)]
+#[derive(Debug, Clone, Copy, PartialEq, Eq)]
+pub struct Register {
+    pub count: usize,
+    pub entries: [Entry; ENTRY_PLACES],
+}
+
+impl Default for Register {
+    fn default() -> Self {
+        Register {
+            count: 0,
+            entries: [Entry::default(); ENTRY_PLACES],
+        }
+    }
+}
+
+/// A rule; each word is kind × 65536 + first × 256 + second.
+#[repr(C)]
+#[derive(Debug, Clone, Copy, Default, PartialEq, Eq)]
+pub struct PackedRule {
+    pub action: u32,
+    pub count: usize,
+    pub words: [u32; WORD_PLACES],
+}
+
+#[repr(C)]
+#[derive(Debug, Clone, Copy, Default, PartialEq, Eq)]
+pub struct PackedRules {
+    pub count: usize,
+    pub entries: [PackedRule; RULE_PLACES],
+}
+
+/// A policy value; the default is the blank one.
+#[repr(C)]
+#[derive(Debug, Clone, Copy, Default, PartialEq, Eq)]
+pub struct PackedPolicy {
+    pub form: u32,
+    pub user: SideValue,
+    pub object: SideValue,
+    pub users: Register,
+    pub objects: Register,
+    pub rules: PackedRules,
+}
+
+/// The answer of reading; refusal 0 is accepted.
+#[repr(C)]
+#[derive(Debug, Clone, Copy, Default, PartialEq, Eq)]
+pub struct PackedReading {
+    pub refusal: u32,
+    pub line: usize,
+    pub policy: PackedPolicy,
+}
+
+/// A count, or a refusal beside the count 0.
+#[repr(C)]
+#[derive(Debug, Clone, Copy, Default, PartialEq, Eq)]
+pub struct Counted {
+    pub refusal: u32,
+    pub count: usize,
+}
+
+/// NU and NO, or a refusal beside 0 and 0.
+#[repr(C)]
+#[derive(Debug, Clone, Copy, Default, PartialEq, Eq)]
+pub struct PackedCounts {
+    pub refusal: u32,
+    pub users: u32,
+    pub objects: u32,
+}
+
+/// Answer 0 is alike, 1 apart, else the refusal; action and object are 0 unless apart.
+#[repr(C)]
+#[derive(Debug, Clone, Copy, Default, PartialEq, Eq)]
+pub struct Separation {
+    pub answer: u32,
+    pub action: u32,
+    pub object: u32,
+}
+
+/// The entry of a session number.
+#[repr(C)]
+#[derive(Debug, Clone, Copy, Default, PartialEq, Eq)]
+pub struct Session {
+    pub live: bool,
+    pub user: u32,
+    pub held: u32,
+}
+
+#[repr(C)]
+#[derive(Debug, Clone, Copy, Default, PartialEq, Eq)]
+pub struct Board {
+    pub sessions: [Session; SESSIONS],
+}
+
+/// The answer of a session call and the board after it.
+#[repr(C)]
+#[derive(Debug, Clone, Copy, Default, PartialEq, Eq)]
+pub struct PackedStep {
+    pub answer: u32,
+    pub board: Board,
+}
+
+/// What a decision or a session call answers, unless it is a refusal.
+pub const DENIED: u32 = 0;
+pub const GRANTED: u32 = 1;
+pub const DONE: u32 = 2;
+
+/// What Apart answers, unless it is a refusal.
+pub const ALIKE: u32 = 0;
+pub const APART: u32 = 1;

@@ -1,0 +1,131 @@
+//! An engine beside the second implementation: made texts and calls, and every
+//! answer, buffer and board compared.
+
+mod calls;
+mod coverage;
+mod known;
+mod lent;
+mod sessions;
+mod texts;
+
+pub use coverage::Coverage;
+
+use crate::damage::damaged;
+use crate::engine::Engine;
+use known::Known;
+use reference::cases::{text, Rng};
+use std::fmt::Debug;
+use std::fmt::{self, Display};
+
+/// What is compared: equal plans make equal cases.
+#[derive(Debug, Clone, Copy)]
+pub struct Plan {
+    pub seed: u64,
+    pub texts: u64,
+    /// At least so many calls besides reading.
+    pub calls: u64,
+}
+
+/// The first case in which the two differ.
+#[derive(Debug)]
+pub struct Difference {
+    pub plan: Plan,
+    pub case: u64,
+    pub what: String,
+}
+
+impl Display for Difference {
+    fn fmt(&self, f: &mut fmt::Formatter<'_>) -> fmt::Result {
+        let Plan { seed, texts, calls } = self.plan;
+        writeln!(f, "seed {seed}, case {}: {}", self.case, self.what)?;
+        let case = self.case;
+        write!(f, "this case alone: compare {seed} {texts} {calls} {case}")
+    }
+}
+
+/// Nothing, or what differs.
+type Outcome = Result<(), String>;
+
+/// A call in words; only made where it is shown.
+type What<'a> = &'a dyn Fn() -> String;
+
+/// An engine's answer beside the one that is due.
+fn same<T: PartialEq + Debug>(what: What, found: &T, due: &T) -> Outcome {
+    if found == due {
+        return Ok(());
+    }
+    Err(format!("{}\n  found {found:?}\n  due   {due:?}", what()))
+}
+
+/// All cases of a plan.
+pub fn compare(engine: &dyn Engine, plan: Plan) -> Result<Coverage, Difference> {
+    let mut coverage = Coverage::default();
+    for case in 0..plan.texts {
+        compare_case(engine, plan, case, &mut coverage)?;
+    }
+    Ok(coverage)
+}
+
+/// One case of a plan: a text, and calls on its policy value.
+pub fn compare_case(
+    engine: &dyn Engine,
+    plan: Plan,
+    case: u64,
+    coverage: &mut Coverage,
+) -> Result<(), Difference> {
+    let mut trial = Trial {
+        engine,
+        rng: Rng::new(plan.seed, case),
+        coverage,
+    };
+    // Every second text is valid, so that calls on these alone are enough.
+    let calls = (2 * plan.calls).div_ceil(plan.texts.max(1)).max(1);
+    trial
+        .run(case, calls as u32)
+        .map_err(|what| Difference { plan, case, what })
+}
+
+/// A case on its way.
+struct Trial<'a> {
+    engine: &'a dyn Engine,
+    rng: Rng,
+    coverage: &'a mut Coverage,
+}
+
+impl Trial<'_> {
+    /// At least so many calls where the text is accepted, and a few where it is not.
+    fn run(&mut self, case: u64, calls: u32) -> Outcome {
+        let text = text(&mut self.rng, case);
+        let known = self.reading(&text)?;
+        if known.policy.is_none() {
+            return self.any_call(&known);
+        }
+        let start = self.coverage.calls();
+        self.writing_back(&known, &text)?;
+        self.list_of_calls(&known, calls / 2)?;
+        while self.coverage.calls() < start + u64::from(calls) {
+            if self.rng.chance(1, 3) {
+                let damaged = Known::of(damaged(&mut self.rng, &known.value));
+                self.validity(&damaged)?;
+                self.any_call(&damaged)?;
+            } else {
+                self.any_call(&known)?;
+            }
+        }
+        Ok(())
+    }
+
+    /// A call of any kind with any arguments.
+    fn any_call(&mut self, known: &Known) -> Outcome {
+        match self.rng.below(16) {
+            0 => self.validity(known),
+            1 => self.writing(known),
+            2..=3 => self.deciding(known),
+            4 => self.listing(known),
+            5..=6 => self.deciding_by_tuples(known),
+            7 => self.compiling(known),
+            8 => self.telling_apart(known),
+            _ => self.session_call(known),
+        }
+    }
+}

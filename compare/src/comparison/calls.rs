@@ -1,0 +1,224 @@
+//! Deciding, listing, compiling and telling apart.
+
+use super::known::Known;
+use super::lent::{length_for, Lent};
+use super::{same, Outcome, Trial, What};
+use crate::boundary::{Counted, PackedCounts, Separation, ALIKE, APART};
+use crate::damage::{odd, odd_count};
+use reference::cases::{action, set};
+use reference::formula::{decide, Formulas};
+use reference::labels::apart;
+use reference::policy::{Policy, Refusal};
+use reference::tuples::decide_by_tuples;
+
+/// A decision as the header numbers it.
+fn decision(answer: Result<bool, Refusal>) -> u32 {
+    answer.map_or_else(|refusal| refusal, u32::from)
+}
+
+impl Trial<'_> {
+    /// A user set and an object set, mostly of the policy's sides.
+    fn sets(&mut self, known: &Known) -> (u32, u32) {
+        let sides = known.policy.as_ref().map_or((128, 128), |policy| {
+            (policy.user_sets(), policy.object_sets())
+        });
+        let rng = &mut self.rng;
+        (set(rng, sides.0, u32::MAX), set(rng, sides.1, u32::MAX))
+    }
+
+    /// An action, mostly one that has a rule.
+    fn some_action(&mut self, known: &Known) -> u32 {
+        match &known.policy {
+            Some(policy) if !policy.rules.is_empty() && self.rng.chance(3, 4) => {
+                policy.rules[self.rng.index(policy.rules.len())].action
+            }
+            _ => action(&mut self.rng, u32::MAX),
+        }
+    }
+
+    pub(super) fn deciding(&mut self, known: &Known) -> Outcome {
+        let action = self.some_action(known);
+        let (user, object) = self.sets(known);
+        let found = self.engine.decide(&known.value, action, user, object);
+        self.coverage.count_call("decide", found);
+        let due = match &known.policy {
+            None => 11,
+            Some(policy) => decision(decide(policy, action, user, object)),
+        };
+        let what = || format!("decide {action} {user} {object}: {}", known.shown());
+        same(&what, &found, &due)
+    }
+
+    pub(super) fn listing(&mut self, known: &Known) -> Outcome {
+        let action = self.some_action(known);
+        let tuples: &[u16] = match &known.policy {
+            Some(policy) if action < 8 => known.tuples(policy, action),
+            _ => &[],
+        };
+        let length = length_for(&mut self.rng, tuples.len());
+        let mut buffer = Lent::filled(&mut self.rng, length);
+        let found = self.engine.list(&known.value, action, buffer.part());
+        self.coverage.count_call("list", found.refusal);
+        let (refusal, stored) = match &known.policy {
+            None => (11, &[][..]),
+            Some(_) if action > 7 => (12, &[][..]),
+            Some(_) if tuples.len() > length => (20, &[][..]),
+            Some(_) => (0, tuples),
+        };
+        let count = stored.len();
+        let what = || format!("list {action} into {length}: {}", known.shown());
+        same(&what, &found, &Counted { refusal, count })?;
+        buffer.starts_with(&what, stored)
+    }
+
+    pub(super) fn deciding_by_tuples(&mut self, known: &Known) -> Outcome {
+        let (user, object) = self.sets(known);
+        let listing = self.some_listing(known);
+        let count = match self.rng.below(8) {
+            0 => listing.len() + 1,
+            1 => odd_count(&mut self.rng),
+            2 => self.rng.index(listing.len() + 1),
+            3 => 0,
+            _ => listing.len(),
+        };
+        let policy = &known.value;
+        let found = self
+            .engine
+            .decide_by_tuples(policy, user, object, &listing, count);
+        self.coverage.count_call("decide by tuples", found);
+        let due = match &known.policy {
+            None => 11,
+            Some(policy) => decision(decide_by_tuples(policy, user, object, &listing, count)),
+        };
+        let what = || {
+            let policy = known.shown();
+            format!("decide by tuples {user} {object}, {count} of {listing:?}: {policy}")
+        };
+        same(&what, &found, &due)
+    }
+
+    /// The listing of an action, or any numbers.
+    fn some_listing(&mut self, known: &Known) -> Vec<u16> {
+        match &known.policy {
+            Some(policy) if self.rng.chance(3, 4) => {
+                let action = self.some_action(known) % 8;
+                known.tuples(policy, action).to_vec()
+            }
+            _ => (0..self.rng.below(20))
+                .map(|_| self.rng.below(1 << 16) as u16)
+                .collect(),
+        }
+    }
+
+    pub(super) fn compiling(&mut self, known: &Known) -> Outcome {
+        let needed = match &known.policy {
+            Some(policy) => {
+                let labelling = known.labelling(policy);
+                [
+                    labelling.user_labels.len(),
+                    labelling.object_labels.len(),
+                    labelling.table.len(),
+                ]
+            }
+            None => [4, 4, 16],
+        };
+        // Mostly enough; else one or more of them may be short.
+        let lengths = match self.rng.chance(1, 2) {
+            true => needed.map(|needed| needed + self.rng.index(3)),
+            false => needed.map(|needed| length_for(&mut self.rng, needed)),
+        };
+        self.compile_into(known, lengths)?;
+        Ok(())
+    }
+
+    /// Compiles into buffers of these lengths; the answer and the buffers after it.
+    pub(super) fn compile_into(
+        &mut self,
+        known: &Known,
+        lengths: [usize; 3],
+    ) -> Result<(PackedCounts, [Lent<u8>; 3]), String> {
+        let [mut users, mut objects, mut table] =
+            lengths.map(|length| Lent::filled(&mut self.rng, length));
+        let found = self
+            .engine
+            .compile(&known.value, users.part(), objects.part(), table.part());
+        self.coverage.count_call("compile", found.refusal);
+        let what = || format!("compile into {lengths:?}: {}", known.shown());
+        let labelling = known.policy.as_ref().map(|policy| known.labelling(policy));
+        let fits = labelling.is_some_and(|labelling| {
+            users.len() >= labelling.user_labels.len()
+                && objects.len() >= labelling.object_labels.len()
+                && table.len() >= labelling.table.len()
+        });
+        match labelling {
+            Some(labelling) if fits => {
+                let due = PackedCounts {
+                    refusal: 0,
+                    users: labelling.user_count as u32,
+                    objects: labelling.object_count as u32,
+                };
+                same(&what, &found, &due)?;
+                users.starts_with(&what, &labelling.user_labels)?;
+                objects.starts_with(&what, &labelling.object_labels)?;
+                table.starts_with(&what, &labelling.table)?;
+            }
+            _ => {
+                let due = PackedCounts {
+                    refusal: if labelling.is_some() { 20 } else { 11 },
+                    ..PackedCounts::default()
+                };
+                same(&what, &found, &due)?;
+                users.unchanged(&what)?;
+                objects.unchanged(&what)?;
+                table.unchanged(&what)?;
+            }
+        }
+        Ok((found, [users, objects, table]))
+    }
+
+    pub(super) fn telling_apart(&mut self, known: &Known) -> Outcome {
+        let (one, _) = self.sets(known);
+        let (mut other, _) = self.sets(known);
+        if self.rng.chance(1, 4) {
+            // Not far from the first, and so more often alike.
+            other = one ^ 1;
+        } else if self.rng.chance(1, 12) {
+            other = odd(&mut self.rng);
+        }
+        let found = self.engine.apart(&known.value, one, other);
+        self.coverage.count_call("apart", found.answer);
+        let what = || format!("apart {one} {other}: {}", known.shown());
+        let due = match &known.policy {
+            None => 11,
+            Some(policy) => match apart(policy, one, other) {
+                Err(refusal) => refusal,
+                Ok(None) => ALIKE,
+                Ok(Some(_)) => APART,
+            },
+        };
+        same(&what, &found.answer, &due)?;
+        match &known.policy {
+            Some(policy) if due == APART => separates(policy, one, other, found, &what),
+            _ => {
+                let blank = Separation {
+                    answer: due,
+                    ..Separation::default()
+                };
+                same(&what, &found, &blank)
+            }
+        }
+    }
+}
+
+/// The witness is free, but it must truly separate.
+fn separates(policy: &Policy, one: u32, other: u32, found: Separation, what: What) -> Outcome {
+    let Separation { action, object, .. } = found;
+    let formulas = Formulas::of(policy);
+    let true_witness = action < 8
+        && object < policy.object_sets()
+        && formulas.grants(action, one, object) != formulas.grants(action, other, object);
+    match true_witness {
+        true => Ok(()),
+        false => Err(format!("{}\n  no witness: {found:?}", what())),
+    }
+}

@@ -1,0 +1,67 @@
+//! What a comparison covered.
+
+use std::collections::BTreeMap;
+use std::fmt::{self, Display};
+
+/// How often each answer was given: of reading, and of each kind of call.
+#[derive(Debug, Default, Clone, PartialEq, Eq)]
+pub struct Coverage {
+    texts: BTreeMap<u32, u64>,
+    calls: BTreeMap<&'static str, BTreeMap<u32, u64>>,
+}
+
+impl Coverage {
+    pub(super) fn count_text(&mut self, refusal: u32) {
+        *self.texts.entry(refusal).or_default() += 1;
+    }
+
+    pub(super) fn count_call(&mut self, kind: &'static str, answer: u32) {
+        let answers = self.calls.entry(kind).or_default();
+        *answers.entry(answer).or_default() += 1;
+    }
+
+    /// How many calls there were, readings not among them.
+    pub fn calls(&self) -> u64 {
+        self.calls.values().flat_map(BTreeMap::values).sum()
+    }
+
+    pub fn texts(&self) -> u64 {
+        self.texts.values().sum()
+    }
+
+    /// The answers that reading gave: 0 for accepted, or the refusal.
+    pub fn readings(&self) -> Vec<u32> {
+        self.texts.keys().copied().collect()
+    }
+
+    /// The answers that a kind of call gave.
+    pub fn answers(&self, kind: &str) -> Vec<u32> {
+        self.calls
+            .get(kind)
+            .map_or(Vec::new(), |answers| answers.keys().copied().collect())
+    }
+}
+
+impl Display for Coverage {
+    fn fmt(&self, f: &mut fmt::Formatter<'_>) -> fmt::Result {
+        writeln!(f, "{} texts, by refusal (0 accepted)", self.texts())?;
+        write_counts(f, "read", &self.texts)?;
+        writeln!(f, "{} calls, by answer (11 to 20 refused)", self.calls())?;
+        for (kind, answers) in &self.calls {
+            write_counts(f, kind, answers)?;
+        }
+        Ok(())
+    }
+}
+
+fn write_counts(
+    f: &mut fmt::Formatter<'_>,
+    kind: &str,
+    counts: &BTreeMap<u32, u64>,
+) -> fmt::Result {
+    write!(f, "  {kind:17}")?;
+    for (answer, count) in counts {
+        write!(f, "  {answer}: {count}")?;
+    }
+    writeln!(f)
+}

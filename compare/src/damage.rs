@@ -1,0 +1,367 @@
+//! Policy values and boards with something wrong in them, and odd numbers.
+
+use crate::boundary::*;
+use crate::value::packed_word;
+use reference::cases::Rng;
+use reference::formula::reach;
+use reference::policy::{Policy, Word};
+
+/// A number at or around the limits, or far past them.
+pub fn odd(rng: &mut Rng) -> u32 {
+    rng.pick(&[
+        0,
+        1,
+        2,
+        6,
+        7,
+        8,
+        9,
+        21,
+        22,
+        31,
+        32,
+        33,
+        63,
+        64,
+        65,
+        127,
+        128,
+        255,
+        256,
+        65_535,
+        65_536,
+        99_999,
+        100_000,
+        1 << 31,
+        u32::MAX - 1,
+        u32::MAX,
+    ])
+}
+
+/// A count at or around the limits, or far past them.
+pub fn odd_count(rng: &mut Rng) -> usize {
+    let huge = [
+        1 << 32,
+        (1 << 32) + 1,
+        1 << 63,
+        usize::MAX / 8,
+        usize::MAX - 1,
+        usize::MAX,
+    ];
+    match rng.chance(1, 3) {
+        true => rng.pick(&huge),
+        false => odd(rng) as usize,
+    }
+}
+
+/// A value with one or, seldom, two things changed; some changes leave it good.
+pub fn damaged(rng: &mut Rng, value: &PackedPolicy) -> PackedPolicy {
+    let mut damaged = *value;
+    for _ in 0..1 + u32::from(rng.chance(1, 5)) {
+        match rng.below(8) {
+            0 => change_form(rng, &mut damaged),
+            1 => change_count(rng, &mut damaged),
+            2 => leave_over(rng, &mut damaged),
+            3 => change_number(rng, &mut damaged),
+            4 => change_word(rng, &mut damaged),
+            5 => break_order(rng, &mut damaged),
+            6 => widen(rng, &mut damaged),
+            _ => flip_bit(rng, &mut damaged),
+        }
+    }
+    damaged
+}
+
+fn change_form(rng: &mut Rng, value: &mut PackedPolicy) {
+    value.form = rng.pick(&[0, 2, 3, 257, 65_537, u32::MAX]);
+}
+
+/// One of the counts of a value.
+fn count_of<'a>(rng: &mut Rng, value: &'a mut PackedPolicy) -> &'a mut usize {
+    let rule = rule_place(rng, value);
+    match rng.below(8) {
+        0 => &mut value.user.attributes,
+        1 => &mut value.object.attributes,
+        2 => &mut value.user.lines,
+        3 => &mut value.object.lines,
+        4 => &mut value.users.count,
+        5 => &mut value.objects.count,
+        6 => &mut value.rules.count,
+        _ => &mut value.rules.entries[rule].count,
+    }
+}
+
+fn change_count(rng: &mut Rng, value: &mut PackedPolicy) {
+    let kind = rng.below(4);
+    let odd = odd_count(rng);
+    let count = count_of(rng, value);
+    *count = match kind {
+        0 => count.wrapping_add(1),
+        1 => count.wrapping_sub(1),
+        2 => 0,
+        _ => odd,
+    };
+}
+
+/// The place of a rule, mostly of one in use.
+fn rule_place(rng: &mut Rng, value: &PackedPolicy) -> usize {
+    place(rng, value.rules.count, RULE_PLACES)
+}
+
+/// A place in an array, mostly of an entry in use.
+fn place(rng: &mut Rng, count: usize, places: usize) -> usize {
+    match (1..=places).contains(&count) && rng.chance(7, 8) {
+        true => rng.index(count),
+        false => rng.index(places),
+    }
+}
+
+/// A place behind the last entry in use, if there is one.
+fn place_behind(rng: &mut Rng, count: usize, places: usize) -> usize {
+    if count >= places {
+        return places - 1;
+    }
+    // The place next to the last entry, the last of all, or any.
+    let any = count + rng.index(places - count);
+    rng.pick(&[count, places - 1, any])
+}
+
+/// Something behind the last entry of a list.
+fn leave_over(rng: &mut Rng, value: &mut PackedPolicy) {
+    let number = 1 + rng.below(9);
+    let user = rng.chance(1, 2);
+    let (side, register) = match user {
+        true => (&mut value.user, &mut value.users),
+        false => (&mut value.object, &mut value.objects),
+    };
+    match rng.below(6) {
+        0 => side.widths[place_behind(rng, side.attributes, WIDTH_PLACES)] = number,
+        1 => *line_number(rng, &mut side.seniority, side.lines, place_behind) = number,
+        2 => *entry_number(rng, &mut register.entries, register.count, place_behind) = number,
+        3 => {
+            let rule = rule_place(rng, value);
+            let rule = &mut value.rules.entries[rule];
+            rule.words[place_behind(rng, rule.count, WORD_PLACES)] = number << 16;
+        }
+        _ => {
+            let rule = place_behind(rng, value.rules.count, RULE_PLACES);
+            let rule = &mut value.rules.entries[rule];
+            match rng.below(3) {
+                0 => rule.action = number,
+                1 => rule.count = number as usize,
+                _ => rule.words[rng.index(WORD_PLACES)] = number,
+            }
+        }
+    }
+}
+
+type Place = fn(&mut Rng, usize, usize) -> usize;
+
+fn line_number<'a>(
+    rng: &mut Rng,
+    lines: &'a mut [Direct],
+    count: usize,
+    place: Place,
+) -> &'a mut u32 {
+    let line = &mut lines[place(rng, count, LINE_PLACES)];
+    match rng.chance(1, 2) {
+        true => &mut line.senior,
+        false => &mut line.junior,
+    }
+}
+
+fn entry_number<'a>(
+    rng: &mut Rng,
+    entries: &'a mut [Entry],
+    count: usize,
+    place: Place,
+) -> &'a mut u32 {
+    let entry = &mut entries[place(rng, count, ENTRY_PLACES)];
+    match rng.chance(1, 2) {
+        true => &mut entry.number,
+        false => &mut entry.set,
+    }
+}
+
+/// A width, value, number, set or action becomes another, often out of range.
+fn change_number(rng: &mut Rng, value: &mut PackedPolicy) {
+    let odd = odd(rng);
+    let kind = rng.below(4);
+    let number = number_of(rng, value);
+    *number = match kind {
+        0 => number.wrapping_add(1),
+        1 => number.wrapping_sub(1),
+        _ => odd,
+    };
+}
+
+fn number_of<'a>(rng: &mut Rng, value: &'a mut PackedPolicy) -> &'a mut u32 {
+    let rule = rule_place(rng, value);
+    let (side, register) = match rng.chance(1, 2) {
+        true => (&mut value.user, &mut value.users),
+        false => (&mut value.object, &mut value.objects),
+    };
+    match rng.below(4) {
+        0 => &mut side.widths[place(rng, side.attributes, WIDTH_PLACES)],
+        1 => line_number(rng, &mut side.seniority, side.lines, place),
+        2 => entry_number(rng, &mut register.entries, register.count, place),
+        _ => &mut value.rules.entries[rule].action,
+    }
+}
+
+/// A word becomes another, or a number that is no word's.
+fn change_word(rng: &mut Rng, value: &mut PackedPolicy) {
+    let rule = rule_place(rng, value);
+    let rule = &mut value.rules.entries[rule];
+    let word = place(rng, rule.count, WORD_PLACES);
+    let word = &mut rule.words[word];
+    let (one, other) = (rng.below(11), rng.below(11));
+    let words = [
+        Word::True,
+        Word::False,
+        Word::Not,
+        Word::And,
+        Word::Or,
+        Word::User(one),
+        Word::Object(one),
+        Word::Within(one, other),
+        Word::Same(one, other),
+    ];
+    *word = match rng.below(5) {
+        0 => rng.pick(&[
+            1,
+            256,
+            0x1_0001,
+            0x5_0001,
+            0x6_00FF,
+            0x9_0000,
+            0x100_0000,
+            u32::MAX,
+        ]),
+        1 => *word ^ 1 << rng.below(32),
+        2 => packed_word(&rng.pick(&words)) | rng.pick(&[1, 256, 0xFF00, 1 << 24]),
+        _ => packed_word(&rng.pick(&words)),
+    };
+}
+
+/// Two entries of a list change places, or one stands twice.
+fn break_order(rng: &mut Rng, value: &mut PackedPolicy) {
+    let user = rng.chance(1, 2);
+    let (side, register) = match user {
+        true => (&mut value.user, &mut value.users),
+        false => (&mut value.object, &mut value.objects),
+    };
+    match rng.below(4) {
+        0 => disorder(rng, &mut side.widths, side.attributes),
+        1 => disorder(rng, &mut side.seniority, side.lines),
+        2 => disorder(rng, &mut register.entries, register.count),
+        _ => disorder(rng, &mut value.rules.entries, value.rules.count),
+    }
+}
+
+fn disorder<T: Copy>(rng: &mut Rng, entries: &mut [T], count: usize) {
+    let one = place(rng, count, entries.len());
+    let other = place(rng, count, entries.len());
+    match rng.chance(2, 3) {
+        true => entries.swap(one, other),
+        false => entries[one] = entries[other],
+    }
+}
+
+/// One more entry at the end of a list, small numbers in it.
+fn widen(rng: &mut Rng, value: &mut PackedPolicy) {
+    let (one, other) = (rng.below(8), rng.below(8));
+    let user = rng.chance(1, 2);
+    let (side, register) = match user {
+        true => (&mut value.user, &mut value.users),
+        false => (&mut value.object, &mut value.objects),
+    };
+    match rng.below(4) {
+        0 => append(&mut side.widths, &mut side.attributes, one),
+        1 => {
+            let line = Direct {
+                senior: one,
+                junior: other,
+            };
+            append(&mut side.seniority, &mut side.lines, line);
+        }
+        2 => {
+            let entry = Entry {
+                number: one + 24 + 32 * rng.below(2),
+                set: other,
+            };
+            append(&mut register.entries, &mut register.count, entry);
+        }
+        _ => {
+            let mut rule = PackedRule {
+                action: one,
+                count: 1,
+                ..PackedRule::default()
+            };
+            rule.words[0] = packed_word(&Word::User(other));
+            append(&mut value.rules.entries, &mut value.rules.count, rule);
+        }
+    }
+}
+
+fn append<T>(entries: &mut [T], count: &mut usize, entry: T) {
+    if let Some(place) = entries.get_mut(*count) {
+        *place = entry;
+        *count += 1;
+    }
+}
+
+fn flip_bit(rng: &mut Rng, value: &mut PackedPolicy) {
+    match rng.chance(1, 4) {
+        true => *count_of(rng, value) ^= 1 << rng.below(usize::BITS),
+        false => *number_of(rng, value) ^= 1 << rng.below(u32::BITS),
+    }
+}
+
+/// A board of any sessions that are in order, and numbers left in closed entries.
+pub fn board(rng: &mut Rng, policy: &Policy) -> Board {
+    let mut board = Board::default();
+    let most = rng.pick(&[0, 1, 3, 8]);
+    for entry in &mut board.sessions {
+        if rng.chance(1, 4) {
+            // What a closed entry holds counts for nothing.
+            (entry.user, entry.held) = (odd(rng), odd(rng));
+        }
+        if rng.below(8) < most && !policy.users.is_empty() {
+            let (user, assigned) = rng.pick(&policy.users);
+            let held = rng.below(policy.user_sets()) & reach(policy, assigned);
+            *entry = Session {
+                live: true,
+                user,
+                held,
+            };
+        }
+    }
+    board
+}
+
+/// The board with one session more that may be of nobody or hold what it must not.
+pub fn damaged_board(rng: &mut Rng, policy: &Policy, board: &Board) -> Board {
+    let mut damaged = *board;
+    let users: Vec<u32> = policy.users.iter().map(|user| user.0).collect();
+    let user = match rng.below(4) {
+        0 => odd(rng),
+        1 => rng.below(33),
+        _ if users.is_empty() => rng.below(32),
+        _ => rng.pick(&users),
+    };
+    let within = reach(policy, policy.assigned(user).unwrap_or(0));
+    let held = match rng.below(5) {
+        0 => odd(rng),
+        1 => within | policy.user_sets(),
+        2 => rng.below(policy.user_sets()),
+        3 => within | 1 << rng.below(32),
+        _ => within,
+    };
+    damaged.sessions[rng.index(SESSIONS)] = Session {
+        live: true,
+        user,
+        held,
+    };
+    damaged
+}

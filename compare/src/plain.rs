@@ -1,0 +1,18 @@
+//! The engine's job once more in ordinary Rust, to measure the engine against.
+//!
+//! The policy value has the same arrays and is handed by reference, the board
+//! is changed in place; every call makes the same checks, check 11 included.
+//! Formulas are evaluated for one pair of sets at a time.
+
+pub mod board;
+pub mod checks;
+pub mod formula;
+pub mod labels;
+pub mod policy;
+pub mod reader;
+pub mod tuples;
+pub mod writer;
+
+mod packing;
+
+pub use packing::{unpacked, Plain};

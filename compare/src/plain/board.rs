@@ -1,0 +1,156 @@
+//! The five session calls on a board that is changed in place.
+
+use super::checks::valid;
+use super::formula::with_juniors;
+use super::policy::{Policy, Refusal, ACTIONS};
+use crate::boundary::{Board, Register, Session, SESSIONS};
+use crate::engine::Labels;
+
+fn set_of(register: &Register, number: u32) -> Option<u32> {
+    let entries = &register.entries[..register.count];
+    let entry = entries.iter().find(|entry| entry.number == number)?;
+    Some(entry.set)
+}
+
+/// The reach of a user, if the user is registered.
+fn reach(policy: &Policy, user: u32) -> Option<u32> {
+    set_of(&policy.users, user).map(|assigned| with_juniors(&policy.user, assigned))
+}
+
+/// Check 11 on policy and board.
+fn fits(policy: &Policy, board: &Board) -> Result<(), Refusal> {
+    let entry_fits = |entry: &Session| {
+        !entry.live || reach(policy, entry.user).is_some_and(|reach| entry.held & !reach == 0)
+    };
+    if valid(policy) && board.sessions.iter().all(entry_fits) {
+        Ok(())
+    } else {
+        Err(Refusal::InvalidState)
+    }
+}
+
+pub fn open(
+    board: &mut Board,
+    policy: &Policy,
+    user: u32,
+    session: u32,
+    set: u32,
+) -> Result<(), Refusal> {
+    fits(policy, board)?;
+    let entry = entry_mut(board, session)?;
+    let reach = reach(policy, user).ok_or(Refusal::UnregisteredUser)?;
+    if entry.live {
+        return Err(Refusal::SessionOpen);
+    }
+    if set & !reach != 0 {
+        return Err(Refusal::SetOutOfReach);
+    }
+    *entry = Session {
+        live: true,
+        user,
+        held: set,
+    };
+    Ok(())
+}
+
+pub fn add(
+    board: &mut Board,
+    policy: &Policy,
+    user: u32,
+    session: u32,
+    set: u32,
+) -> Result<(), Refusal> {
+    changed(board, policy, user, session, set)?.held |= set;
+    Ok(())
+}
+
+pub fn drop(
+    board: &mut Board,
+    policy: &Policy,
+    user: u32,
+    session: u32,
+    set: u32,
+) -> Result<(), Refusal> {
+    changed(board, policy, user, session, set)?.held &= !set;
+    Ok(())
+}
+
+pub fn close(board: &mut Board, policy: &Policy, user: u32, session: u32) -> Result<(), Refusal> {
+    fits(policy, board)?;
+    let entry = entry_mut(board, session)?;
+    if set_of(&policy.users, user).is_none() {
+        return Err(Refusal::UnregisteredUser);
+    }
+    belongs(entry, user)?;
+    *entry = Session::default();
+    Ok(())
+}
+
+/// The entry that add and drop change, after their checks.
+fn changed<'a>(
+    board: &'a mut Board,
+    policy: &Policy,
+    user: u32,
+    session: u32,
+    set: u32,
+) -> Result<&'a mut Session, Refusal> {
+    fits(policy, board)?;
+    let entry = entry_mut(board, session)?;
+    let reach = reach(policy, user).ok_or(Refusal::UnregisteredUser)?;
+    belongs(entry, user)?;
+    if set & !reach != 0 {
+        return Err(Refusal::SetOutOfReach);
+    }
+    Ok(entry)
+}
+
+fn entry_mut(board: &mut Board, session: u32) -> Result<&mut Session, Refusal> {
+    board
+        .sessions
+        .get_mut(session as usize)
+        .ok_or(Refusal::UnknownSession)
+}
+
+/// Whether the session is open and the user's.
+fn belongs(entry: &Session, user: u32) -> Result<(), Refusal> {
+    if !entry.live {
+        return Err(Refusal::SessionNotOpen);
+    }
+    if entry.user != user {
+        return Err(Refusal::SessionOfAnother);
+    }
+    Ok(())
+}
+
+/// Whether the labels of the held set and the object's set grant the action.
+pub fn request(
+    board: &Board,
+    policy: &Policy,
+    labels: &Labels,
+    session: u32,
+    action: u32,
+    object: u32,
+) -> Result<bool, Refusal> {
+    fits(policy, board)?;
+    if action >= ACTIONS {
+        return Err(Refusal::UnknownAction);
+    }
+    if session as usize >= SESSIONS {
+        return Err(Refusal::UnknownSession);
+    }
+    let object = set_of(&policy.objects, object).ok_or(Refusal::UnregisteredObject)?;
+    let entry = &board.sessions[session as usize];
+    if !entry.live {
+        return Err(Refusal::SessionNotOpen);
+    }
+    let byte = looked_up(labels, entry.held, object).ok_or(Refusal::BufferTooShort)?;
+    Ok(byte >> action & 1 == 1)
+}
+
+/// The table's byte at the labels of two sets, where all three places are there.
+fn looked_up(labels: &Labels, held: u32, object: u32) -> Option<u8> {
+    let user_label = *labels.users.get(held as usize)?;
+    let object_label = *labels.objects.get(object as usize)?;
+    let place = usize::from(user_label) * labels.no as usize + usize::from(object_label);
+    labels.table.get(place).copied()
+}

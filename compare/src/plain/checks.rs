@@ -1,0 +1,173 @@
+//! Checks 6 to 9 on what a line says, and check 11 on a policy value.
+
+use super::policy::{Policy, Refusal, Rule, Rules, Word, ACTIONS, OBJECTS, USERS, VALUES};
+use crate::boundary::{Direct, Entry, Register, SideValue};
+
+/// The sums and counts of one side that checks look at.
+#[derive(Clone, Copy)]
+pub struct Shape<'a> {
+    pub widths: &'a [u32],
+    pub values: u32,
+}
+
+impl<'a> Shape<'a> {
+    /// Of a side whose count of attributes is good.
+    pub fn of(side: &'a SideValue) -> Self {
+        let widths = &side.widths[..side.attributes];
+        Shape {
+            widths,
+            values: widths.iter().sum(),
+        }
+    }
+
+    /// How many sets there are.
+    pub fn sets(&self) -> u32 {
+        1 << self.values
+    }
+}
+
+/// A width is 1 to 7, and with it the sum is at most 7.
+pub fn width_fits(sum: u32, width: u32) -> bool {
+    let most = VALUES as u32;
+    (1..=most).contains(&width) && sum + width <= most
+}
+
+/// Both are values of one attribute, the senior above the junior.
+pub fn pair_fits(widths: &[u32], line: Direct) -> bool {
+    let mut first = 0;
+    for &width in widths {
+        if line.senior < first + width {
+            return first <= line.junior && line.junior < line.senior;
+        }
+        first += width;
+    }
+    false
+}
+
+fn word_in_range(user: Shape, object: Shape, word: Word) -> bool {
+    match word {
+        Word::User(value) => u32::from(value) < user.values,
+        Word::Object(value) => u32::from(value) < object.values,
+        Word::Within(i, j) | Word::Same(i, j) => {
+            usize::from(i) < user.widths.len() && usize::from(j) < object.widths.len()
+        }
+        _ => true,
+    }
+}
+
+fn widths_equal(user: Shape, object: Shape, word: Word) -> bool {
+    match word {
+        Word::Within(i, j) | Word::Same(i, j) => {
+            user.widths[usize::from(i)] == object.widths[usize::from(j)]
+        }
+        _ => true,
+    }
+}
+
+/// Every word finds its truth values, and exactly one remains.
+fn balanced(words: &[Word]) -> bool {
+    let mut depth = 0;
+    for word in words {
+        match word {
+            Word::Not if depth < 1 => return false,
+            Word::Not => {}
+            Word::And | Word::Or if depth < 2 => return false,
+            Word::And | Word::Or => depth -= 1,
+            _ => depth += 1,
+        }
+    }
+    depth == 1
+}
+
+/// Checks 6 to 9 of a rule, after the rule before it.
+pub fn rule_fits(
+    user: Shape,
+    object: Shape,
+    before: Option<u32>,
+    rule: &Rule,
+) -> Result<(), Refusal> {
+    let words = rule.words();
+    if rule.action >= ACTIONS || !words.iter().all(|&word| word_in_range(user, object, word)) {
+        return Err(Refusal::OutOfRange);
+    }
+    if before.is_some_and(|before| rule.action <= before) {
+        return Err(Refusal::NotRising);
+    }
+    if !words.iter().all(|&word| widths_equal(user, object, word)) {
+        return Err(Refusal::UnequalWidths);
+    }
+    if !balanced(words) {
+        return Err(Refusal::UnbalancedFormula);
+    }
+    Ok(())
+}
+
+/// Check 11: whether reading some accepted text yields this value.
+pub fn valid(policy: &Policy) -> bool {
+    if policy.form != 1 || !side_valid(&policy.user) || !side_valid(&policy.object) {
+        return false;
+    }
+    let (user, object) = (Shape::of(&policy.user), Shape::of(&policy.object));
+    register_valid(&policy.users, USERS, user.sets())
+        && register_valid(&policy.objects, OBJECTS, object.sets())
+        && rules_valid(&policy.rules, user, object)
+}
+
+fn side_valid(side: &SideValue) -> bool {
+    let (Some((widths, no_widths)), Some((lines, no_lines))) = (
+        side.widths.split_at_checked(side.attributes),
+        side.seniority.split_at_checked(side.lines),
+    ) else {
+        return false;
+    };
+    let mut sum = 0;
+    for &width in widths {
+        if !width_fits(sum, width) {
+            return false;
+        }
+        sum += width;
+    }
+    !widths.is_empty()
+        && no_widths.iter().all(|&width| width == 0)
+        && lines.iter().all(|&line| pair_fits(widths, line))
+        && lines.windows(2).all(|two| above(two[0], two[1]))
+        && no_lines.iter().all(|&line| line == Direct::default())
+}
+
+/// Whether a line of seniority rises above the one before it.
+pub fn above(before: Direct, line: Direct) -> bool {
+    (before.senior, before.junior) < (line.senior, line.junior)
+}
+
+fn register_valid(register: &Register, numbers: u32, sets: u32) -> bool {
+    let Some((entries, rest)) = register.entries.split_at_checked(register.count) else {
+        return false;
+    };
+    entries
+        .iter()
+        .all(|entry| entry.number < numbers && entry.set < sets)
+        && entries.windows(2).all(|two| two[0].number < two[1].number)
+        && rest.iter().all(|&entry| entry == Entry::default())
+}
+
+fn rules_valid(rules: &Rules, user: Shape, object: Shape) -> bool {
+    let Some((entries, rest)) = rules.entries.split_at_checked(rules.count) else {
+        return false;
+    };
+    let mut before = None;
+    for rule in entries {
+        if !words_blank_behind(rule) || rule_fits(user, object, before, rule).is_err() {
+            return false;
+        }
+        before = Some(rule.action);
+    }
+    rest.iter().all(|&rule| rule == Rule::default())
+}
+
+/// One to 32 words, and the blank word behind them.
+fn words_blank_behind(rule: &Rule) -> bool {
+    match rule.words.split_at_checked(rule.count) {
+        Some((words, rest)) => !words.is_empty() && rest.iter().all(|&word| word == Word::True),
+        None => false,
+    }
+}

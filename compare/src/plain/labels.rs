@@ -1,0 +1,132 @@
+//! Labels of both sides and their table, and telling two user sets apart.
+
+use super::checks::{valid, Shape};
+use super::formula::{Evaluator, Held};
+use super::policy::{Policy, Refusal, SETS};
+use super::tuples::object_sets;
+
+/// A byte for each user set and object set, bit a for action a.
+type Grid = [[u8; SETS]; SETS];
+
+/// NU and NO.
+#[derive(Debug, Clone, Copy, PartialEq, Eq)]
+pub struct Counts {
+    pub users: usize,
+    pub objects: usize,
+}
+
+/// The label of each row, and each label's lowest row.
+struct Classes {
+    labels: [u8; SETS],
+    leaders: [usize; SETS],
+    count: usize,
+}
+
+/// Fills the three buffers.
+pub fn compile(
+    policy: &Policy,
+    users: &mut [u8],
+    objects: &mut [u8],
+    table: &mut [u8],
+) -> Result<Counts, Refusal> {
+    if !valid(policy) {
+        return Err(Refusal::InvalidState);
+    }
+    let rows = Shape::of(&policy.user).sets() as usize;
+    let columns = Shape::of(&policy.object).sets() as usize;
+    let grid = grid_of(policy);
+    let user = classify(&grid, rows, columns);
+    let object = classify(&turned(&grid, rows, columns), columns, rows);
+    if users.len() < rows || objects.len() < columns || table.len() < user.count * object.count {
+        return Err(Refusal::BufferTooShort);
+    }
+    users[..rows].copy_from_slice(&user.labels[..rows]);
+    objects[..columns].copy_from_slice(&object.labels[..columns]);
+    let mut entries = table.iter_mut();
+    for &row in &user.leaders[..user.count] {
+        for (&column, entry) in object.leaders[..object.count].iter().zip(&mut entries) {
+            *entry = grid[row][column];
+        }
+    }
+    Ok(Counts {
+        users: user.count,
+        objects: object.count,
+    })
+}
+
+fn grid_of(policy: &Policy) -> Grid {
+    let evaluator = Evaluator::of(policy);
+    let objects = object_sets(policy);
+    let mut grid = [[0; SETS]; SETS];
+    for (set, row) in (0..Shape::of(&policy.user).sets()).zip(&mut grid) {
+        let user = Held::by_user(policy, set);
+        for (&object, entry) in objects.iter().zip(row) {
+            *entry = entry_of(policy, &evaluator, user, object);
+        }
+    }
+    grid
+}
+
+/// Bit a is set exactly when action a is granted.
+fn entry_of(policy: &Policy, evaluator: &Evaluator, user: Held, object: Held) -> u8 {
+    let mut entry = 0;
+    for rule in policy.rules() {
+        if evaluator.truth(rule.words(), user, object) {
+            entry |= 1 << rule.action;
+        }
+    }
+    entry
+}
+
+fn turned(grid: &Grid, rows: usize, columns: usize) -> Grid {
+    let mut turned = [[0; SETS]; SETS];
+    for (i, row) in grid[..rows].iter().enumerate() {
+        for (j, &entry) in row[..columns].iter().enumerate() {
+            turned[j][i] = entry;
+        }
+    }
+    turned
+}
+
+/// Equal rows share a label; labels count in order of their lowest row.
+fn classify(grid: &Grid, rows: usize, columns: usize) -> Classes {
+    let mut classes = Classes {
+        labels: [0; SETS],
+        leaders: [0; SETS],
+        count: 0,
+    };
+    for (i, row) in grid[..rows].iter().enumerate() {
+        let leaders = &classes.leaders[..classes.count];
+        let earlier = leaders
+            .iter()
+            .position(|&leader| grid[leader][..columns] == row[..columns]);
+        let label = earlier.unwrap_or(classes.count);
+        if label == classes.count {
+            classes.leaders[label] = i;
+            classes.count += 1;
+        }
+        classes.labels[i] = label as u8;
+    }
+    classes
+}
+
+/// An action and an object set that tell two user sets apart, if there are any.
+pub fn apart(policy: &Policy, one: u32, other: u32) -> Result<Option<(u32, u32)>, Refusal> {
+    if !valid(policy) {
+        return Err(Refusal::InvalidState);
+    }
+    let sets = Shape::of(&policy.user).sets();
+    if one >= sets || other >= sets {
+        return Err(Refusal::SetOutOfReach);
+    }
+    let evaluator = Evaluator::of(policy);
+    let (one, other) = (Held::by_user(policy, one), Held::by_user(policy, other));
+    for object in object_sets(policy) {
+        let unlike =
+            entry_of(policy, &evaluator, one, object) ^ entry_of(policy, &evaluator, other, object);
+        if unlike != 0 {
+            return Ok(Some((unlike.trailing_zeros(), object.set)));
+        }
+    }
+    Ok(None)
+}

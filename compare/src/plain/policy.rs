@@ -1,0 +1,87 @@
+//! The policy value with its words as an enum, and the refusals.
+
+use crate::boundary::{Register, SideValue, RULE_PLACES, WORD_PLACES};
+
+/// The most bytes of a text.
+pub const TEXT_BYTES: usize = 8192;
+/// The most values of a side.
+pub const VALUES: usize = 7;
+/// The most sets of a side.
+pub const SETS: usize = 1 << VALUES;
+pub const ACTIONS: u32 = 8;
+pub const USERS: u32 = 32;
+pub const OBJECTS: u32 = 64;
+
+#[derive(Debug, Clone, Copy, Default, PartialEq, Eq)]
+pub enum Word {
+    #[default]
+    True,
+    False,
+    User(u8),
+    Object(u8),
+    Within(u8, u8),
+    Same(u8, u8),
+    Not,
+    And,
+    Or,
+}
+
+#[derive(Debug, Clone, Copy, Default, PartialEq, Eq)]
+pub struct Rule {
+    pub action: u32,
+    pub count: usize,
+    pub words: [Word; WORD_PLACES],
+}
+
+#[derive(Debug, Clone, Copy, Default, PartialEq, Eq)]
+pub struct Rules {
+    pub count: usize,
+    pub entries: [Rule; RULE_PLACES],
+}
+
+#[derive(Debug, Clone, Copy, Default, PartialEq, Eq)]
+pub struct Policy {
+    pub form: u32,
+    pub user: SideValue,
+    pub object: SideValue,
+    pub users: Register,
+    pub objects: Register,
+    pub rules: Rules,
+}
+
+impl Policy {
+    /// The rules in use; only of a policy that check 11 accepts.
+    pub fn rules(&self) -> &[Rule] {
+        &self.rules.entries[..self.rules.count]
+    }
+}
+
+impl Rule {
+    pub fn words(&self) -> &[Word] {
+        &self.words[..self.count]
+    }
+}
+
+#[derive(Debug, Clone, Copy, PartialEq, Eq)]
+pub enum Refusal {
+    TextTooLong = 1,
+    LineFeedMissing,
+    KindNotAllowed,
+    WrongFieldCount,
+    MalformedField,
+    OutOfRange,
+    NotRising,
+    UnequalWidths,
+    UnbalancedFormula,
+    EndMissing,
+    InvalidState,
+    UnknownAction,
+    UnknownSession,
+    UnregisteredUser,
+    UnregisteredObject,
+    SessionOpen,
+    SessionNotOpen,
+    SessionOfAnother,
+    SetOutOfReach,
+    BufferTooShort,
+}

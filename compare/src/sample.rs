@@ -1,0 +1,186 @@
+//! The policies, boards and calls that are measured.
+
+use crate::boundary::{Board, PackedPolicy, Session, SESSIONS};
+use crate::engine::{Archive, Engine};
+use crate::plain::policy::Policy;
+use crate::plain::{self, unpacked};
+use reference::cases::Rng;
+use reference::machine::Call;
+
+/// How many of each thing a policy has.
+#[derive(Clone, Copy)]
+pub struct Size {
+    /// Of each side, all of one attribute, so that each pair of them may be a line of seniority.
+    pub values: u32,
+    pub users: u32,
+    pub objects: u32,
+    pub rules: u32,
+    /// Of each rule; an even number.
+    pub words: u32,
+}
+
+/// From a small policy to one at every limit.
+pub const SIZES: [Size; 3] = [
+    Size {
+        values: 2,
+        users: 2,
+        objects: 4,
+        rules: 2,
+        words: 4,
+    },
+    Size {
+        values: 4,
+        users: 8,
+        objects: 16,
+        rules: 4,
+        words: 16,
+    },
+    Size {
+        values: 7,
+        users: 32,
+        objects: 64,
+        rules: 8,
+        words: 32,
+    },
+];
+
+/// What one size is measured on.
+pub struct Sample {
+    pub size: Size,
+    pub text: Vec<u8>,
+    pub packed: PackedPolicy,
+    pub policy: Policy,
+    /// All sessions are open but the last.
+    pub board: Board,
+    /// A thousand calls from a fresh board, none of them refused.
+    pub calls: Vec<Call>,
+}
+
+impl Sample {
+    pub fn of(size: Size) -> Self {
+        let text = text(size).into_bytes();
+        let packed = Archive.read(&text).policy;
+        let policy = unpacked(&packed);
+        assert!(Archive.valid(&packed), "a sample text is refused");
+        assert_eq!(plain::reader::read(&text), Ok(policy));
+        Sample {
+            size,
+            text,
+            packed,
+            policy,
+            board: board(size, &policy),
+            calls: calls(size, &policy),
+        }
+    }
+}
+
+fn text(size: Size) -> String {
+    let values = size.values;
+    let mut text = format!("policy,1\nuattr,{values}\noattr,{values}\n");
+    for kind in ["usen", "osen"] {
+        for senior in 1..values {
+            for junior in 0..senior {
+                text += &format!("{kind},{senior},{junior}\n");
+            }
+        }
+    }
+    for user in 0..size.users {
+        text += &format!("user,{user},{}\n", (37 * user + 5) % (1 << values));
+    }
+    for object in 0..size.objects {
+        text += &format!("object,{object},{}\n", (29 * object + 3) % (1 << values));
+    }
+    for rule in 0..size.rules {
+        text += &format!("rule,{rule},{}\n", formula(size, rule));
+    }
+    text + "end\n"
+}
+
+/// Leaves two by two, each two joined; then all of these joined, and `n`.
+fn formula(size: Size, rule: u32) -> String {
+    let leaf = |k: u32| match (rule + k) % 8 {
+        0 | 3 | 6 => format!("u{}", (rule + k / 2) % size.values),
+        1 | 4 | 7 => format!("o{}", (rule + k / 3) % size.values),
+        2 => "d00".to_string(),
+        _ => "q00".to_string(),
+    };
+    let join = |k: u32| ["a", "r"][(rule + k) as usize % 2].to_string();
+    let leaves = size.words / 2;
+    let mut words = Vec::new();
+    for k in 0..leaves {
+        words.push(leaf(k));
+        if k % 2 == 1 {
+            words.push(join(k / 2));
+        }
+    }
+    // A last leaf without another stands by itself.
+    words.extend((1..leaves.div_ceil(2)).map(|k| join(k + 1)));
+    words.push("n".to_string());
+    words.join(",")
+}
+
+/// The user that a session is opened for, and the user's assigned set.
+fn owner(size: Size, policy: &Policy, session: u32) -> (u32, u32) {
+    let user = session % size.users;
+    (user, policy.users.entries[user as usize].set)
+}
+
+fn board(size: Size, policy: &Policy) -> Board {
+    let mut board = Board::default();
+    for session in 0..SESSIONS - 1 {
+        let (user, held) = owner(size, policy, session as u32);
+        board.sessions[session] = Session {
+            live: true,
+            user,
+            held,
+        };
+    }
+    board
+}
+
+/// All sessions are opened and then used, nearly half of the calls requests;
+/// each is closed and opened again now and then.
+fn calls(size: Size, policy: &Policy) -> Vec<Call> {
+    let open = |session: u32| {
+        let (user, set) = owner(size, policy, session);
+        Call::Open { user, session, set }
+    };
+    let mut rng = Rng::new(1, 0);
+    let mut calls: Vec<Call> = (0..SESSIONS as u32).map(open).collect();
+    while calls.len() < 1000 {
+        let session = rng.below(SESSIONS as u32);
+        let (user, assigned) = owner(size, policy, session);
+        let set = assigned & rng.below(1 << size.values);
+        match rng.below(10) {
+            0 => calls.extend([Call::Close { user, session }, open(session)]),
+            1 | 2 => calls.push(Call::Add { user, session, set }),
+            3 | 4 => calls.push(Call::Drop { user, session, set }),
+            _ => calls.push(Call::Request {
+                session,
+                action: rng.below(size.rules),
+                object: rng.below(size.objects),
+            }),
+        }
+    }
+    calls.truncate(1000);
+    calls
+}
+
+#[cfg(test)]
+mod tests {
+    use super::*;
+    use reference::machine::{run, Answer};
+
+    #[test]
+    fn no_call_of_a_sample_is_refused() {
+        for size in SIZES {
+            let sample = Sample::of(size);
+            let policy = reference::text::read(&sample.text).expect("accepted");
+            let (answers, _) = run(&policy, &sample.calls);
+            let refused = answers
+                .iter()
+                .any(|answer| matches!(answer, Answer::Refused(_)));
+            assert!(!refused && answers.len() == 1000);
+        }
+    }
+}

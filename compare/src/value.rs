@@ -1,0 +1,194 @@
+//! Policy values and boards, between the header's arrays and the second
+//! implementation's lists.
+
+use crate::boundary::*;
+use reference::machine::Sessions;
+use reference::policy::{Policy, Rule, Word};
+use reference::text::{read, write};
+
+/// The value that reading yields for a policy.
+pub fn packed(policy: &Policy) -> PackedPolicy {
+    PackedPolicy {
+        form: 1,
+        user: side(&policy.user_widths, &policy.user_seniority),
+        object: side(&policy.object_widths, &policy.object_seniority),
+        users: register(&policy.users),
+        objects: register(&policy.objects),
+        rules: rules(&policy.rules),
+    }
+}
+
+fn side(widths: &[u32], lines: &[(u32, u32)]) -> SideValue {
+    let mut side = SideValue {
+        attributes: widths.len(),
+        lines: lines.len(),
+        ..SideValue::default()
+    };
+    side.widths[..widths.len()].copy_from_slice(widths);
+    for (direct, &(senior, junior)) in side.seniority.iter_mut().zip(lines) {
+        *direct = Direct { senior, junior };
+    }
+    side
+}
+
+fn register(entries: &[(u32, u32)]) -> Register {
+    let mut register = Register {
+        count: entries.len(),
+        ..Register::default()
+    };
+    for (entry, &(number, set)) in register.entries.iter_mut().zip(entries) {
+        *entry = Entry { number, set };
+    }
+    register
+}
+
+fn rules(rules: &[Rule]) -> PackedRules {
+    let mut value = PackedRules {
+        count: rules.len(),
+        ..PackedRules::default()
+    };
+    for (entry, rule) in value.entries.iter_mut().zip(rules) {
+        entry.action = rule.action;
+        entry.count = rule.words.len();
+        for (word, from) in entry.words.iter_mut().zip(&rule.words) {
+            *word = packed_word(from);
+        }
+    }
+    value
+}
+
+/// A word as kind × 65536 + first × 256 + second.
+pub fn packed_word(word: &Word) -> u32 {
+    let (kind, first, second) = match *word {
+        Word::True => (0, 0, 0),
+        Word::False => (1, 0, 0),
+        Word::Not => (2, 0, 0),
+        Word::And => (3, 0, 0),
+        Word::Or => (4, 0, 0),
+        Word::User(value) => (5, value, 0),
+        Word::Object(value) => (6, value, 0),
+        Word::Within(i, j) => (7, i, j),
+        Word::Same(i, j) => (8, i, j),
+    };
+    kind * 65536 + first * 256 + second
+}
+
+fn word(packed: u32) -> Option<Word> {
+    let (kind, first, second) = (packed / 65536, packed / 256 % 256, packed % 256);
+    let word = match kind {
+        0 => Word::True,
+        1 => Word::False,
+        2 => Word::Not,
+        3 => Word::And,
+        4 => Word::Or,
+        5 => Word::User(first),
+        6 => Word::Object(first),
+        7 => Word::Within(first, second),
+        8 => Word::Same(first, second),
+        _ => return None,
+    };
+    (packed_word(&word) == packed).then_some(word)
+}
+
+/// The policy that a value is yielded for, if reading some text yields it:
+/// the text can only be the one that the value's own lists are written as.
+pub fn yielded(value: &PackedPolicy) -> Option<Policy> {
+    let policy = read(&write(&lists(value)?)).ok()?;
+    (packed(&policy) == *value).then_some(policy)
+}
+
+/// The lists up to the counts; none where a count is past its array or a word is none.
+fn lists(value: &PackedPolicy) -> Option<Policy> {
+    let rules = value.rules.entries.get(..value.rules.count)?;
+    Some(Policy {
+        user_widths: value.user.widths.get(..value.user.attributes)?.to_vec(),
+        object_widths: value.object.widths.get(..value.object.attributes)?.to_vec(),
+        user_seniority: lines(&value.user)?,
+        object_seniority: lines(&value.object)?,
+        users: entries(&value.users)?,
+        objects: entries(&value.objects)?,
+        rules: rules.iter().map(rule).collect::<Option<_>>()?,
+    })
+}
+
+fn lines(side: &SideValue) -> Option<Vec<(u32, u32)>> {
+    let lines = side.seniority.get(..side.lines)?;
+    Some(
+        lines
+            .iter()
+            .map(|line| (line.senior, line.junior))
+            .collect(),
+    )
+}
+
+fn entries(register: &Register) -> Option<Vec<(u32, u32)>> {
+    let entries = register.entries.get(..register.count)?;
+    Some(
+        entries
+            .iter()
+            .map(|entry| (entry.number, entry.set))
+            .collect(),
+    )
+}
+
+fn rule(rule: &PackedRule) -> Option<Rule> {
+    let words = rule.words.get(..rule.count)?;
+    Some(Rule {
+        action: rule.action,
+        words: words
+            .iter()
+            .map(|&packed| word(packed))
+            .collect::<Option<_>>()?,
+    })
+}
+
+/// The sessions that a board holds.
+pub fn sessions(board: &Board) -> Sessions {
+    (0..)
+        .zip(&board.sessions)
+        .filter(|(_, entry)| entry.live)
+        .map(|(number, entry)| (number, (entry.user, entry.held)))
+        .collect()
+}
+
+#[cfg(test)]
+mod tests {
+    use super::*;
+
+    fn value(text: &str) -> PackedPolicy {
+        packed(&read(text.as_bytes()).expect("accepted"))
+    }
+
+    const TEXT: &str = "policy,1\nuattr,2\noattr,1\nusen,1,0\nuser,0,2\nobject,0,1\n\
+        rule,0,u0,o0,a\nrule,3,u1,n\nend\n";
+
+    #[test]
+    fn a_read_value_is_yielded() {
+        let value = value(TEXT);
+        assert_eq!(
+            value.rules.entries[0].words[..4],
+            [0x50000, 0x60000, 0x30000, 0]
+        );
+        assert_eq!(yielded(&value), read(TEXT.as_bytes()).ok());
+    }
+
+    #[test]
+    fn the_blank_value_and_leftovers_are_not() {
+        assert_eq!(yielded(&PackedPolicy::default()), None);
+        let mut leftover = value(TEXT);
+        leftover.rules.entries[1].words[2] = 0x10000;
+        assert_eq!(yielded(&leftover), None);
+        let mut count = value(TEXT);
+        count.users.count = usize::MAX;
+        assert_eq!(yielded(&count), None);
+    }
+
+    #[test]
+    fn only_the_packed_forms_are_words() {
+        let words = (0..0xA_0000)
+            .filter(|&packed| word(packed).is_some())
+            .count();
+        assert_eq!(words, 5 + 2 * 256 + 2 * 65536);
+        assert_eq!(word(u32::MAX), None);
+    }
+}

@@ -1,0 +1,67 @@
+//! The engine gives the answers that are due, and every answer comes up.
+
+use helvemoik_compare::comparison::{compare, Coverage, Plan};
+use helvemoik_compare::engine::{Archive, Engine};
+use helvemoik_compare::plain::Plain;
+
+/// The answers of each kind of call: 0 and above as the header has them, 11 to 20 refused.
+const ANSWERS: [(&str, &[u32]); 13] = [
+    ("valid", &[0, 1]),
+    ("write", &[0, 11, 20]),
+    ("decide", &[0, 1, 11, 12, 19]),
+    ("list", &[0, 11, 12, 20]),
+    ("decide by tuples", &[0, 1, 11, 19, 20]),
+    ("compile", &[0, 11, 20]),
+    ("apart", &[0, 1, 11, 19]),
+    ("fresh", &[0]),
+    ("open", &[2, 11, 13, 14, 16, 19]),
+    ("add", &[2, 11, 13, 14, 17, 18, 19]),
+    ("drop", &[2, 11, 13, 14, 17, 18, 19]),
+    ("close", &[2, 11, 13, 14, 17, 18]),
+    ("request", &[0, 1, 11, 12, 13, 15, 17, 20]),
+];
+
+fn covered(engine: &dyn Engine, plan: Plan) -> Coverage {
+    let coverage = compare(engine, plan).unwrap_or_else(|difference| panic!("{difference}"));
+    println!("{coverage}");
+    assert!(coverage.texts() >= plan.texts && coverage.calls() >= plan.calls);
+    assert!(coverage.readings().into_iter().eq(0..=10));
+    for (kind, answers) in ANSWERS {
+        assert_eq!(coverage.answers(kind), answers, "{kind}");
+    }
+    coverage
+}
+
+#[test]
+fn the_engine_answers_as_is_due() {
+    let plan = Plan {
+        seed: 1,
+        texts: 2_000,
+        calls: 30_000,
+    };
+    covered(&Archive, plan);
+}
+
+/// What is measured beside the engine does the same job.
+#[test]
+fn plain_rust_answers_as_is_due() {
+    let plan = Plan {
+        seed: 2,
+        texts: 1_000,
+        calls: 15_000,
+    };
+    covered(&Plain, plan);
+}
+
+#[test]
+fn equal_plans_make_equal_cases() {
+    let plan = Plan {
+        seed: 3,
+        texts: 100,
+        calls: 1_000,
+    };
+    assert_eq!(
+        compare(&Plain, plan).expect("no difference"),
+        compare(&Plain, plan).expect("no difference")
+    );
+}
