@@ -1,6 +1,6 @@
 //! The plain calls with the header's types, so that they too can be compared.
 
-use super::policy::{Policy, Refusal, Rule, Word};
+use super::policy::{Policy, Refusal, Word};
 use super::{board, checks, formula, labels, reader, tuples, writer};
 use crate::boundary::*;
 use crate::engine::{Engine, Labels};
@@ -20,11 +20,14 @@ pub fn unpacked(packed: &PackedPolicy) -> Policy {
     };
     policy.rules.count = packed.rules.count;
     for (rule, from) in policy.rules.entries.iter_mut().zip(&packed.rules.entries) {
-        *rule = Rule {
-            action: from.action,
-            count: from.count,
-            words: from.words.map(word_of),
-        };
+        rule.action = from.action;
+        rule.count = from.count;
+        for (word, &number) in rule.words.iter_mut().zip(&from.words) {
+            // The others are blank already.
+            if number != 0 {
+                *word = word_of(number);
+            }
+        }
     }
     policy
 }
