@@ -5,6 +5,7 @@ use text::parts;
 
 mod cursor;
 mod decisions;
+mod engine;
 mod labelling;
 mod outcome;
 mod play;
@@ -65,7 +66,8 @@ fn play_line(
     let outcome = turn.outcome;
     let after = turn.state;
     if !agrees(outcome) {
-        tally::print_difference(path, number, line, outcome);
+        tally::print_line(path, after.case, number, line);
+        tally::print_outcome(outcome);
         return Progress {
             good: false,
             state: after,
@@ -90,7 +92,7 @@ fn play_lines(
     objects: &mut [u8],
     table: &mut [u8],
 ) -> Run {
-    let state = play::start();
+    let state = play::start(0);
     let mut done = Progress {
         good: true,
         state,
@@ -137,7 +139,16 @@ fn play_files() -> Run {
     let mut tally = tally::none();
     let mut i = 0u8;
     while i < FILES {
-        let path = [b'c', b'a', b's', b'e', b's', b'-', b'0' + i / 10, b'0' + i % 10];
+        let path = [
+            b'c',
+            b'a',
+            b's',
+            b'e',
+            b's',
+            b'-',
+            b'0' + i / 10,
+            b'0' + i % 10,
+        ];
         let fd = os::open_read(&path);
         if fd < 0 {
             return Run { good: true, tally };
