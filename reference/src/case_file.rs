@@ -17,7 +17,7 @@
 //! W,room,answer               writing into a buffer of room bytes: the text
 //! L,users,objects,table,answer,NU,NO
 //!                             compiling into buffers of these lengths
-//! u,label,..                  the user labels stored by the last L,
+//! u,label,..                  all user labels stored by the last L,
 //! o,label,..                  the object labels
 //! g,byte,..                   and the table
 //! T,action,room,answer,count,first,last,..
@@ -41,7 +41,8 @@
 //!
 //! An answer is 0 done, 1 granted, 2 denied, 3 alike, 4 told apart, or the
 //! refusal, 11 to 20. A refused call leaves its buffers as they were, and one
-//! that is done leaves what lies past its result.
+//! that is done leaves what lies past its result. Where L or T is refused, its
+//! NU, NO or count is 0 and says nothing.
 
 use crate::cases::{self, Rng};
 use crate::formula::decide;
@@ -174,6 +175,8 @@ fn label_lines(out: &mut String, rng: &mut Rng, policy: &Policy, labelling: &Lab
         1 => line(out, format!("L,{u},{},{t},20,0,0", short(rng, objects))),
         _ => line(out, format!("L,{u},{o},{},20,0,0", short(rng, places))),
     }
+    // Nothing is stored.
+    *out += "u\no\ng\n";
     let [u, o, t] = rooms(rng);
     let (nu, no) = (labelling.user_count, labelling.object_count);
     line(out, format!("L,{u},{o},{t},0,{nu},{no}"));

@@ -1,13 +1,12 @@
 // Decisions: by the formula and by tuples; listings; Apart.
 use crate::cursor;
+use crate::engine;
 use crate::outcome;
 use crate::outcome::Outcome;
-use formula::Decision;
 use labels::Apartness;
 use labels::Witness;
 use policy::refusal::Refusal;
 use policy::refusal::number_of;
-use policy::value::PolicyValue;
 use tuples::Listing;
 
 // The most tuples, and what stands in a listing's buffer before a call: no tuple is so large.
@@ -16,14 +15,13 @@ const PAIRS: usize = 16384;
 const BLANK: u16 = 65535;
 
 // `F,action,user set,object set,answer`.
-pub fn by_formula(policy: PolicyValue, line: &[u8]) -> Outcome {
+pub fn by_formula(line: &[u8], text: &[u8]) -> Outcome {
     let n = cursor::numbers(line, 4);
     if !n.good {
         return Outcome::Malformed;
     }
     let a = n.values;
-    let decision = formula::decide(policy, a[0], a[1], a[2]);
-    outcome::compared(outcome::of_decision(decision), a[3])
+    outcome::compared(engine::decide(text, a[0], a[1], a[2]), a[3])
 }
 
 // How many tuples are listed.
@@ -34,45 +32,38 @@ fn count_of(listing: Listing) -> usize {
     }
 }
 
-// Decides by the first n entries of a buffer.
-fn decide_by(
-    policy: PolicyValue,
-    user: u32,
-    object: u32,
-    buffer: &[u16],
-    n: usize,
-    count: usize,
-) -> Decision {
+// The number of the answer of deciding by the first n entries of a buffer.
+fn decide_by(text: &[u8], user: u32, object: u32, buffer: &[u16], n: usize, count: usize) -> u32 {
     if buffer.len() < n {
-        return Decision::Refused(Refusal::TextTooLong);
+        return outcome::DONE;
     }
-    tuples::decide(policy, user, object, &buffer[..n], count)
+    engine::decide_by(text, user, object, &buffer[..n], count)
 }
 
 // `B,action,user set,object set,count,answer`: the listing handed in is exactly the action's.
-pub fn by_tuples(policy: PolicyValue, line: &[u8]) -> Outcome {
+pub fn by_tuples(line: &[u8], text: &[u8]) -> Outcome {
     let n = cursor::numbers(line, 5);
     if !n.good {
         return Outcome::Malformed;
     }
     let a = n.values;
     let mut buffer = [BLANK; PAIRS];
-    let listing = tuples::list(policy, a[0], &mut buffer);
-    let decision = decide_by(
-        policy,
+    let listing = engine::list(text, a[0], &mut buffer);
+    let answer = decide_by(
+        text,
         a[1],
         a[2],
         &buffer,
         count_of(listing),
         cursor::size(a[3]),
     );
-    outcome::compared(outcome::of_decision(decision), a[4])
+    outcome::compared(answer, a[4])
 }
 
 // Whether what tells two user sets apart does: one is granted and the other denied.
-fn tells(policy: PolicyValue, witness: Witness, one: u32, other: u32) -> bool {
-    let x = outcome::of_decision(formula::decide(policy, witness.action, one, witness.object));
-    let y = outcome::of_decision(formula::decide(policy, witness.action, other, witness.object));
+fn tells(text: &[u8], witness: Witness, one: u32, other: u32) -> bool {
+    let x = engine::decide(text, witness.action, one, witness.object);
+    let y = engine::decide(text, witness.action, other, witness.object);
     if x == outcome::GRANTED {
         return y == outcome::DENIED;
     }
@@ -83,15 +74,15 @@ fn tells(policy: PolicyValue, witness: Witness, one: u32, other: u32) -> bool {
 }
 
 // `P,user set,user set,answer`.
-pub fn apart(policy: PolicyValue, line: &[u8]) -> Outcome {
+pub fn apart(line: &[u8], text: &[u8]) -> Outcome {
     let n = cursor::numbers(line, 3);
     if !n.good {
         return Outcome::Malformed;
     }
     let a = n.values;
-    let answer = labels::apart::apart(policy, a[0], a[1]);
+    let answer = engine::apart(text, a[0], a[1]);
     if let Apartness::Apart(witness) = answer {
-        if !tells(policy, witness, a[0], a[1]) {
+        if !tells(text, witness, a[0], a[1]) {
             return Outcome::Answers(outcome::APART);
         }
     }
@@ -151,11 +142,11 @@ fn unlike(one: &[u16], other: &[u16]) -> usize {
 }
 
 // Lists into the first entries of a buffer.
-fn list_into(policy: PolicyValue, action: u32, buffer: &mut [u16], room: usize) -> Listing {
+fn list_into(text: &[u8], action: u32, buffer: &mut [u16], room: usize) -> Listing {
     if buffer.len() < room {
         return Listing::Refused(Refusal::TextTooLong);
     }
-    tuples::list(policy, action, &mut buffer[..room])
+    engine::list(text, action, &mut buffer[..room])
 }
 
 // Whether a listing's answer and its count are the stored ones.
@@ -179,7 +170,7 @@ fn answer_of(listing: Listing) -> u32 {
 }
 
 // `T,action,room,answer,count` and the tuples as runs: lists into so many entries of a blank buffer.
-pub fn listed_so(policy: PolicyValue, line: &[u8]) -> Outcome {
+pub fn listed_so(line: &[u8], text: &[u8]) -> Outcome {
     let n = cursor::numbers(line, 4);
     if !n.good {
         return Outcome::Malformed;
@@ -190,7 +181,7 @@ pub fn listed_so(policy: PolicyValue, line: &[u8]) -> Outcome {
         return Outcome::Malformed;
     }
     let mut buffer = [BLANK; PAIRS];
-    let listing = list_into(policy, a[0], &mut buffer, cursor::size(a[1]));
+    let listing = list_into(text, a[0], &mut buffer, cursor::size(a[1]));
     if !counted_so(listing, a[2], a[3]) {
         return Outcome::Answers(answer_of(listing));
     }

@@ -1,12 +1,12 @@
 // Labels: compiling into lent buffers, and what stands in them afterwards.
 use crate::cursor;
+use crate::engine;
 use crate::outcome;
 use crate::outcome::Outcome;
 use labels::Compiled;
 use labels::Counts;
 use policy::refusal::Refusal;
 use policy::refusal::number_of;
-use policy::value::PolicyValue;
 
 // What stands in a buffer before a call.
 const BLANK: u8 = 170;
@@ -42,7 +42,7 @@ fn malformed() -> Labelled {
 
 // Compiles into the first bytes of three buffers.
 fn compile_into(
-    policy: PolicyValue,
+    text: &[u8],
     users: &mut [u8],
     objects: &mut [u8],
     table: &mut [u8],
@@ -59,7 +59,7 @@ fn compile_into(
     if table.len() < t {
         return Compiled::Refused(Refusal::TextTooLong);
     }
-    labels::compiler::compile(policy, &mut users[..u], &mut objects[..o], &mut table[..t])
+    engine::compile(text, &mut users[..u], &mut objects[..o], &mut table[..t])
 }
 
 // Whether an answer and the numbers of labels are the stored ones.
@@ -85,8 +85,8 @@ fn compiled_so(compiled: Compiled, answer: u32, users: u32, objects: u32) -> Lab
 
 // `L,users,objects,table,answer,NU,NO`: compiles into blank buffers of these lengths.
 pub fn compile(
-    policy: PolicyValue,
     line: &[u8],
+    text: &[u8],
     users: &mut [u8],
     objects: &mut [u8],
     table: &mut [u8],
@@ -100,7 +100,7 @@ pub fn compile(
     blank(objects);
     blank(table);
     let compiled = compile_into(
-        policy,
+        text,
         users,
         objects,
         table,

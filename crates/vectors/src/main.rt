@@ -5,6 +5,7 @@ use text::parts;
 
 mod cursor;
 mod decisions;
+mod engine;
 mod labelling;
 mod outcome;
 mod play;
@@ -65,7 +66,8 @@ fn play_line(
     let outcome = turn.outcome;
     let after = turn.state;
     if !agrees(outcome) {
-        tally::print_difference(path, number, line, outcome);
+        tally::print_line(path, after.case, number, line);
+        tally::print_outcome(outcome);
         return Progress {
             good: false,
             state: after,
@@ -90,7 +92,7 @@ fn play_lines(
     objects: &mut [u8],
     table: &mut [u8],
 ) -> Run {
-    let state = play::start();
+    let state = play::start(0);
     let mut done = Progress {
         good: true,
         state,

@@ -8,13 +8,11 @@ use crate::sessions::Played;
 use crate::texts;
 use board::Board;
 use labels::Counts;
-use policy::value::PolicyValue;
 
-// What lines hand on to the lines after them, beside the buffers: the length of the text, the policy that it is read as, NU and NO, and the
-// board.
+// What lines hand on to the lines after them, beside the buffers: the case's number, the length of its text, NU and NO, and the board.
 pub struct State {
+    pub case: u32,
     pub length: usize,
-    pub policy: PolicyValue,
     pub counts: Counts,
     pub board: Board,
 }
@@ -25,25 +23,33 @@ pub struct Turn {
     pub state: State,
 }
 
-// The state where a case begins: no text, and the policy value of a refused one.
-pub fn start() -> State {
-    let reading = reader::read(b"");
-    let policy = reading.policy;
+// The state where a case begins.
+pub fn start(case: u32) -> State {
     let counts = labelling::no_counts();
     let board = board::fresh();
     State {
+        case,
         length: 0,
-        policy,
         counts,
         board,
     }
 }
 
-fn begin() -> Turn {
-    let state = start();
-    Turn {
-        outcome: Outcome::Agrees,
-        state,
+// `C,case`.
+fn begin(line: &[u8]) -> Turn {
+    let n = cursor::numbers(line, 1);
+    let a = n.values;
+    let state = start(a[0]);
+    if n.good {
+        Turn {
+            outcome: Outcome::Agrees,
+            state,
+        }
+    } else {
+        Turn {
+            outcome: Outcome::Malformed,
+            state,
+        }
     }
 }
 
@@ -57,29 +63,17 @@ fn text_line(tag: u8, line: &[u8], state: State, text: &mut [u8]) -> Turn {
     }
 }
 
-// `R` and `Y`: what the text is read as.
-fn reading_line(tag: u8, line: &[u8], state: State, text: &[u8]) -> Turn {
-    let read = texts::read(tag, line, cursor::front(text, state.length));
-    let outcome = read.outcome;
-    let policy = read.policy;
-    let mut after = state;
-    after.policy = policy;
-    Turn {
-        outcome,
-        state: after,
-    }
-}
-
 // `L`: compiling.
 fn label_line(
     line: &[u8],
     state: State,
+    text: &[u8],
     users: &mut [u8],
     objects: &mut [u8],
     table: &mut [u8],
 ) -> Turn {
-    let policy = state.policy;
-    let labelled = labelling::compile(policy, line, users, objects, table);
+    let policy_text = cursor::front(text, state.length);
+    let labelled = labelling::compile(line, policy_text, users, objects, table);
     let outcome = labelled.outcome;
     let counts = labelled.counts;
     let mut after = state;
@@ -90,27 +84,30 @@ fn label_line(
     }
 }
 
-// `W`, `T`, `F`, `B` and `P`: what the policy value says.
-fn value_line(tag: u8, line: &[u8], state: State, text: &[u8]) -> Outcome {
-    let policy = state.policy;
+// `R`, `Y`, `W`, `T`, `F`, `B` and `P`: what the text alone says.
+fn value_line(tag: u8, line: &[u8], whole: &[u8], length: usize) -> Outcome {
+    let text = cursor::front(whole, length);
     match tag {
-        b'W' => texts::written_so(policy, line, cursor::front(text, state.length)),
-        b'T' => decisions::listed_so(policy, line),
-        b'F' => decisions::by_formula(policy, line),
-        b'B' => decisions::by_tuples(policy, line),
-        _ => decisions::apart(policy, line),
+        b'W' => texts::written_so(line, text),
+        b'T' => decisions::listed_so(line, text),
+        b'F' => decisions::by_formula(line, text),
+        b'B' => decisions::by_tuples(line, text),
+        b'P' => decisions::apart(line, text),
+        _ => texts::read(tag, line, text),
     }
 }
 
+// `S`, `O`, `A`, `D`, `K`, `Q`, `q` and `N`: the board.
 fn played(
     tag: u8,
     line: &[u8],
     state: State,
+    whole: &[u8],
     users: &[u8],
     objects: &[u8],
     table: &[u8],
 ) -> Played {
-    let policy = state.policy;
+    let text = cursor::front(whole, state.length);
     let counts = state.counts;
     let board = state.board;
     match tag {
@@ -125,23 +122,24 @@ fn played(
             let outcome = sessions::stands_so(board, line);
             Played { outcome, board }
         }
-        b'K' => sessions::close(board, policy, line),
-        b'Q' => sessions::request(board, policy, counts, users, objects, table, line),
-        b'q' => sessions::request_in(board, policy, counts, users, objects, table, line),
-        _ => sessions::change(tag, board, policy, line),
+        b'K' => sessions::close(line, text, board),
+        b'Q' => sessions::request(line, text, board, counts, users, objects, table),
+        b'q' => sessions::request_in(line, text, board, counts, users, objects, table),
+        _ => sessions::change(tag, line, text, board),
     }
 }
 
-// `S`, `O`, `A`, `D`, `K`, `Q`, `q` and `N`: the board.
+// The turn of such a line.
 fn board_line(
     tag: u8,
     line: &[u8],
     state: State,
+    text: &[u8],
     users: &[u8],
     objects: &[u8],
     table: &[u8],
 ) -> Turn {
-    let after_call = played(tag, line, state, users, objects, table);
+    let after_call = played(tag, line, state, text, users, objects, table);
     let outcome = after_call.outcome;
     let board = after_call.board;
     let mut after = state;
@@ -149,6 +147,15 @@ fn board_line(
     Turn {
         outcome,
         state: after,
+    }
+}
+
+// `u`, `o` and `g`: the label buffers.
+fn buffer_line(tag: u8, line: &[u8], users: &[u8], objects: &[u8], table: &[u8]) -> Outcome {
+    match tag {
+        b'u' => labelling::holds(line, users),
+        b'o' => labelling::holds(line, objects),
+        _ => labelling::holds(line, table),
     }
 }
 
@@ -163,30 +170,22 @@ pub fn line(
     table: &mut [u8],
 ) -> Turn {
     match tag {
-        b'C' => begin(),
+        b'C' => begin(line),
         b'=' | b'+' => text_line(tag, line, state, text),
-        b'R' | b'Y' => reading_line(tag, line, state, text),
-        b'L' => label_line(line, state, users, objects, table),
-        b'u' => Turn {
-            outcome: labelling::holds(line, users),
+        b'L' => label_line(line, state, text, users, objects, table),
+        b'u' | b'o' | b'g' => Turn {
+            outcome: buffer_line(tag, line, users, objects, table),
             state,
         },
-        b'o' => Turn {
-            outcome: labelling::holds(line, objects),
-            state,
-        },
-        b'g' => Turn {
-            outcome: labelling::holds(line, table),
-            state,
-        },
-        b'W' | b'T' | b'F' | b'B' | b'P' => Turn {
-            outcome: value_line(tag, line, state, text),
+        b'R' | b'Y' | b'W' | b'T' | b'F' | b'B' | b'P' => Turn {
+            outcome: value_line(tag, line, text, state.length),
             state,
         },
         b'S' | b'O' | b'A' | b'D' | b'K' | b'Q' | b'q' | b'N' => board_line(
             tag,
             line,
             state,
+            text,
             users,
             objects,
             table,

@@ -1,14 +1,12 @@
 // Sessions: calls on a board, and the sessions that it holds after them.
 use crate::cursor;
+use crate::engine;
 use crate::outcome;
 use crate::outcome::Outcome;
-use board::Answer;
 use board::Board;
 use board::Session;
 use board::Step;
 use labels::Counts;
-use policy::refusal::Refusal;
-use policy::value::PolicyValue;
 
 // The sessions of a board.
 const SESSIONS: usize = 32;
@@ -35,69 +33,59 @@ fn answered(step: Step, stored: u32) -> Played {
 }
 
 // `O`, `A` or `D,user,session,set,answer`: open, add, drop.
-pub fn change(tag: u8, board: Board, policy: PolicyValue, line: &[u8]) -> Played {
+pub fn change(tag: u8, line: &[u8], text: &[u8], board: Board) -> Played {
     let n = cursor::numbers(line, 4);
     if !n.good {
         return malformed(board);
     }
     let a = n.values;
     if tag == b'O' {
-        return answered(board::open(board, policy, a[0], a[1], a[2]), a[3]);
+        return answered(engine::open(text, board, a[0], a[1], a[2]), a[3]);
     }
     if tag == b'A' {
-        return answered(board::add(board, policy, a[0], a[1], a[2]), a[3]);
+        return answered(engine::add(text, board, a[0], a[1], a[2]), a[3]);
     }
-    answered(board::drop(board, policy, a[0], a[1], a[2]), a[3])
+    answered(engine::drop(text, board, a[0], a[1], a[2]), a[3])
 }
 
 // `K,user,session,answer`: close.
-pub fn close(board: Board, policy: PolicyValue, line: &[u8]) -> Played {
+pub fn close(line: &[u8], text: &[u8], board: Board) -> Played {
     let n = cursor::numbers(line, 3);
     if !n.good {
         return malformed(board);
     }
     let a = n.values;
-    answered(board::close(board, policy, a[0], a[1]), a[2])
+    answered(engine::close(text, board, a[0], a[1]), a[2])
 }
 
 // `Q,session,action,object,answer`: a request, with the whole buffers.
 pub fn request(
+    line: &[u8],
+    text: &[u8],
     board: Board,
-    policy: PolicyValue,
     counts: Counts,
     users: &[u8],
     objects: &[u8],
     table: &[u8],
-    line: &[u8],
 ) -> Played {
     let n = cursor::numbers(line, 4);
     if !n.good {
         return malformed(board);
     }
     let a = n.values;
-    let step = board::request(
-        board,
-        policy,
-        counts,
-        users,
-        objects,
-        table,
-        a[0],
-        a[1],
-        a[2],
-    );
+    let step = engine::request(text, board, counts, users, objects, table, a[0], a[1], a[2]);
     answered(step, a[3])
 }
 
 // `q,session,action,object,users,objects,table,answer`: a request with only so many bytes of each buffer.
 pub fn request_in(
+    line: &[u8],
+    text: &[u8],
     board: Board,
-    policy: PolicyValue,
     counts: Counts,
     users: &[u8],
     objects: &[u8],
     table: &[u8],
-    line: &[u8],
 ) -> Played {
     let n = cursor::numbers(line, 7);
     if !n.good {
@@ -107,7 +95,7 @@ pub fn request_in(
     let u = cursor::front(users, cursor::size(a[3]));
     let o = cursor::front(objects, cursor::size(a[4]));
     let t = cursor::front(table, cursor::size(a[5]));
-    let step = board::request(board, policy, counts, u, o, t, a[0], a[1], a[2]);
+    let step = engine::request(text, board, counts, u, o, t, a[0], a[1], a[2]);
     answered(step, a[6])
 }
 

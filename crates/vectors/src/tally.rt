@@ -50,29 +50,49 @@ fn print(what: &[u8], n: u32) {
     io::write_all(STDOUT_FILENO, b"\n");
 }
 
-pub fn print_tally(tally: Tally) {
-    let counts = tally.counts;
+fn print_texts(counts: [u32; KINDS]) {
     print(b"texts refused alike: ", counts[0]);
     print(b"texts accepted alike: ", counts[1]);
     print(b"writings alike: ", counts[2]);
+}
+
+fn print_labels(counts: [u32; KINDS]) {
     print(b"compilations alike: ", counts[3]);
     print(b"label buffers and tables alike: ", counts[4]);
     print(b"listings alike: ", counts[5]);
+}
+
+fn print_decisions(counts: [u32; KINDS]) {
     print(b"decisions by formula alike: ", counts[6]);
     print(b"decisions by tuples alike: ", counts[7]);
     print(b"answers of Apart alike: ", counts[8]);
+}
+
+fn print_sessions(counts: [u32; KINDS]) {
     print(b"session calls alike: ", counts[9]);
     print(b"requests alike: ", counts[10]);
     print(b"boards alike: ", counts[11]);
 }
 
-// Says which line of which file differs, what stands there, and what the engine has instead.
-pub fn print_difference(path: &[u8], number: u32, line: &[u8], outcome: Outcome) {
+pub fn print_tally(tally: Tally) {
+    let counts = tally.counts;
+    print_texts(counts);
+    print_labels(counts);
+    print_decisions(counts);
+    print_sessions(counts);
+}
+
+// Says which line of which case and file differs, and what stands there.
+pub fn print_line(path: &[u8], case: u32, number: u32, line: &[u8]) {
+    print(b"differs: case ", case);
     io::write_all(STDOUT_FILENO, path);
-    print(b" differs at line ", number);
-    io::write_all(STDOUT_FILENO, b"stored: ");
+    print(b" line ", number);
     io::write_all(STDOUT_FILENO, line);
     io::write_all(STDOUT_FILENO, b"\n");
+}
+
+// Says what the engine has instead.
+pub fn print_outcome(outcome: Outcome) {
     match outcome {
         Outcome::Agrees => {}
         Outcome::Answers(n) => print(b"the engine answers ", n),

@@ -2,12 +2,12 @@
 ghost use Prim.Native.Nat.{_<_};
 ghost use lib.ListN.{length};
 use crate::cursor;
+use crate::engine;
 use crate::outcome;
 use crate::outcome::Outcome;
 use policy::TEXT_BYTES;
 use policy::refusal::Refusal;
 use policy::refusal::number_of;
-use policy::value::PolicyValue;
 use policy::value::Verdict;
 use writer::Written;
 
@@ -97,12 +97,6 @@ pub fn append(tag: u8, line: &[u8], text: &mut [u8], length: usize) -> usize {
     n + 1
 }
 
-// What a text is read as, and how that compares with the line.
-pub struct TextRead {
-    pub outcome: Outcome,
-    pub policy: PolicyValue,
-}
-
 // Whether a refusal and its line are the stored ones.
 fn refused_so(line: &[u8], why: Refusal, at: usize) -> Outcome {
     let n = cursor::numbers(line, 2);
@@ -141,13 +135,9 @@ fn read_so(tag: u8, line: &[u8], verdict: Verdict, valid: bool) -> Outcome {
     }
 }
 
-// Reads a text.
-pub fn read(tag: u8, line: &[u8], text: &[u8]) -> TextRead {
-    let reading = reader::read(text);
-    let verdict = reading.verdict;
-    let policy = reading.policy;
-    let outcome = read_so(tag, line, verdict, validity::check(policy));
-    TextRead { outcome, policy }
+// Whether a text is read as stored.
+pub fn read(tag: u8, line: &[u8], text: &[u8]) -> Outcome {
+    read_so(tag, line, engine::verdict_of(text), engine::passes(text))
 }
 
 // The first place at which a buffer is not the text with blanks behind it; the buffer's length where there is none.
@@ -167,22 +157,22 @@ fn unlike_text(text: &[u8], buffer: &[u8]) -> usize {
 }
 
 // Writing into the first bytes of a buffer; none where it has not so many.
-fn write_into(policy: PolicyValue, buffer: &mut [u8], room: usize) -> Written {
+fn write_into(text: &[u8], buffer: &mut [u8], room: usize) -> Written {
     if buffer.len() < room {
         return Written::Refused(Refusal::TextTooLong);
     }
-    writer::write(policy, &mut buffer[..room])
+    engine::write(text, &mut buffer[..room])
 }
 
 // `W,room,answer`: whether writing into so many bytes answers so, and leaves the text there, or nothing where it is refused.
-pub fn written_so(policy: PolicyValue, line: &[u8], text: &[u8]) -> Outcome {
+pub fn written_so(line: &[u8], text: &[u8]) -> Outcome {
     let n = cursor::numbers(line, 2);
     if !n.good {
         return Outcome::Malformed;
     }
     let a = n.values;
     let mut buffer = [BLANK; TEXT_BYTES];
-    let written = write_into(policy, &mut buffer, cursor::size(a[0]));
+    let written = write_into(text, &mut buffer, cursor::size(a[0]));
     match written {
         Written::Stored(length) => {
             if a[1] != outcome::DONE {

@@ -1,33 +1,25 @@
+-- `vectors::decisions::list_into` is safe: the buffer has the entries that are lent.
 use mathlib.Core.Path.{sym}
 use lib.Seq.{length-take-le}
 use borrow.Author.Needs.{needs}
 use Rattle.vectors.proofs.decisions.list_into.Statement.{statement}
 use Rattle.vectors.proofs.decisions.list_into.Tie as tie
-use Rattle.vectors.proofs.decisions.list_into.Reads as reads
-use Rattle.vectors.proofs.decisions.list_into.Lts as lts
-use Rattle.tuples.proofs.list.Reads as list-reads
 
--- src/decisions.rt:148:9
 returns : tie.Need-returns
 returns c = search needs
 
--- src/decisions.rt:150:34
 slice-relend-prefix-list : tie.Need-slice-relend-prefix-list
 slice-relend-prefix-list c = search needs
 
--- src/decisions.rt:150:34
 slice-aggregate-list : tie.Need-slice-aggregate-list
 slice-aggregate-list c = sym (length-take-le _ _ (search needs))
 
--- src/decisions.rt:150:5
 list-requires : tie.Need-list-requires
 list-requires c κs = search needs
 
--- src/decisions.rt:146:1
 same-length : tie.Need-same-length
 same-length c = search needs
 
--- src/decisions.rt:146:1
 returns-2 : tie.Need-returns-2
 returns-2 c = search needs
 

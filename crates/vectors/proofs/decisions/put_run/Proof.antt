@@ -1,11 +1,10 @@
-use Prim.Native.Nat.{_+_, _-_, _≤_, _<_}
+-- `vectors::decisions::put_run` is safe and ends: x rises to the last number, and the buffer keeps its length.
+use Prim.Native.Nat.{_+_, _-_}
 use mathlib.Core.Path.{_≡_}
 use lib.ListN.{length}
 use borrow.Author.Needs.{needs}
 use Rattle.vectors.proofs.decisions.put_run.Statement.{statement}
 use Rattle.vectors.proofs.decisions.put_run.Tie as tie
-use Rattle.vectors.proofs.decisions.put_run.Reads as reads
-use Rattle.vectors.proofs.decisions.put_run.Lts as lts
 
 abbrev Inv-loop : tie.InvT-loop
 Inv-loop first last buffer₀ from at₀ x₀ buffer at x = length buffer ≡ length buffer₀
@@ -13,63 +12,48 @@ Inv-loop first last buffer₀ from at₀ x₀ buffer at x = length buffer ≡ le
 abbrev μ-loop : tie.MeasureT-loop
 μ-loop first last buffer₀ from at₀ x₀ buffer at x = last + 1 - x
 
--- src/decisions.rt:97:5
 loop-holds : tie.Need-loop-holds Inv-loop μ-loop
 loop-holds c = search needs
 
--- src/decisions.rt:98:12
 cast-if1 : tie.Need-cast-if1 Inv-loop μ-loop
 cast-if1 c = search needs
 
--- src/decisions.rt:99:13
 same-length : tie.Need-same-length Inv-loop μ-loop
 same-length c = search needs
 
--- src/decisions.rt:99:13
 returns : tie.Need-returns Inv-loop μ-loop
 returns c = search needs
 
--- src/decisions.rt:102:13
 same-length-2 : tie.Need-same-length-2 Inv-loop μ-loop
 same-length-2 c = search needs
 
--- src/decisions.rt:102:13
 returns-2 : tie.Need-returns-2 Inv-loop μ-loop
 returns-2 c = search needs
 
--- src/decisions.rt:104:22
 cast-buffer : tie.Need-cast-buffer Inv-loop μ-loop
 cast-buffer c = search needs
 
--- src/decisions.rt:104:9
 mul-buffer : tie.Need-mul-buffer Inv-loop μ-loop
 mul-buffer c = search needs
 
--- src/decisions.rt:104:9
 slice-write-buffer : tie.Need-slice-write-buffer Inv-loop μ-loop
 slice-write-buffer c = search needs
 
--- src/decisions.rt:105:9
 add-x : tie.Need-add-x Inv-loop μ-loop
 add-x c = search needs
 
--- src/decisions.rt:106:9
 add-at : tie.Need-add-at Inv-loop μ-loop
 add-at c = search needs
 
--- src/decisions.rt:97:5
 loop-less : tie.Need-loop-less Inv-loop μ-loop
 loop-less c = search needs
 
--- src/decisions.rt:97:5
 loop-again : tie.Need-loop-again Inv-loop μ-loop
 loop-again c = search needs
 
--- src/decisions.rt:94:1
 same-length-3 : tie.Need-same-length-3 Inv-loop μ-loop
 same-length-3 c = search needs
 
--- src/decisions.rt:94:1
 returns-3 : tie.Need-returns-3 Inv-loop μ-loop
 returns-3 c = search needs
 

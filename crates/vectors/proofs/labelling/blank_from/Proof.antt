@@ -1,12 +1,9 @@
-use Prim.Native.Nat.{_+_, _-_, _≤_, _<_}
-use mathlib.Core.Path.{_≡_}
+-- `vectors::labelling::blank_from` is safe and ends: i rises to the buffer's end.
+use Prim.Native.Nat.{_-_, _≤_}
 use lib.ListN.{length}
 use borrow.Author.Needs.{needs}
 use Rattle.vectors.proofs.labelling.blank_from.Statement.{statement}
 use Rattle.vectors.proofs.labelling.blank_from.Tie as tie
-use Rattle.vectors.proofs.labelling.blank_from.Reads as reads
-use Rattle.vectors.proofs.labelling.blank_from.Lts as lts
-use Rattle.vectors.proofs.outcome.differs_at.Reads as differs-at-reads
 
 abbrev Inv-loop : tie.InvT-loop
 Inv-loop buffer from i₀ i = from ≤ i
@@ -14,35 +11,27 @@ Inv-loop buffer from i₀ i = from ≤ i
 abbrev μ-loop : tie.MeasureT-loop
 μ-loop buffer from i₀ i = length buffer - i
 
--- src/labelling.rt:116:5
 loop-holds : tie.Need-loop-holds Inv-loop μ-loop
 loop-holds c = search needs
 
--- src/labelling.rt:117:12
 shared-slice-read-if1 : tie.Need-shared-slice-read-if1 Inv-loop μ-loop
 shared-slice-read-if1 c = search needs
 
--- src/labelling.rt:118:13
 differs-at-requires : tie.Need-differs-at-requires Inv-loop μ-loop
 differs-at-requires c κs = search needs
 
--- src/labelling.rt:118:13
 returns : tie.Need-returns Inv-loop μ-loop
 returns c = search needs
 
--- src/labelling.rt:120:9
 add-i : tie.Need-add-i Inv-loop μ-loop
 add-i c = search needs
 
--- src/labelling.rt:116:5
 loop-less : tie.Need-loop-less Inv-loop μ-loop
 loop-less c = search needs
 
--- src/labelling.rt:116:5
 loop-again : tie.Need-loop-again Inv-loop μ-loop
 loop-again c = search needs
 
--- src/labelling.rt:114:1
 returns-2 : tie.Need-returns-2 Inv-loop μ-loop
 returns-2 c = search needs
 

@@ -1,15 +1,9 @@
-use Prim.Native.Nat.{_+_, _-_, _≤_, _<_}
-use mathlib.Core.Path.{_≡_}
+-- `vectors::labelling::holds` is safe and ends: each turn goes on in the line.
+use Prim.Native.Nat.{_-_, _≤_}
 use lib.ListN.{length}
 use borrow.Author.Needs.{needs}
 use Rattle.vectors.proofs.labelling.holds.Statement.{statement}
 use Rattle.vectors.proofs.labelling.holds.Tie as tie
-use Rattle.vectors.proofs.labelling.holds.Reads as reads
-use Rattle.vectors.proofs.labelling.holds.Lts as lts
-use Rattle.vectors.proofs.cursor.number_at.Reads as number-at-reads
-use Rattle.vectors.proofs.labelling.blank_from.Reads as blank-from-reads
-use Rattle.vectors.proofs.labelling.wide.Reads as wide-reads
-use Rattle.vectors.proofs.outcome.differs_at.Reads as differs-at-reads
 
 abbrev Inv-loop : tie.InvT-loop
 Inv-loop line buffer i₀ at₀ i at = i ≤ length buffer
@@ -17,59 +11,45 @@ Inv-loop line buffer i₀ at₀ i at = i ≤ length buffer
 abbrev μ-loop : tie.MeasureT-loop
 μ-loop line buffer i₀ at₀ i at = length line - at
 
--- src/labelling.rt:133:5
 loop-holds : tie.Need-loop-holds Inv-loop μ-loop
 loop-holds c = search needs
 
--- src/labelling.rt:135:13
 differs-at-requires : tie.Need-differs-at-requires Inv-loop μ-loop
 differs-at-requires c κs = search needs
 
--- src/labelling.rt:135:13
 returns : tie.Need-returns Inv-loop μ-loop
 returns c = search needs
 
--- src/labelling.rt:137:13
 number-at-requires : tie.Need-number-at-requires Inv-loop μ-loop
 number-at-requires c κs = search needs
 
--- src/labelling.rt:139:13
 returns-2 : tie.Need-returns-2 Inv-loop μ-loop
 returns-2 c = search needs
 
--- src/labelling.rt:141:17
 shared-slice-read-wide : tie.Need-shared-slice-read-wide Inv-loop μ-loop
 shared-slice-read-wide c = search needs
 
--- src/labelling.rt:141:12
 wide-requires : tie.Need-wide-requires Inv-loop μ-loop
 wide-requires c κs = search needs
 
--- src/labelling.rt:142:13
 differs-at-requires-2 : tie.Need-differs-at-requires-2 Inv-loop μ-loop
 differs-at-requires-2 c κs = search needs
 
--- src/labelling.rt:142:13
 returns-3 : tie.Need-returns-3 Inv-loop μ-loop
 returns-3 c = search needs
 
--- src/labelling.rt:145:9
 add-i : tie.Need-add-i Inv-loop μ-loop
 add-i c = search needs
 
--- src/labelling.rt:133:5
 loop-less : tie.Need-loop-less Inv-loop μ-loop
 loop-less c = search needs
 
--- src/labelling.rt:133:5
 loop-again : tie.Need-loop-again Inv-loop μ-loop
 loop-again c = search needs
 
--- src/labelling.rt:147:5
 blank-from-requires : tie.Need-blank-from-requires Inv-loop μ-loop
 blank-from-requires c κs = search needs
 
--- src/labelling.rt:130:1
 returns-4 : tie.Need-returns-4 Inv-loop μ-loop
 returns-4 c = search needs
 

@@ -1,16 +1,9 @@
-use Prim.Native.Nat.{_+_, _-_, _≤_, _<_}
-use mathlib.Core.Path.{_≡_}
+-- `vectors::sessions::stands_so` is safe and ends: each turn goes on in the line.
+use Prim.Native.Nat.{_-_, _≤_}
 use lib.ListN.{length}
 use borrow.Author.Needs.{needs}
 use Rattle.vectors.proofs.sessions.stands_so.Statement.{statement}
 use Rattle.vectors.proofs.sessions.stands_so.Tie as tie
-use Rattle.vectors.proofs.sessions.stands_so.Reads as reads
-use Rattle.vectors.proofs.sessions.stands_so.Lts as lts
-use Rattle.board.proofs.fresh.Reads as fresh-reads
-use Rattle.vectors.proofs.cursor.numbers_at.Reads as numbers-at-reads
-use Rattle.vectors.proofs.cursor.size.Reads as size-reads
-use Rattle.vectors.proofs.outcome.at_end.Reads as at-end-reads
-use Rattle.vectors.proofs.sessions.unlike.Reads as unlike-reads
 
 abbrev Inv-loop : tie.InvT-loop
 Inv-loop board line due₀ at₀ due at = 2 ≤ at
@@ -18,71 +11,54 @@ Inv-loop board line due₀ at₀ due at = 2 ≤ at
 abbrev μ-loop : tie.MeasureT-loop
 μ-loop board line due₀ at₀ due at = length line - at
 
--- src/sessions.rt:166:19
 fresh-requires : tie.Need-fresh-requires Inv-loop μ-loop
 fresh-requires c κs = search needs
 
--- src/sessions.rt:168:5
 loop-holds : tie.Need-loop-holds Inv-loop μ-loop
 loop-holds c = search needs
 
--- src/sessions.rt:169:13
 numbers-at-requires : tie.Need-numbers-at-requires Inv-loop μ-loop
 numbers-at-requires c κs = search needs
 
--- src/sessions.rt:171:13
 returns : tie.Need-returns Inv-loop μ-loop
 returns c = search needs
 
--- src/sessions.rt:174:13
 returns-2 : tie.Need-returns-2 Inv-loop μ-loop
 returns-2 c = search needs
 
--- src/sessions.rt:177:30
 array-read-size : tie.Need-array-read-size Inv-loop μ-loop
 array-read-size c = search needs
 
--- src/sessions.rt:177:13
 size-requires : tie.Need-size-requires Inv-loop μ-loop
 size-requires c κs = search needs
 
--- src/sessions.rt:179:13
 returns-3 : tie.Need-returns-3 Inv-loop μ-loop
 returns-3 c = search needs
 
--- src/sessions.rt:183:19
 array-read-t13 : tie.Need-array-read-t13 Inv-loop μ-loop
 array-read-t13 c = search needs
 
--- src/sessions.rt:184:19
 array-read-t18 : tie.Need-array-read-t18 Inv-loop μ-loop
 array-read-t18 c = search needs
 
--- src/sessions.rt:181:9
 mul-t9 : tie.Need-mul-t9 Inv-loop μ-loop
 mul-t9 c = search needs
 
--- src/sessions.rt:181:9
 element-set-from-due : tie.Need-element-set-from-due Inv-loop μ-loop
 element-set-from-due c = search needs
 
--- src/sessions.rt:168:5
 loop-less : tie.Need-loop-less Inv-loop μ-loop
 loop-less c = search needs
 
--- src/sessions.rt:168:5
 loop-again : tie.Need-loop-again Inv-loop μ-loop
 loop-again c = search needs
 
--- src/sessions.rt:188:21
 unlike-requires : tie.Need-unlike-requires Inv-loop μ-loop
 unlike-requires c κs = search needs
 
--- src/sessions.rt:188:5
 at-end-requires : tie.Need-at-end-requires Inv-loop μ-loop
 at-end-requires c κs = search needs
 
--- src/sessions.rt:165:1
 returns-4 : tie.Need-returns-4 Inv-loop μ-loop
 returns-4 c = search needs
 

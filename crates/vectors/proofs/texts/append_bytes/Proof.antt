@@ -1,12 +1,10 @@
-use Prim.Native.Nat.{_+_, _-_, _≤_, _<_}
+-- `vectors::texts::append_bytes` is safe and ends: each turn goes on in the line, and the text keeps its length.
+use Prim.Native.Nat.{_-_}
 use mathlib.Core.Path.{_≡_}
 use lib.ListN.{length}
 use borrow.Author.Needs.{needs}
 use Rattle.vectors.proofs.texts.append_bytes.Statement.{statement}
 use Rattle.vectors.proofs.texts.append_bytes.Tie as tie
-use Rattle.vectors.proofs.texts.append_bytes.Reads as reads
-use Rattle.vectors.proofs.texts.append_bytes.Lts as lts
-use Rattle.vectors.proofs.texts.byte_at.Reads as byte-at-reads
 
 abbrev Inv-loop : tie.InvT-loop
 Inv-loop line text₀ n end₀ at₀ text end at = length text ≡ length text₀
@@ -14,43 +12,33 @@ Inv-loop line text₀ n end₀ at₀ text end at = length text ≡ length text�
 abbrev μ-loop : tie.MeasureT-loop
 μ-loop line text₀ n end₀ at₀ text end at = length line - at
 
--- src/texts.rt:74:5
 loop-holds : tie.Need-loop-holds Inv-loop μ-loop
 loop-holds c = search needs
 
--- src/texts.rt:76:13
 same-length : tie.Need-same-length Inv-loop μ-loop
 same-length c = search needs
 
--- src/texts.rt:76:13
 returns : tie.Need-returns Inv-loop μ-loop
 returns c = search needs
 
--- src/texts.rt:78:13
 byte-at-requires : tie.Need-byte-at-requires Inv-loop μ-loop
 byte-at-requires c κs = search needs
 
--- src/texts.rt:79:9
 slice-write-text : tie.Need-slice-write-text Inv-loop μ-loop
 slice-write-text c = search needs
 
--- src/texts.rt:80:9
 add-end : tie.Need-add-end Inv-loop μ-loop
 add-end c = search needs
 
--- src/texts.rt:74:5
 loop-less : tie.Need-loop-less Inv-loop μ-loop
 loop-less c = search needs
 
--- src/texts.rt:74:5
 loop-again : tie.Need-loop-again Inv-loop μ-loop
 loop-again c = search needs
 
--- src/texts.rt:71:1
 same-length-2 : tie.Need-same-length-2 Inv-loop μ-loop
 same-length-2 c = search needs
 
--- src/texts.rt:71:1
 returns-2 : tie.Need-returns-2 Inv-loop μ-loop
 returns-2 c = search needs
 
