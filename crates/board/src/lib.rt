@@ -2,11 +2,13 @@
 ghost use mathlib.Core.Path.{_≡_};
 ghost use mathlib.Core.Option.{none};
 ghost use Prim.Native.Nat.{_<_};
+ghost use Rattle.policy.specs.Answers.{replyNumber};
 ghost use Rattle.board.specs.Machine.{sessionNumbers, opens, adds, drops, closes, requests};
-ghost use Rattle.board.specs.Board.{Labels, labelsOf, outOf, fresh, boardStep};
+ghost use Rattle.board.specs.Board.{Labels, labelsOf, replyOf, outOf, fresh, boardStep};
 ghost use Rattle.board.specs.Inner.{refusalOf, settled};
 use crate::rulings::Ruling;
 use labels::Counts;
+use policy::refusal;
 use policy::refusal::Refusal;
 use policy::value::PolicyValue;
 
@@ -48,6 +50,18 @@ pub enum Answer {
 pub struct Step {
     pub answer: Answer,
     pub board: Board,
+}
+
+// The number of an answer: 0 denied, 1 granted, 2 done, or the refusal's.
+pub fn number_of(answer: Answer) -> u32
+    ensures { λ r. ⌜ r ≡ replyNumber (replyOf answer) ⌝ }
+{
+    match answer {
+        Answer::Done => 2,
+        Answer::Granted => 1,
+        Answer::Denied => 0,
+        Answer::Refused(why) => refusal::number_of(why),
+    }
 }
 
 // A board that holds no session.

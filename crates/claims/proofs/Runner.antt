@@ -5,9 +5,9 @@ use borrow.Author.Tests.{le-ltb}
 use lib.ListN.{length}
 use Rattle.basis.specs.Choice.{lowest}
 use Rattle.basis.specs.Lists.{over}
-use Rattle.policy.specs.Answers.{Reply}
+use Rattle.policy.specs.Answers.{Reply, replyNumber}
 use Rattle.runner.specs.Calls.{itemsIn, callsIn}
-use Rattle.runner.specs.Run.{answerByte, answersTo, answerCount, answerBuffer, boardAfterRun}
+use Rattle.runner.specs.Run.{answersTo, answerCount, answerBuffer, boardAfterRun}
 use Rattle.claims.specs.Runner.{Claim}
 use Rattle.claims.proofs.Demand3.{demand3}
 
@@ -18,6 +18,6 @@ list-run t p e b room numbers buffer h =
     let fits = le-ltb (length buffer) (length (itemsIn numbers)) h in
     record {
       count = rw fits;
-      answers = rw fits (ap (λ (rs : List Reply). over (map answerByte (answersTo (itemsIn numbers) rs)) buffer) (d .answers));
+      answers = rw fits (ap (λ (rs : List Reply). over (map replyNumber (answersTo (itemsIn numbers) rs)) buffer) (d .answers));
       entries = λ k. rw fits (d .entries k);
     }

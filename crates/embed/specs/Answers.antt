@@ -3,7 +3,7 @@ use Prim.Native.Nat.{ℕ}
 use mathlib.Core.List.{List}
 use Rattle.basis.specs.Choice.{given, Result, gives, refuses}
 use Rattle.policy.specs.Read.{Outcome}
-use Rattle.policy.specs.Answers.{numberOf, Reply, done, granted, denied, refused, refusalIn, valueIn}
+use Rattle.policy.specs.Answers.{numberOf, replyNumber, refusalIn, valueIn}
 use Rattle.labels.specs.declared.Counts.{Counts}
 use Rattle.labels.specs.declared.Apartness.{Apartness}
 use Rattle.labels.specs.declared.Apartness.the-variants.{Alike, Apart, Refused}
@@ -16,13 +16,6 @@ use Rattle.embed.specs.declared.packed.Counted.{Counted}
 use Rattle.embed.specs.declared.packed.PackedCounts.{PackedCounts}
 use Rattle.embed.specs.declared.packed.Separation.{Separation}
 use Rattle.embed.specs.declared.packed.PackedStep.{PackedStep}
-
--- 0 denied, 1 granted, 2 done, or the refusal, of which these calls have 11 to 20
-abbrev pub replyNumber : Reply → ℕ
-replyNumber denied = 0
-replyNumber granted = 1
-replyNumber done = 2
-replyNumber (refused n) = n
 
 -- the refusal and its line, 0 and 0 where the text is accepted, beside the text's value
 abbrev pub packedReading : Outcome → PackedReading

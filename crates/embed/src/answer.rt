@@ -2,7 +2,7 @@
 ghost use mathlib.Core.Path.{_≡_};
 ghost use Rattle.basis.specs.Choice.{gives, refuses};
 ghost use Rattle.policy.specs.Read.{Outcome};
-ghost use Rattle.policy.specs.Answers.{numberOf, ReadAs};
+ghost use Rattle.policy.specs.Answers.{numberOf, replyNumber, ReadAs};
 ghost use Rattle.writer.specs.Answer as writer;
 ghost use Rattle.formula.specs.Decide as formula;
 ghost use Rattle.tuples.specs.Tuples as tuples;
@@ -14,7 +14,6 @@ use crate::packed::PackedCounts;
 use crate::packed::PackedReading;
 use crate::packed::PackedStep;
 use crate::packed::Separation;
-use board::Answer;
 use board::Step;
 use formula::Decision;
 use labels::Apartness;
@@ -49,24 +48,12 @@ pub fn reading(x: Reading) -> PackedReading
 
 // The number of a decision.
 pub fn decision(d: Decision) -> u32
-    ensures { λ r. ⌜ r ≡ spec.replyNumber (formula.replyOf d) ⌝ }
+    ensures { λ r. ⌜ r ≡ replyNumber (formula.replyOf d) ⌝ }
 {
     match d {
         Decision::Granted => 1,
         Decision::Denied => 0,
         Decision::Refused(r) => number_of(r),
-    }
-}
-
-// The number of a session call's answer.
-fn answer(a: Answer) -> u32
-    ensures { λ r. ⌜ r ≡ spec.replyNumber (board.replyOf a) ⌝ }
-{
-    match a {
-        Answer::Done => 2,
-        Answer::Granted => 1,
-        Answer::Denied => 0,
-        Answer::Refused(r) => number_of(r),
     }
 }
 
@@ -77,7 +64,7 @@ pub fn step(s: Step) -> PackedStep
     let a = s.answer;
     let board = s.board;
     PackedStep {
-        answer: answer(a),
+        answer: board::number_of(a),
         board,
     }
 }

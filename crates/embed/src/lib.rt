@@ -1,5 +1,6 @@
 // The calls for C and Rust. A policy goes packed, and everything else by value or in lent buffers.
 ghost use mathlib.Core.Path.{_≡_};
+ghost use Rattle.policy.specs.Answers.{replyNumber};
 ghost use Rattle.policy.specs.Read.{readText};
 ghost use Rattle.policy.specs.Valid.{valid};
 ghost use Rattle.policy.specs.Write.{write, writeBuffer};
@@ -11,7 +12,7 @@ ghost use Rattle.labels.specs.declared.Apartness.{Apartness};
 ghost use Rattle.board.specs.Machine.{opens, adds, drops, closes, requests};
 ghost use Rattle.board.specs.Board.{Labels, fresh, boardStep};
 ghost use Rattle.packing.specs.Packed.{unpackedPolicy};
-ghost use Rattle.embed.specs.Answers.{replyNumber, packedReading, counted, packedCounts, separation, packedStep, labelsWith};
+ghost use Rattle.embed.specs.Answers.{packedReading, counted, packedCounts, separation, packedStep, labelsWith};
 
 mod answer;
 pub mod packed;

@@ -45,6 +45,13 @@ pub data Reply : Type 0 where
 abbrev pub decided : Bool → Reply
 decided b = cond b granted denied
 
+-- a reply as a number: 0 denied, 1 granted, 2 done, or the refusal
+abbrev pub replyNumber : Reply → ℕ
+replyNumber denied = 0
+replyNumber granted = 1
+replyNumber done = 2
+replyNumber (refused n) = n
+
 -- ---- reading
 
 -- the refusal of a reading, with its line: what the code's verdict says, and what an outcome is

@@ -1,11 +1,14 @@
--- A refusal's number is a byte.
+-- An answer's number is a byte.
 use Prim.Native.Nat.{_<_}
 use lib.Dec.{lit<}
-use Rattle.policy.specs.Answers.{numberOf}
+use Rattle.policy.specs.Answers.{numberOf, replyNumber}
 use Rattle.policy.specs.declared.refusal.Refusal.{Refusal}
 use Rattle.policy.specs.declared.refusal.Refusal.the-variants.{TextTooLong, LineFeedMissing, KindNotAllowed, WrongFieldCount, MalformedField, OutOfRange, NotRising, UnequalWidths, UnbalancedFormula, EndMissing, InvalidState, UnknownAction, UnknownSession, UnregisteredUser, UnregisteredObject, SessionOpen, SessionNotOpen, SessionOfAnother, SetOutOfReach, BufferTooShort}
+use Rattle.board.specs.Board.{replyOf}
+use Rattle.board.specs.declared.Answer.{Answer}
+use Rattle.board.specs.declared.Answer.the-variants.{Done, Granted, Denied, Refused}
 
-pub number-byte : (r : Refusal) → numberOf r < 256
+number-byte : (r : Refusal) → numberOf r < 256
 number-byte TextTooLong = lit< tt
 number-byte LineFeedMissing = lit< tt
 number-byte KindNotAllowed = lit< tt
@@ -26,3 +29,9 @@ number-byte SessionNotOpen = lit< tt
 number-byte SessionOfAnother = lit< tt
 number-byte SetOutOfReach = lit< tt
 number-byte BufferTooShort = lit< tt
+
+pub reply-byte : (a : Answer) → replyNumber (replyOf a) < 256
+reply-byte Done = lit< tt
+reply-byte Granted = lit< tt
+reply-byte Denied = lit< tt
+reply-byte (Refused r) = number-byte r

@@ -9,10 +9,10 @@ use lib.ListN.{length, getD, take, set, length-map}
 use lib.Seq.{take-suc, take-all, length-take-le}
 use Rattle.basis.specs.Lists.{over}
 use Rattle.basis.proofs.Over.{over-more, length-over}
-use Rattle.policy.specs.Answers.{refused}
+use Rattle.policy.specs.Answers.{refused, replyNumber}
 use Rattle.board.specs.Machine.{Call, Out, Ran, run}
 use Rattle.runner.specs.Calls.{callsIn}
-use Rattle.runner.specs.Run.{answerByte, answersTo}
+use Rattle.runner.specs.Run.{answersTo}
 use Rattle.runner.specs.Inner.{itemStep}
 
 module _ {S : Type 0} (f : Call → S → Out S) where
@@ -39,7 +39,7 @@ module _ {S : Type 0} (f : Call → S → Out S) where
 
   -- the bytes of all answers
   abbrev pub wovenBytes : List (Option Call) → S → List ℕ
-  wovenBytes items s = map answerByte (woven items s .replies)
+  wovenBytes items s = map replyNumber (woven items s .replies)
 
   -- after the first i items: the state, and the buffer with their answers at its start
   pub record Reached (items : List (Option Call)) (start : S) (old : List ℕ) (i : ℕ) (s : S) (out : List ℕ) : Type 0 where
@@ -54,7 +54,7 @@ module _ {S : Type 0} (f : Call → S → Out S) where
 
     -- as many bytes as items
     byte-count : (i : ℕ) → i ≤ length items → length (wovenBytes (take i items) start) ≡ i
-    byte-count i h = length-map (woven (take i items) start .replies) answerByte ∙ length-woven (take i items) start ∙ length-take-le i items h
+    byte-count i h = length-map (woven (take i items) start .replies) replyNumber ∙ length-woven (take i items) start ∙ length-take-le i items h
 
     module _ (i : ℕ) (s : S) (out : List ℕ) (r : Reached items start old i s out) where
       abbrev before : Ran S
@@ -75,16 +75,16 @@ module _ {S : Type 0} (f : Call → S → Out S) where
           ∙ sym (over-more (wovenBytes (take i items) start) old y k)
 
       pub reached-more : i < length items → length items ≤ length old
-          → (x : Option Call) → x ≡ getD items i none → (o : Out S) → o ≡ itemStep f x s → (y : ℕ) → y ≡ answerByte (o .reply)
+          → (x : Option Call) → x ≡ getD items i none → (o : Out S) → o ≡ itemStep f x s → (y : ℕ) → y ≡ replyNumber (o .reply)
           → Reached items start old (i + 1) (o .state) (set out i y)
       reached-more h room x ex o eo y ey =
           let t : take (i + 1) items ≡ take i items ++ (x ∷ []) = rw (add-one i, ex) (take-suc items i none h) in
           let e : woven (take (i + 1) items) start ≡ further before x = rw t (woven-more (take i items) x start) in
           let q : o ≡ itemStep f x (before .state) = rw (← r .state) eo in
           let w : wovenBytes (take (i + 1) items) start ≡ wovenBytes (take i items) start ++ (y ∷ []) =
-          ap (λ (z : Ran S). map answerByte (z .replies)) e
-          ∙ map-append answerByte (before .replies) (itemStep f x (before .state) .reply ∷ [])
-          ∙ ap (λ (k : ℕ). wovenBytes (take i items) start ++ (k ∷ [])) (sym (ey ∙ ap (λ (z : Out S). answerByte (z .reply)) q)) in
+          ap (λ (z : Ran S). map replyNumber (z .replies)) e
+          ∙ map-append replyNumber (before .replies) (itemStep f x (before .state) .reply ∷ [])
+          ∙ ap (λ (k : ℕ). wovenBytes (take i items) start ++ (k ∷ [])) (sym (ey ∙ ap (λ (z : Out S). replyNumber (z .reply)) q)) in
           record {
             few = omega arith;
             state = ap (λ (z : Out S). z .state) q ∙ sym (ap (λ (z : Ran S). z .state) e);

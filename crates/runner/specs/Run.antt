@@ -7,7 +7,7 @@ use lib.Dec.{ltb}
 use lib.ListN.{length}
 use Rattle.basis.specs.Choice.{given, Result, gives, refuses, Check, check, lowest, unlessRefused}
 use Rattle.basis.specs.Lists.{over}
-use Rattle.policy.specs.Answers.{numberOf, Reply, done, granted, denied, refused}
+use Rattle.policy.specs.Answers.{numberOf, Reply, refused, replyNumber}
 use Rattle.policy.specs.declared.value.PolicyValue.{PolicyValue}
 use Rattle.board.specs.Machine.{Call, Ran, run}
 use Rattle.board.specs.Board.{Labels, boardStep, fresh}
@@ -16,13 +16,6 @@ use Rattle.runner.specs.Calls.{itemsIn, callsIn}
 use Rattle.runner.specs.declared.Verdict.{Verdict}
 use Rattle.runner.specs.declared.Verdict.the-variants.{Answered, Refused}
 use Rattle.runner.specs.declared.Ran.{Ran as CodeRan}
-
--- an answer as a byte: 0 denied, 1 granted, 2 done, or the refusal
-abbrev pub answerByte : Reply → ℕ
-answerByte denied = 0
-answerByte granted = 1
-answerByte done = 2
-answerByte (refused n) = n
 
 -- the answers in the list's order: each call gets its reply, of which there is one a call, and what is no call gets 5
 unfoldable pub answersTo : List (Option Call) → List Reply → List Reply
@@ -33,7 +26,7 @@ answersTo (some c ∷ items) (r ∷ replies) = r ∷ answersTo items replies
 
 -- the bytes of a run's answers
 abbrev pub bytesOf : {S : Type 0} → List ℕ → Ran S → List ℕ
-bytesOf numbers r = map answerByte (answersTo (itemsIn numbers) (r .replies))
+bytesOf numbers r = map replyNumber (answersTo (itemsIn numbers) (r .replies))
 
 -- the board's run of the calls in a list, from a fresh board
 abbrev pub boardRun : PolicyValue → Labels → List ℕ → Ran Board

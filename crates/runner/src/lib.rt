@@ -1,8 +1,9 @@
 // A list of calls on a fresh board: calls in, answers out.
 ghost use mathlib.Core.Path.{_≡_};
+ghost use Rattle.policy.specs.Answers.{replyNumber};
 ghost use Rattle.board.specs.Board.{labelsOf, replyOf, outOf, boardStep};
 ghost use Rattle.runner.specs.Calls.{callOf, itemOf};
-ghost use Rattle.runner.specs.Run.{answerByte, RunsAs};
+ghost use Rattle.runner.specs.Run.{RunsAs};
 ghost use Rattle.runner.specs.Inner.{itemStep};
 use crate::list::Item;
 use board::Answer;
@@ -10,7 +11,6 @@ use board::Board;
 use board::Step;
 use labels::Counts;
 use policy::refusal::Refusal;
-use policy::refusal::number_of;
 use policy::value::PolicyValue;
 
 mod list;
@@ -88,16 +88,11 @@ fn answer(
     }
 }
 
-// An answer as a byte: 0 denied, 1 granted, 2 done, or the refusal's number.
+// An answer's number as a byte.
 fn byte_of(answer: Answer) -> u8
-    ensures { λ r. ⌜ r ≡ answerByte (replyOf answer) ⌝ }
+    ensures { λ r. ⌜ r ≡ replyNumber (replyOf answer) ⌝ }
 {
-    match answer {
-        Answer::Done => 2,
-        Answer::Granted => 1,
-        Answer::Denied => 0,
-        Answer::Refused(why) => number_of(why) as u8,
-    }
+    board::number_of(answer) as u8
 }
 
 // Runs a list of calls from a fresh board, four numbers to a call, and stores a byte for each answer.

@@ -3,11 +3,11 @@ use borrow.Author.Needs.{needs}
 use Rattle.embed.proofs.answer.step.Statement.{statement}
 use Rattle.embed.proofs.answer.step.Tie as tie
 
-answer-requires : tie.Need-answer-requires
-answer-requires c κs = search needs
+number-of-requires : tie.Need-number-of-requires
+number-of-requires c κs = search needs
 
 returns : tie.Need-returns
-returns c = rw (c .answer .ensures)
+returns c = rw (c .number-of .ensures)
 
 pub step-spec : {M : Type 1} → statement M
-step-spec = tie.close (tie.spec answer-requires returns)
+step-spec = tie.close (tie.spec number-of-requires returns)

@@ -1,7 +1,7 @@
--- `embed::answer::answer` meets its contract: each arm gives the number of its answer.
+-- `board::number_of` meets its contract: each arm gives the number of its answer.
 use borrow.Author.Needs.{needs}
-use Rattle.embed.proofs.answer.answer.Statement.{statement}
-use Rattle.embed.proofs.answer.answer.Tie as tie
+use Rattle.board.proofs.number_of.Statement.{statement}
+use Rattle.board.proofs.number_of.Tie as tie
 
 enum-told : tie.Need-enum-told
 enum-told c = search needs
@@ -12,8 +12,8 @@ enum-told-2 c = search needs
 enum-told-3 : tie.Need-enum-told-3
 enum-told-3 c = search needs
 
-enum-known-a : tie.Need-enum-known-a
-enum-known-a c = search needs
+enum-known-answer : tie.Need-enum-known-answer
+enum-known-answer c = search needs
 
 number-of-requires : tie.Need-number-of-requires
 number-of-requires c κs = search needs
@@ -28,16 +28,16 @@ returns-3 : tie.Need-returns-3
 returns-3 c = search needs
 
 returns-4 : tie.Need-returns-4
-returns-4 c = rw (c .before .before .a .given .1) (c .number-of .ensures)
+returns-4 c = rw (c .before .before .answer .given .1) (c .number-of .ensures)
 
-pub answer-spec : {M : Type 1} → statement M
-answer-spec =
+pub number-of-spec : {M : Type 1} → statement M
+number-of-spec =
     tie.close
     (tie.spec
     enum-told
     enum-told-2
     enum-told-3
-    enum-known-a
+    enum-known-answer
     number-of-requires
     returns
     returns-2
