@@ -2,47 +2,44 @@
 //!
 //! # The file
 //!
-//! ASCII lines, each ended by byte 10. A line is a one-letter tag and fields,
-//! each after a comma; fields are decimal numbers below 2^32. Each line can be
-//! compared by itself, with what the lines before it have made: the text, its
-//! policy, the three label buffers and the board.
+//! Lines, each ended by byte 10: a one-letter tag and fields, each after a
+//! comma; fields are decimal numbers below 2^32. Behind a line `C` stand the
+//! bytes of a text as they are, and a line feed. Each line after it can be
+//! compared by itself, with nothing but that text. Its first two numbers are an
+//! answer and a count that stands beside the answer, or 0.
 //!
 //! ```text
-//! C,case                      a case begins, with an empty text
-//! =bytes                      bytes of the text, and a line feed after them
-//! +bytes                      bytes of the text; a byte that is not printable
-//!                             and the backslash are written \hh, in hex
+//! C,case,length               a case begins, with a text of so many bytes
 //! R,refusal,line              the text is refused so, or
 //! Y                           it is accepted
-//! W,room,answer               writing into a buffer of room bytes: the text
-//! L,users,objects,table,answer,NU,NO
-//!                             compiling into buffers of these lengths
-//! u,label,..                  all user labels stored by the last L,
-//! o,label,..                  the object labels
-//! g,byte,..                   and the table
-//! T,action,room,answer,count,first,last,..
+//! W,answer,length,room        writing into a buffer of room bytes: the text
+//! u,answer,NU,users,objects,table,label,..
+//! o,answer,NO,users,objects,table,label,..
+//! g,answer,NO,users,objects,table,byte,..
+//!                             compiling into buffers of these lengths: the
+//!                             user labels, the object labels or the table
+//! T,answer,count,action,room,first,last,..
 //!                             listing into a buffer of room entries: the count
 //!                             of tuples, and the tuples as runs of numbers
-//! F,action,us,os,answer       deciding by the formula
-//! B,action,us,os,count,answer deciding by tuples; the listing handed in is
-//!                             exactly the action's tuples
-//! P,us,us,answer              apart, for two user sets
-//! S                           a fresh board
-//! O,user,session,set,answer   open
-//! A,user,session,set,answer   add
-//! D,user,session,set,answer   drop
-//! K,user,session,answer       close
-//! Q,session,action,object,answer
-//!                             request, with label buffers that are long enough
-//! q,session,action,object,users,objects,table,answer
-//!                             request, with so many bytes of each buffer
-//! N,session,user,set,..       all sessions that are open now, rising
+//! F,answer,0,action,us,os     deciding by the formula
+//! B,answer,0,action,us,os,count
+//!                             deciding by tuples; the listing handed in is the
+//!                             action's, in a buffer of 16384 entries
+//! P,answer,0,us,us            apart, for two user sets
+//! S,0,calls,NU,NO,users,objects,table,call,..,answer,..,session,user,set,..
+//!                             a list of calls on a fresh board, each request
+//!                             with this NU and NO and so many bytes of the
+//!                             compiler's buffers; the answers; and all
+//!                             sessions that are open afterwards, rising
 //! ```
 //!
 //! An answer is 0 done, 1 granted, 2 denied, 3 alike, 4 told apart, or the
-//! refusal, 11 to 20. A refused call leaves its buffers as they were, and one
-//! that is done leaves what lies past its result. Where L or T is refused, its
-//! NU, NO or count is 0 and says nothing.
+//! refusal, 11 to 20. A call in a list is four numbers: 0 open, 1 add or 2 drop
+//! with user, session and set; 3 close with user, session and 0; 4 request with
+//! session, action and object. There an answer is 0 denied, 1 granted, 2 done,
+//! or the refusal. Buffers are blank before a call: byte 170, entry 65535. A
+//! refused call leaves its buffers as they were, and one that is done leaves
+//! what lies past its result. Where a call is refused, its count is 0.
 
 use crate::cases::{self, Rng};
 use crate::formula::decide;
@@ -51,7 +48,6 @@ use crate::machine::{run, step, Answer, Call, Sessions};
 use crate::policy::{Policy, Refusal, Set, ACTIONS};
 use crate::text::{read, write};
 use crate::tuples::{decide_by_tuples, tuples, Stored};
-use std::fmt::Write;
 
 /// Decisions of each sort in an accepted case.
 const DECISIONS: u32 = 6;
@@ -62,24 +58,27 @@ const SHORT_REQUESTS: u32 = 3;
 const MOST_TEXT: usize = 8192;
 const MOST_SETS: usize = 128;
 const MOST_PAIRS: usize = 16384;
+/// What stands in a buffer of bytes, and in a listing's, before a call.
+const BLANK: u8 = 170;
+const BLANK_ENTRY: Stored = 65_535;
 /// Refused by check 11, on what a refused text yields.
-const WITHOUT_POLICY: [&str; 8] = [
-    "W,8192,11",
-    "L,128,128,16384,11,0,0",
-    "T,0,16384,11,0",
-    "F,0,0,0,11",
-    "B,0,0,0,0,11",
-    "P,0,0,11",
-    "O,0,0,0,11",
-    "Q,0,0,0,11",
+const WITHOUT_POLICY: [&str; 9] = [
+    "W,11,0,8192",
+    "u,11,0,128,128,16384",
+    "o,11,0,128,128,16384",
+    "g,11,0,128,128,16384",
+    "T,11,0,0,16384",
+    "F,11,0,0,0,0",
+    "B,11,0,0,0,0,0",
+    "P,11,0,0,0",
+    "S,0,2,0,0,128,128,16384,0,0,0,0,4,0,0,0,11,11",
 ];
 
-/// The lines of a made case. No number handed to a call is above `largest`.
-pub fn made(seed: u64, case: u64, largest: u32) -> String {
+/// A made case. No number handed to a call is above `largest`.
+pub fn made(seed: u64, case: u64, largest: u32) -> Vec<u8> {
     let mut rng = Rng::new(seed, case);
     let text = cases::text(&mut rng, case);
-    let mut out = format!("C,{case}\n");
-    out += &text_lines(&text);
+    let mut out = String::new();
     match read(&text) {
         Err(refused) => {
             line(&mut out, format!("R,{},{}", refused.refusal, refused.line));
@@ -90,7 +89,7 @@ pub fn made(seed: u64, case: u64, largest: u32) -> String {
             accepted(&mut out, &mut rng, &policy, largest);
         }
     }
-    out
+    case_of(case, &text, &out)
 }
 
 fn line(out: &mut String, line: String) {
@@ -98,24 +97,15 @@ fn line(out: &mut String, line: String) {
     out.push('\n');
 }
 
-/// The lines of a text.
-pub fn text_lines(text: &[u8]) -> String {
-    let mut out = String::new();
-    for part in text.split_inclusive(|&byte| byte == b'\n') {
-        let (tag, bytes) = match part.strip_suffix(b"\n") {
-            Some(bytes) => ('=', bytes),
-            None => ('+', part),
-        };
-        out.push(tag);
-        for &byte in bytes {
-            match byte {
-                b' '..=b'~' if byte != b'\\' => out.push(char::from(byte)),
-                _ => write!(out, "\\{byte:02x}").expect("written"),
-            }
-        }
-        out.push('\n');
-    }
-    out
+/// A case: its number, its text and its lines.
+pub fn case_of(case: u64, text: &[u8], lines: &str) -> Vec<u8> {
+    let head = format!("C,{case},{}\n", text.len());
+    [head.as_bytes(), text, b"\n", lines.as_bytes()].concat()
+}
+
+/// Numbers as fields.
+fn fields<T: std::fmt::Display>(numbers: impl IntoIterator<Item = T>) -> String {
+    numbers.into_iter().map(|n| format!(",{n}")).collect()
 }
 
 /// What follows an accepted text.
@@ -125,20 +115,16 @@ pub fn accepted(out: &mut String, rng: &mut Rng, policy: &Policy, largest: u32) 
     label_lines(out, rng, policy, &labelling);
     let listings = tuple_lines(out, rng, policy);
     decision_lines(out, rng, policy, &listings, largest);
-    let sessions = call_lines(out, rng, policy, largest);
-    short_requests(out, rng, policy, &labelling, &sessions);
-    let held: String = sessions
-        .iter()
-        .map(|(session, (user, set))| format!(",{session},{user},{set}"))
-        .collect();
-    line(out, format!("N{held}"));
+    let sessions = call_line(out, rng, policy, &labelling, largest);
+    request_lines(out, rng, policy, &labelling, &sessions);
 }
 
 /// Writing into a buffer that is too short, and into one that is not.
 fn write_lines(out: &mut String, rng: &mut Rng, policy: &Policy) {
     let length = write(policy).len();
-    line(out, format!("W,{},20", short(rng, length)));
-    line(out, format!("W,{},0", enough(rng, length, MOST_TEXT)));
+    line(out, format!("W,20,0,{}", short(rng, length)));
+    let room = enough(rng, length, MOST_TEXT);
+    line(out, format!("W,0,{length},{room}"));
 }
 
 /// A length that is too short, most often by one.
@@ -169,40 +155,40 @@ fn label_lines(out: &mut String, rng: &mut Rng, policy: &Policy, labelling: &Lab
             enough(rng, places, MOST_PAIRS),
         ]
     };
-    let [u, o, t] = rooms(rng);
+    let [mut u, mut o, mut t] = rooms(rng);
     match rng.below(3) {
-        0 => line(out, format!("L,{},{o},{t},20,0,0", short(rng, users))),
-        1 => line(out, format!("L,{u},{},{t},20,0,0", short(rng, objects))),
-        _ => line(out, format!("L,{u},{o},{},20,0,0", short(rng, places))),
+        0 => u = short(rng, users),
+        1 => o = short(rng, objects),
+        _ => t = short(rng, places),
     }
     // Nothing is stored.
-    *out += "u\no\ng\n";
+    line(
+        out,
+        format!("{},20,0,{u},{o},{t}", rng.pick(&['u', 'o', 'g'])),
+    );
     let [u, o, t] = rooms(rng);
-    let (nu, no) = (labelling.user_count, labelling.object_count);
-    line(out, format!("L,{u},{o},{t},0,{nu},{no}"));
-    for (tag, bytes) in [
-        ('u', &labelling.user_labels),
-        ('o', &labelling.object_labels),
-        ('g', &labelling.table),
+    for (tag, count, bytes) in [
+        ('u', labelling.user_count, &labelling.user_labels),
+        ('o', labelling.object_count, &labelling.object_labels),
+        ('g', labelling.object_count, &labelling.table),
     ] {
-        let bytes: String = bytes.iter().map(|byte| format!(",{byte}")).collect();
-        line(out, format!("{tag}{bytes}"));
+        line(out, format!("{tag},0,{count},{u},{o},{t}{}", fields(bytes)));
     }
 }
 
 fn tuple_lines(out: &mut String, rng: &mut Rng, policy: &Policy) -> Vec<Vec<Stored>> {
-    line(out, format!("T,{},16384,12,0", 8 + rng.below(3)));
+    line(out, format!("T,12,0,{},16384", 8 + rng.below(3)));
     let mut listings = Vec::new();
     for action in 0..ACTIONS {
         let listing = tuples(policy, action).expect("an action");
         let count = listing.len();
         if count > 0 && rng.chance(1, 4) {
-            line(out, format!("T,{action},{},20,0", short(rng, count)));
+            line(out, format!("T,20,0,{action},{}", short(rng, count)));
         }
         let room = enough(rng, count, MOST_PAIRS);
         line(
             out,
-            format!("T,{action},{room},0,{count}{}", runs(&listing)),
+            format!("T,0,{count},{action},{room}{}", runs(&listing)),
         );
         listings.push(listing);
     }
@@ -233,20 +219,22 @@ fn decision_lines(
         let action = cases::action(rng, largest);
         let (us, os) = sets(rng, policy, largest);
         let answer = decision(decide(policy, action, us, os));
-        line(out, format!("F,{action},{us},{os},{answer}"));
+        line(out, format!("F,{answer},0,{action},{us},{os}"));
     }
     for _ in 0..DECISIONS {
         let (action, listing) = rng.pick(&Vec::from_iter(listings.iter().enumerate()));
         let (us, os) = sets(rng, policy, largest);
         let count = listing_count(rng, listing.len() as u32, largest);
-        let answer = decision(decide_by_tuples(policy, us, os, listing, count as usize));
-        line(out, format!("B,{action},{us},{os},{count},{answer}"));
+        let mut buffer = listing.clone();
+        buffer.resize(MOST_PAIRS, BLANK_ENTRY);
+        let answer = decision(decide_by_tuples(policy, us, os, &buffer, count as usize));
+        line(out, format!("B,{answer},0,{action},{us},{os},{count}"));
     }
     for _ in 0..DECISIONS {
         let one = cases::set(rng, policy.user_sets(), largest);
         let other = cases::set(rng, policy.user_sets(), largest);
         let answer = separation(policy, one, other);
-        line(out, format!("P,{one},{other},{answer}"));
+        line(out, format!("P,{answer},0,{one},{other}"));
     }
 }
 
@@ -257,12 +245,13 @@ fn sets(rng: &mut Rng, policy: &Policy, largest: u32) -> (Set, Set) {
     (user_set, object_set)
 }
 
-/// Mostly the length of the listing, else half of it or too much.
+/// Mostly the length of the listing, else half of it or more, up to too much.
 fn listing_count(rng: &mut Rng, length: u32, largest: u32) -> u32 {
-    let count = match rng.below(8) {
+    let count = match rng.below(10) {
         0 => length / 2,
         1 => length + 1,
-        2 => largest,
+        2 => MOST_PAIRS as u32 + 1,
+        3 => largest,
         _ => length,
     };
     count.min(largest)
@@ -286,80 +275,136 @@ fn decision(answer: Result<bool, Refusal>) -> u32 {
 
 fn answer_number(answer: Answer) -> u32 {
     match answer {
-        Answer::Done => 0,
+        Answer::Denied => 0,
         Answer::Granted => 1,
-        Answer::Denied => 2,
+        Answer::Done => 2,
         Answer::Refused(refusal) => refusal,
     }
 }
 
-/// A list of calls on a fresh board; the sessions that are open afterwards.
-fn call_lines(out: &mut String, rng: &mut Rng, policy: &Policy, largest: u32) -> Sessions {
-    let count = rng.below(MOST_CALLS + 1);
-    let calls = cases::calls(rng, policy, count, largest);
-    let (answers, sessions) = run(policy, &calls);
-    line(out, "S".to_string());
-    for (call, answer) in calls.iter().zip(answers) {
-        line(
-            out,
-            format!("{},{}", call_text(call), answer_number(answer)),
-        );
-    }
-    sessions
+/// The numbers handed to each request: NU and NO, and how many bytes of the user
+/// labels, the object labels and the table.
+struct Lent {
+    counts: [usize; 2],
+    rooms: [usize; 3],
 }
 
-fn call_text(call: &Call) -> String {
-    match call {
-        Call::Open { user, session, set } => format!("O,{user},{session},{set}"),
-        Call::Add { user, session, set } => format!("A,{user},{session},{set}"),
-        Call::Drop { user, session, set } => format!("D,{user},{session},{set}"),
-        Call::Close { user, session } => format!("K,{user},{session}"),
+/// A list of calls with their answers and the sessions that are open afterwards.
+fn list_line(out: &mut String, lent: &Lent, calls: &[Call], answers: &[u32], held: &Sessions) {
+    let entries = held.iter().flat_map(|(&s, &(user, set))| [s, user, set]);
+    line(
+        out,
+        format!(
+            "S,0,{}{}{}{}{}{}",
+            calls.len(),
+            fields(lent.counts),
+            fields(lent.rooms),
+            fields(calls.iter().flat_map(call_numbers)),
+            fields(answers),
+            fields(entries)
+        ),
+    );
+}
+
+fn call_numbers(call: &Call) -> [u32; 4] {
+    match *call {
+        Call::Open { user, session, set } => [0, user, session, set],
+        Call::Add { user, session, set } => [1, user, session, set],
+        Call::Drop { user, session, set } => [2, user, session, set],
+        Call::Close { user, session } => [3, user, session, 0],
         Call::Request {
             session,
             action,
             object,
-        } => format!("Q,{session},{action},{object}"),
+        } => [4, session, action, object],
     }
 }
 
-/// Requests of open sessions, each with buffers that end at the places read or
-/// just before one of them.
-fn short_requests(
+/// A list of calls with what the compiler gives; the sessions that are open
+/// afterwards.
+fn call_line(
+    out: &mut String,
+    rng: &mut Rng,
+    policy: &Policy,
+    labelling: &Labelling,
+    largest: u32,
+) -> Sessions {
+    let count = rng.below(MOST_CALLS + 1);
+    let calls = cases::calls(rng, policy, count, largest);
+    let (answers, sessions) = run(policy, &calls);
+    let answers: Vec<u32> = answers.into_iter().map(answer_number).collect();
+    let lent = Lent {
+        counts: [labelling.user_count, labelling.object_count],
+        rooms: [MOST_SETS, MOST_SETS, MOST_PAIRS],
+    };
+    list_line(out, &lent, &calls, &answers, &sessions);
+    sessions
+}
+
+/// A session opened, then a request of it with buffers that end at the places
+/// read or just before one of them, and sometimes with another NO.
+fn request_lines(
     out: &mut String,
     rng: &mut Rng,
     policy: &Policy,
     labelling: &Labelling,
     sessions: &Sessions,
 ) {
-    let open: Vec<(u32, Set)> = sessions.iter().map(|(&s, &(_, set))| (s, set)).collect();
+    let open: Vec<(u32, (u32, Set))> = sessions.iter().map(|(&s, &e)| (s, e)).collect();
     if open.is_empty() || policy.objects.is_empty() {
         return;
     }
     for _ in 0..SHORT_REQUESTS {
-        let (session, held) = rng.pick(&open);
+        let (session, (user, set)) = rng.pick(&open);
         let (object, object_set) = rng.pick(&policy.objects);
         let action = rng.below(ACTIONS + 1);
-        let ul = usize::from(labelling.user_labels[held as usize]);
-        let ol = usize::from(labelling.object_labels[object_set as usize]);
-        let place = ul * labelling.object_count + ol;
-        let mut rooms = [held as usize + 1, object_set as usize + 1, place + 1];
-        let lacking = rng.index(5);
-        if let Some(room) = rooms.get_mut(lacking) {
+        let calls = [
+            Call::Open { user, session, set },
+            Call::Request {
+                session,
+                action,
+                object,
+            },
+        ];
+        let mut lent = Lent {
+            counts: [labelling.user_count, labelling.object_count],
+            rooms: [MOST_SETS, MOST_SETS, MOST_PAIRS],
+        };
+        if rng.chance(1, 3) {
+            lent.counts = [rng.index(130), rng.index(130)];
+        }
+        let places = places(labelling, &lent, set, object_set);
+        for (room, place) in lent.rooms.iter_mut().zip(places) {
+            *room = (place + 1).min(*room);
+        }
+        if let Some(room) = lent.rooms.get_mut(rng.index(5)) {
             *room -= 1;
         }
-        let call = Call::Request {
-            session,
-            action,
-            object,
+        let (opened, _) = step(policy, &Sessions::new(), &calls[0]);
+        let answer = match step(policy, &opened, &calls[1]).1 {
+            Answer::Refused(refusal) => refusal,
+            _ => looked_up(labelling, &lent, places, action),
         };
-        let mut answer = answer_number(step(policy, sessions, &call).1);
-        if lacking < rooms.len() && answer < 12 {
-            answer = 20;
-        }
-        let [u, o, t] = rooms;
-        line(
-            out,
-            format!("q,{session},{action},{object},{u},{o},{t},{answer}"),
-        );
+        list_line(out, &lent, &calls, &[2, answer], &opened);
     }
+}
+
+/// The places that a request reads in its three buffers.
+fn places(labelling: &Labelling, lent: &Lent, set: Set, object_set: Set) -> [usize; 3] {
+    let ul = usize::from(labelling.user_labels[set as usize]);
+    let ol = usize::from(labelling.object_labels[object_set as usize]);
+    [set as usize, object_set as usize, ul * lent.counts[1] + ol]
+}
+
+/// What a request that is not refused by 11 to 19 finds at these places.
+fn looked_up(labelling: &Labelling, lent: &Lent, places: [usize; 3], action: u32) -> u32 {
+    if places
+        .iter()
+        .zip(lent.rooms)
+        .any(|(&place, room)| place >= room)
+    {
+        return 20;
+    }
+    let byte = labelling.table.get(places[2]).unwrap_or(&BLANK);
+    u32::from(byte >> action & 1)
 }

@@ -1,7 +1,7 @@
 //! The case files that are stored with the product: the requirement's examples
 //! with the requirement's answers, and made cases from one seed.
 
-use crate::case_file::{made, text_lines};
+use crate::case_file::{case_of, made};
 
 const SEED: u64 = 3;
 const CASES: u64 = 700;
@@ -27,26 +27,19 @@ end
 
 /// What the requirement says of its text: labels, table, tuples, and calls.
 const ANSWERS: &str = "Y
-W,85,0
-L,4,2,6,0,3,2
-u,0,1,2,2
-o,0,1
-g,8,8,8,9,0,1
+W,0,85,85
+u,0,3,4,2,6,0,1,2,2
+o,0,2,4,2,6,0,1
+g,0,2,4,2,6,8,8,8,9,0,1
 T,0,3,0,3,3,3,5,5,7,7
-T,3,4,0,4,0,3
-F,3,3,0,2
-S
-O,0,0,1,0
-O,0,1,3,0
-O,0,2,4,19
-D,0,0,4,19
-Q,0,1,0,2
-Q,0,8,0,12
-Q,0,3,0,1
-Q,1,3,0,2
-D,0,1,2,0
-A,0,1,2,0
-N,0,0,1,1,0,3
+T,0,4,3,4,0,3
+F,2,0,3,3,0
+S,0,10,3,2,4,2,6,\
+0,0,0,1,0,0,1,3,0,0,2,4,2,0,0,4,\
+4,0,1,0,4,0,8,0,4,0,3,0,4,1,3,0,\
+2,0,1,2,1,0,1,2,\
+2,2,19,19,0,12,1,0,2,2,\
+0,0,1,1,0,3
 ";
 
 /// The requirement's edges: what stands for a line of the text, or after its
@@ -71,8 +64,8 @@ const EDGES: [(&str, &str, &str); 16] = [
 ];
 
 /// The files by their numbers: the examples, then the made cases.
-pub fn files() -> Vec<String> {
-    let mut files = vec![examples(), String::new()];
+pub fn files() -> Vec<Vec<u8>> {
+    let mut files = vec![examples(), Vec::new()];
     let mut large = 0;
     for case in 0..CASES {
         let lines = made(SEED, case, u32::MAX);
@@ -83,26 +76,24 @@ pub fn files() -> Vec<String> {
             large += lines.len();
         }
         match files.last_mut() {
-            Some(file) if file.len() + lines.len() <= FILE => *file += &lines,
+            Some(file) if file.len() + lines.len() <= FILE => file.extend(lines),
             _ => files.push(lines),
         }
     }
     files
 }
 
-fn examples() -> String {
-    let numbered = example_cases().into_iter().enumerate();
+fn examples() -> Vec<u8> {
+    let numbered = (0..).zip(example_cases());
     numbered
-        .map(|(case, (text, answers))| {
-            format!("C,{case}\n{}{answers}", text_lines(text.as_bytes()))
-        })
+        .flat_map(|(case, (text, answers))| case_of(case, text.as_bytes(), &answers))
         .collect()
 }
 
 /// Texts, each with the answers' lines, of which the first is the reading's.
 fn example_cases() -> Vec<(String, String)> {
     let no_rules = TEXT.replace("rule,0,u0,o0,a\nrule,3,u1,n\n", "");
-    let all_alike = "Y\nL,4,2,1,0,1,1\nu,0,0,0,0\no,0,0\ng,0\n";
+    let all_alike = "Y\nu,0,1,4,2,1,0,0,0,0\no,0,1,4,2,1,0,0\ng,0,1,4,2,1,0\n";
     let mut cases = vec![
         (TEXT.to_string(), ANSWERS.to_string()),
         (no_rules, all_alike.to_string()),

@@ -5,18 +5,44 @@ use std::path::Path;
 use std::sync::OnceLock;
 
 /// The files, made once for all tests.
-fn files() -> &'static [String] {
-    static FILES: OnceLock<Vec<String>> = OnceLock::new();
+fn files() -> &'static [Vec<u8>] {
+    static FILES: OnceLock<Vec<Vec<u8>>> = OnceLock::new();
     FILES.get_or_init(reference::stored::files)
 }
 
-/// The last number of each line with one of these tags.
-fn answers(files: &[String], tags: &str) -> BTreeSet<u32> {
-    let lines = files.iter().flat_map(|file| file.lines());
+/// All lines; texts stand among them.
+fn lines() -> Vec<String> {
+    let all = files().concat();
+    let lines = all.split(|&byte| byte == b'\n');
     lines
-        .filter(|line| line.starts_with(|tag| tags.contains(tag)))
-        .map(|line| line.rsplit(',').next().expect("an answer"))
-        .map(|answer| answer.parse().expect("a number"))
+        .map(|line| String::from_utf8_lossy(line).into_owned())
+        .collect()
+}
+
+/// The numbers of a line with this tag.
+fn numbers(line: &str, tag: char) -> Option<Vec<u32>> {
+    let fields = line.strip_prefix(tag)?.strip_prefix(',')?.split(',');
+    fields.map(|field| field.parse().ok()).collect()
+}
+
+/// The answers of the lines with one of these tags.
+fn answers(tags: &str) -> BTreeSet<u32> {
+    let lines = lines();
+    let found = tags
+        .chars()
+        .flat_map(|tag| lines.iter().filter_map(move |line| numbers(line, tag)));
+    found.map(|numbers| numbers[0]).collect()
+}
+
+/// The answers of the calls in lists.
+fn call_answers() -> BTreeSet<u32> {
+    let lists = lines();
+    let lists = lists.iter().filter_map(|line| numbers(line, 'S'));
+    lists
+        .flat_map(|list| {
+            let calls = list[1] as usize;
+            list[7 + 4 * calls..7 + 5 * calls].to_vec()
+        })
         .collect()
 }
 
@@ -28,7 +54,7 @@ fn the_stored_files_are_these() {
     assert_eq!(stored, files.len());
     for (number, file) in files.iter().enumerate() {
         let stored = std::fs::read(folder.join(format!("cases-{number:02}")));
-        assert!(stored.expect("a file") == file.as_bytes(), "{number}");
+        assert!(stored.expect("a file") == *file, "{number}");
     }
 }
 
@@ -36,40 +62,32 @@ fn the_stored_files_are_these() {
 fn a_buffer_of_64_kib_holds_each_file_and_all_are_small_together() {
     let files = files();
     assert!(files.iter().all(|file| file.len() <= 65_536));
-    assert!(files.iter().map(String::len).sum::<usize>() < 1_000_000);
-    assert!(files.iter().all(|file| file.is_ascii()));
+    assert!(files.iter().map(Vec::len).sum::<usize>() < 1_000_000);
 }
 
 #[test]
 fn every_refusal_comes_up() {
-    let files = files();
-    let refused: BTreeSet<u32> = files
-        .iter()
-        .flat_map(|file| file.lines())
-        .filter_map(|line| line.strip_prefix("R,")?.split(',').next()?.parse().ok())
-        .collect();
+    let refused = answers("R");
     assert!(refused.iter().copied().eq(1..=10), "{refused:?}");
-    let calls = answers(files, "OADKQq");
+    let calls = call_answers();
     let all = [0, 1, 2].into_iter().chain(11..=20);
     assert!(calls.iter().copied().eq(all), "{calls:?}");
-    let listings: BTreeSet<u32> = files
-        .iter()
-        .flat_map(|file| file.lines())
-        .filter_map(|line| line.strip_prefix("T,")?.split(',').nth(2)?.parse().ok())
-        .collect();
-    assert_eq!(listings, BTreeSet::from([0, 11, 12, 20]));
-    assert_eq!(answers(files, "F"), BTreeSet::from([1, 2, 11, 12, 19]));
-    assert_eq!(answers(files, "B"), BTreeSet::from([1, 2, 11, 19, 20]));
-    assert_eq!(answers(files, "P"), BTreeSet::from([3, 4, 11, 19]));
-    assert_eq!(answers(files, "W"), BTreeSet::from([0, 11, 20]));
+    for tag in ["u", "o", "g", "W"] {
+        assert_eq!(answers(tag), BTreeSet::from([0, 11, 20]), "{tag}");
+    }
+    assert_eq!(answers("T"), BTreeSet::from([0, 11, 12, 20]));
+    assert_eq!(answers("F"), BTreeSet::from([1, 2, 11, 12, 19]));
+    assert_eq!(answers("B"), BTreeSet::from([1, 2, 11, 19, 20]));
+    assert_eq!(answers("P"), BTreeSet::from([3, 4, 11, 19]));
 }
 
 #[test]
 fn the_limits_come_up() {
-    let files = files().concat();
-    assert!(files.lines().any(|line| line.ends_with(",0,128,128")));
-    assert!(files.lines().any(|line| line.starts_with("=user,31,")));
-    assert!(files.lines().any(|line| line.starts_with("=object,63,")));
-    let words = |line: &str| line.starts_with("=rule,7,") && line.split(',').count() == 34;
-    assert!(files.lines().any(words));
+    let lines = lines();
+    let begins = |start: &str| lines.iter().any(|line| line.starts_with(start));
+    for start in ["u,0,128,", "o,0,128,", "user,31,", "object,63,"] {
+        assert!(begins(start), "{start}");
+    }
+    let words = |line: &String| line.starts_with("rule,7,") && line.split(',').count() == 34;
+    assert!(lines.iter().any(words));
 }

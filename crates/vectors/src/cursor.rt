@@ -1,120 +1,37 @@
-// A line of a case file: the numbers behind its tag, parted by commas.
-ghost use Prim.Native.Nat.{_≤_, _<_};
-ghost use lib.ListN.{length};
-use text::number::Numeral;
-use text::parts;
+// A line of a case file: a tag, and numbers that each stand behind a comma.
+ghost use Prim.Native.Nat.{_<_};
 
-// The most numbers that are taken from a line at once, and the largest.
-pub const NUMBERS: usize = 8;
+// The most numbers of a line: a table's bytes, and those before them.
+pub const NUMBERS: usize = 16400;
 
 const LARGEST: u64 = 4294967295;
 
-// Taken of a line: whether as many stand there as are asked for, what they are, and where the next field starts.
-pub struct Taken {
-    pub good: bool,
-    pub values: [u32; NUMBERS],
-    pub next: usize,
-}
-
-// A digit after others.
-fn with_digit(v: u64, d: u8) -> u64
-    requires { ⌜ (v < 4294967296) × (48 ≤ d) ⌝ }
-    ensures { λ r. ⌜ r < 42949675520 ⌝ }
-{
-    v * 10 + (d - b'0') as u64
-}
-
-// The number that a field is, below 2^32.
-fn number(field: &[u8]) -> Numeral {
-    if field.len() == 0 {
-        return Numeral::Malformed;
+// A digit after others; the largest number stands for all above it.
+fn with_digit(v: u32, d: u8) -> u32 {
+    let x = v as u64 * 10 + (d % 16) as u64;
+    if LARGEST < x {
+        return 4294967295;
     }
-    let mut v: u64 = 0;
-    let mut i = 0;
-    while i < field.len() {
-        let d = field[i];
-        if d < b'0' {
-            return Numeral::Malformed;
-        }
-        if b'9' < d {
-            return Numeral::Malformed;
-        }
-        v = with_digit(v, d);
-        if LARGEST < v {
-            return Numeral::Malformed;
+    x as u32
+}
+
+// Puts the numbers of a line into an array of zeros, and says how many they are.
+pub fn numbers(line: &[u8], into: &mut [u32; NUMBERS]) -> usize {
+    let mut n = 0;
+    let mut i = 1;
+    while i < line.len() {
+        let d = line[i];
+        if d == b',' {
+            n = std::num::wrapping_add_usize(n, 1);
+        } else {
+            let last = std::num::wrapping_sub_usize(n, 1);
+            if last < NUMBERS {
+                into[last] = with_digit(into[last], d);
+            }
         }
         i += 1;
     }
-    Numeral::Value(v as u32)
-}
-
-// A field of a line.
-pub struct Field {
-    pub good: bool,
-    pub value: u32,
-    pub next: usize,
-}
-
-// The number that stands at a place, up to the next comma or the line's end.
-pub fn number_at(line: &[u8], at: usize) -> Field
-    requires { ⌜ at ≤ length (now line) ⌝ }
-    ensures { λ r. ⌜ at < r .next ⌝ }
-{
-    let e = parts::find(line, at, b',');
-    let x = number(&line[at..e]);
-    match x {
-        Numeral::Value(v) => Field {
-            good: true,
-            value: v,
-            next: e + 1,
-        },
-        Numeral::Malformed => Field {
-            good: false,
-            value: 0,
-            next: e + 1,
-        },
-    }
-}
-
-// The n numbers from a place on.
-pub fn numbers_at(line: &[u8], from: usize, n: usize) -> Taken {
-    let mut values = [0u32; NUMBERS];
-    let mut at = from;
-    let mut i = 0;
-    while i < n {
-        if NUMBERS <= i {
-            return none();
-        }
-        if line.len() < at {
-            return none();
-        }
-        let f = number_at(line, at);
-        if !f.good {
-            return none();
-        }
-        values[i] = f.value;
-        at = f.next;
-        i += 1;
-    }
-    Taken {
-        good: true,
-        values,
-        next: at,
-    }
-}
-
-fn none() -> Taken {
-    let values = [0u32; NUMBERS];
-    Taken {
-        good: false,
-        values,
-        next: 0,
-    }
-}
-
-// The first n numbers of a line, behind the tag and a comma.
-pub fn numbers(line: &[u8], n: usize) -> Taken {
-    numbers_at(line, 2, n)
+    n
 }
 
 // The first byte of a line; 0 where there is none.
@@ -126,14 +43,35 @@ pub fn tag(line: &[u8]) -> u8 {
 }
 
 // A number as a length or a place.
-pub fn size(x: u32) -> usize {
+pub fn size(x: u32) -> usize
+    ensures { λ r. ⌜ r < 4294967296 ⌝ }
+{
     x as usize
 }
 
-// The first n bytes of a buffer, or all where there are not so many.
-pub fn front(buffer: &[u8], n: usize) -> &[u8] {
-    if buffer.len() < n {
+// Some of the numbers; all where there are no such.
+pub fn part(numbers: &[u32], from: usize, to: usize) -> &[u32] {
+    if to < from {
+        return numbers;
+    }
+    if numbers.len() < to {
+        return numbers;
+    }
+    &numbers[from..to]
+}
+
+// Some of the bytes; all where there are no such.
+pub fn bytes(buffer: &[u8], from: usize, to: usize) -> &[u8] {
+    if to < from {
         return buffer;
     }
-    &buffer[..n]
+    if buffer.len() < to {
+        return buffer;
+    }
+    &buffer[from..to]
+}
+
+// The number at a place; a blank behind the last.
+pub fn at(numbers: &[u32], i: usize, blank: u32) -> u32 {
+    if i < numbers.len() { numbers[i] } else { blank }
 }

@@ -1,142 +1,105 @@
 // Plays stored cases on the engine and compares: the document's examples, and texts, decisions, labels and lists of calls with the answers of
 // a second implementation. Prints how many lines of each kind agree, or the first that does not.
-use outcome::Outcome;
+ghost use Prim.Native.Nat.{_≤_, _<_};
+use cursor::NUMBERS;
+use found::Found;
+use tally::KINDS;
 use text::parts;
 
+mod buffers;
 mod cursor;
 mod decisions;
-mod engine;
+mod found;
 mod labelling;
-mod outcome;
-mod play;
 mod sessions;
 mod tally;
 mod texts;
 
-use play::State;
-use tally::Tally;
-
-// More bytes than a text may have.
-const TEXT: usize = 8448;
-
-// The most sets of a side, and the most pairs of them.
-const SETS: usize = 128;
-
-const PAIRS: usize = 16384;
-
 // Case files are numbered in two digits.
 const FILES: u8 = 100;
 
-// How a file compares: whether all its lines agree, and the numbers after it.
-struct Run {
-    good: bool,
-    tally: Tally,
-}
-
-// How far a file is played: whether all lines up to there agree, the state after them and the numbers.
-struct Progress {
-    good: bool,
-    state: State,
-    tally: Tally,
-}
-
-fn agrees(outcome: Outcome) -> bool {
-    if let Outcome::Agrees = outcome {
-        true
-    } else {
-        false
-    }
-}
-
-// Plays a line, and says where it differs.
-fn play_line(
-    path: &[u8],
+// A case: its number, and where its text stands in the file.
+struct Case {
     number: u32,
-    line: &[u8],
-    before: Progress,
-    text: &mut [u8],
-    users: &mut [u8],
-    objects: &mut [u8],
-    table: &mut [u8],
-) -> Progress {
-    let tag = cursor::tag(line);
-    let state = before.state;
-    let tally = before.tally;
-    let turn = play::line(tag, line, state, text, users, objects, table);
-    let outcome = turn.outcome;
-    let after = turn.state;
-    if !agrees(outcome) {
-        tally::print_line(path, after.case, number, line);
-        tally::print_outcome(outcome);
-        return Progress {
-            good: false,
-            state: after,
-            tally,
-        };
+    from: usize,
+    to: usize,
+}
+
+// What the engine gives for a line.
+fn answer(tag: u8, a: &[u32; NUMBERS], n: usize, text: &[u8]) -> Found {
+    match tag {
+        b'R' | b'Y' => texts::read(text),
+        b'W' => texts::written(a, text),
+        b'u' | b'o' | b'g' => labelling::compiled(tag, a, n, text),
+        b'T' => decisions::listed(a, n, text),
+        b'F' => decisions::by_formula(a, text),
+        b'B' => decisions::by_tuples(a, text),
+        b'P' => decisions::apart(a, text),
+        b'S' => sessions::played(a, n, text),
+        _ => found::bare(found::NO_KIND),
     }
-    let counted = tally::counted(tally, tag);
-    Progress {
-        good: true,
-        state: after,
-        tally: counted,
+}
+
+// Plays a line, and says whether it agrees.
+fn play_line(line: &[u8], text: &[u8], counts: &mut [u32; KINDS]) -> bool {
+    let mut a = [0u32; NUMBERS];
+    let n = cursor::numbers(line, &mut a);
+    let tag = cursor::tag(line);
+    let found = answer(tag, &a, n, text);
+    if !found::agrees(found, a[0], cursor::size(a[1])) {
+        tally::print_found(line, found);
+        return false;
+    }
+    tally::count(counts, tag, a[1]);
+    true
+}
+
+// The case that a `C` line begins; its text stands at a place behind the line.
+fn begin(line: &[u8], at: usize) -> Case
+    requires { ⌜ at ≤ 9223372036854775808 ⌝ }
+    ensures { λ r. ⌜ (at ≤ r .to) × (r .to < 9223372041149743104) ⌝ }
+{
+    let mut a = [0u32; NUMBERS];
+    cursor::numbers(line, &mut a);
+    Case {
+        number: a[0],
+        from: at,
+        to: at + cursor::size(a[1]),
     }
 }
 
 // Plays the lines of a file.
-fn play_lines(
-    path: &[u8],
-    file: &[u8],
-    before: Tally,
-    text: &mut [u8],
-    users: &mut [u8],
-    objects: &mut [u8],
-    table: &mut [u8],
-) -> Run {
-    let state = play::start(0);
-    let mut done = Progress {
-        good: true,
-        state,
-        tally: before,
+fn play_lines(file: &[u8], counts: &mut [u32; KINDS]) -> bool {
+    let mut case = Case {
+        number: 0,
+        from: 0,
+        to: 0,
     };
-    let mut number: u32 = 0;
     let mut at = 0;
     while at < file.len() {
         let e = parts::find(file, at, 10);
         let line = &file[at..e];
         at = e + 1;
-        number = std::num::wrapping_add_u32(number, 1);
-        done = play_line(path, number, line, done, text, users, objects, table);
-        if !done.good {
-            let tally = done.tally;
-            return Run { good: false, tally };
+        if cursor::tag(line) == b'C' {
+            case = begin(line, at);
+            at = case.to + 1;
+        } else if !play_line(line, cursor::bytes(file, case.from, case.to), counts) {
+            tally::print(b"differs: a line of case ", cursor::size(case.number));
+            return false;
         }
     }
-    let tally = done.tally;
-    Run { good: true, tally }
+    true
 }
 
-// Plays a file, with blank buffers.
-fn play_file(path: &[u8], fd: i32, before: Tally) -> Run {
+// Plays a file.
+fn play_file(fd: i32, counts: &mut [u32; KINDS]) -> bool {
     let mut file = io::large_buffer();
     let n = io::read_full(fd, &mut file);
-    let mut text = [0u8; TEXT];
-    let mut users = [0u8; SETS];
-    let mut objects = [0u8; SETS];
-    let mut table = [0u8; PAIRS];
-    play_lines(
-        path,
-        &file[..n],
-        before,
-        &mut text,
-        &mut users,
-        &mut objects,
-        &mut table,
-    )
+    play_lines(&file[..n], counts)
 }
 
 // Plays the files cases-00, cases-01 and so on, as many as there are.
-fn play_files() -> Run {
-    let mut tally = tally::none();
+fn play_files(counts: &mut [u32; KINDS]) -> bool {
     let mut i = 0u8;
     while i < FILES {
         let path = [
@@ -151,23 +114,25 @@ fn play_files() -> Run {
         ];
         let fd = os::open_read(&path);
         if fd < 0 {
-            return Run { good: true, tally };
+            return true;
         }
-        let r = play_file(&path, fd, tally);
+        let good = play_file(fd, counts);
         libc::close(fd);
-        if !r.good {
-            return r;
+        if !good {
+            tally::print(b"in the case file ", i as usize);
+            return false;
         }
-        tally = r.tally;
         i += 1;
     }
-    Run { good: true, tally }
+    true
 }
 
 fn main() {
-    let all = play_files();
-    if all.good {
-        let tally = all.tally;
-        tally::print_tally(tally);
+    let mut counts = [0u32; KINDS];
+    if play_files(&mut counts) {
+        tally::print_counts(
+            b"texts refused alike: ,texts accepted alike: ,writings alike: ,label buffers and tables alike: ,listings alike: ,decisions by formula alike: ,decisions by tuples alike: ,answers of Apart alike: ,lists of calls alike: ,calls in these lists: ,",
+            &counts,
+        );
     }
 }

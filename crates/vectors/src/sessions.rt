@@ -1,158 +1,121 @@
-// Sessions: calls on a board, and the sessions that it holds after them.
+// Sessions: lists of calls on a fresh board, their answers, and the sessions that the board holds after them.
+use crate::buffers;
+use crate::buffers::BLANK;
 use crate::cursor;
-use crate::engine;
-use crate::outcome;
-use crate::outcome::Outcome;
+use crate::cursor::NUMBERS;
+use crate::found;
+use crate::found::Found;
+use crate::labelling::PAIRS;
+use crate::labelling::SETS;
+use crate::texts::policy_of;
 use board::Board;
 use board::Session;
-use board::Step;
 use labels::Counts;
+use policy::refusal::number_of;
+use runner::Verdict;
 
 // The sessions of a board.
 const SESSIONS: usize = 32;
 
-// The board after a call, and how its answer compares with the line.
-pub struct Played {
-    pub outcome: Outcome,
-    pub board: Board,
-}
+// More calls than a list has.
+const CALLS: usize = 64;
 
-fn malformed(board: Board) -> Played {
-    Played {
-        outcome: Outcome::Malformed,
-        board,
-    }
-}
-
-// Whether a call answers as stored.
-fn answered(step: Step, stored: u32) -> Played {
-    let answer = step.answer;
-    let board = step.board;
-    let outcome = outcome::compared(outcome::of_answer(answer), stored);
-    Played { outcome, board }
-}
-
-// `O`, `A` or `D,user,session,set,answer`: open, add, drop.
-pub fn change(tag: u8, line: &[u8], text: &[u8], board: Board) -> Played {
-    let n = cursor::numbers(line, 4);
-    if !n.good {
-        return malformed(board);
-    }
-    let a = n.values;
-    if tag == b'O' {
-        return answered(engine::open(text, board, a[0], a[1], a[2]), a[3]);
-    }
-    if tag == b'A' {
-        return answered(engine::add(text, board, a[0], a[1], a[2]), a[3]);
-    }
-    answered(engine::drop(text, board, a[0], a[1], a[2]), a[3])
-}
-
-// `K,user,session,answer`: close.
-pub fn close(line: &[u8], text: &[u8], board: Board) -> Played {
-    let n = cursor::numbers(line, 3);
-    if !n.good {
-        return malformed(board);
-    }
-    let a = n.values;
-    answered(engine::close(text, board, a[0], a[1]), a[2])
-}
-
-// `Q,session,action,object,answer`: a request, with the whole buffers.
-pub fn request(
-    line: &[u8],
-    text: &[u8],
-    board: Board,
-    counts: Counts,
-    users: &[u8],
-    objects: &[u8],
-    table: &[u8],
-) -> Played {
-    let n = cursor::numbers(line, 4);
-    if !n.good {
-        return malformed(board);
-    }
-    let a = n.values;
-    let step = engine::request(text, board, counts, users, objects, table, a[0], a[1], a[2]);
-    answered(step, a[3])
-}
-
-// `q,session,action,object,users,objects,table,answer`: a request with only so many bytes of each buffer.
-pub fn request_in(
-    line: &[u8],
-    text: &[u8],
-    board: Board,
-    counts: Counts,
-    users: &[u8],
-    objects: &[u8],
-    table: &[u8],
-) -> Played {
-    let n = cursor::numbers(line, 7);
-    if !n.good {
-        return malformed(board);
-    }
-    let a = n.values;
-    let u = cursor::front(users, cursor::size(a[3]));
-    let o = cursor::front(objects, cursor::size(a[4]));
-    let t = cursor::front(table, cursor::size(a[5]));
-    let step = engine::request(text, board, counts, u, o, t, a[0], a[1], a[2]);
-    answered(step, a[6])
-}
-
-// Whether two entries are the same.
-fn same(one: Session, other: Session) -> bool {
-    if one.live {
-        if !other.live {
-            return false;
-        }
-    } else if other.live {
+// Whether an open session is the one that stands at a place as its number, user and set.
+fn stands(due: &[u32], k: usize, number: usize, session: Session) -> bool {
+    if due.len() < 3 {
         return false;
     }
-    if one.user != other.user {
+    if due.len() - 3 < k {
         return false;
     }
-    one.held == other.held
+    if cursor::size(due[k]) != number {
+        return false;
+    }
+    if due[k + 1] != session.user {
+        return false;
+    }
+    due[k + 2] == session.held
 }
 
-// The first session at which two boards differ.
-fn unlike(one: Board, other: Board) -> usize {
-    let these = one.sessions;
-    let those = other.sessions;
+// The first session, from 1, at which a board does not hold exactly the sessions due; 0 where there is none.
+fn unlike(board: Board, due: &[u32]) -> usize {
+    let sessions = board.sessions;
+    let mut k = 0;
     let mut i = 0;
     while i < SESSIONS {
-        let x = these[i];
-        let y = those[i];
-        if !same(x, y) {
-            return i;
+        let session = sessions[i];
+        if session.live {
+            if !stands(due, k, i, session) {
+                return i + 1;
+            }
+            k = std::num::wrapping_add_usize(k, 3);
         }
         i += 1;
     }
-    i
+    if k == due.len() { 0 } else { SESSIONS }
 }
 
-// `N` and for each open session `session,user,set`: whether the board holds exactly these.
-pub fn stands_so(board: Board, line: &[u8]) -> Outcome {
-    let mut due = board::fresh();
-    let mut at = 2;
-    while at < line.len() {
-        let n = cursor::numbers_at(line, at, 3);
-        if !n.good {
-            return Outcome::Malformed;
-        }
-        if n.next <= at {
-            return Outcome::Malformed;
-        }
-        let a = n.values;
-        let i = cursor::size(a[0]);
-        if SESSIONS <= i {
-            return Outcome::Malformed;
-        }
-        due.sessions[i] = Session {
-            live: true,
-            user: a[1],
-            held: a[2],
-        };
-        at = n.next;
+// A place that differs in the answers; else one in the board, counted on from the answers' buffer.
+fn first(answers: usize, sessions: usize) -> usize {
+    if answers != 0 {
+        return answers;
     }
-    outcome::at_end(unlike(board, due), SESSIONS)
+    if sessions == 0 {
+        return 0;
+    }
+    std::num::wrapping_add_usize(sessions, CALLS)
+}
+
+// Runs the calls with parts of these buffers.
+fn run(
+    a: &[u32; NUMBERS],
+    n: usize,
+    text: &[u8],
+    users: &[u8],
+    objects: &[u8],
+    table: &[u8],
+) -> Found {
+    let counts = Counts {
+        users: a[2],
+        objects: a[3],
+    };
+    let to = 7 + 4 * cursor::size(a[1]);
+    let end = 7 + 5 * cursor::size(a[1]);
+    let mut answers = [BLANK; CALLS];
+    let ran = runner::run(
+        policy_of(text),
+        counts,
+        cursor::bytes(users, 0, cursor::size(a[4])),
+        cursor::bytes(objects, 0, cursor::size(a[5])),
+        cursor::bytes(table, 0, cursor::size(a[6])),
+        cursor::part(a, 7, to),
+        &mut answers,
+    );
+    let verdict = ran.verdict;
+    let board = ran.board;
+    let place = first(
+        buffers::unlike(cursor::part(a, to, end), &answers),
+        unlike(board, cursor::part(a, end, n)),
+    );
+    match verdict {
+        Verdict::Answered(count) => Found {
+            answer: found::DONE,
+            count,
+            place,
+        },
+        Verdict::Refused(why) => Found {
+            answer: number_of(why),
+            count: 0,
+            place,
+        },
+    }
+}
+
+// `S`: a list of calls, with the compiler's buffers.
+pub fn played(a: &[u32; NUMBERS], n: usize, text: &[u8]) -> Found {
+    let mut users = [BLANK; SETS];
+    let mut objects = [BLANK; SETS];
+    let mut table = [BLANK; PAIRS];
+    labels::compiler::compile(policy_of(text), &mut users, &mut objects, &mut table);
+    run(a, n, text, &users, &objects, &table)
 }

@@ -19,7 +19,7 @@ fn main() -> io::Result<()> {
     };
     let mut out = BufWriter::new(io::stdout().lock());
     for case in 0..count {
-        out.write_all(reference::case_file::made(seed, case, largest).as_bytes())?;
+        out.write_all(&reference::case_file::made(seed, case, largest))?;
     }
     out.flush()
 }

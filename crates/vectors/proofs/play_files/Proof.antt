@@ -5,22 +5,19 @@ use Rattle.vectors.proofs.play_files.Statement.{statement}
 use Rattle.vectors.proofs.play_files.Tie as tie
 
 abbrev Inv-loop : tie.InvT-loop
-Inv-loop tally₀ i₀ tally i = i ≤ 100
+Inv-loop counts₀ i₀ t6 counts i = i ≤ 100
 
 abbrev μ-loop : tie.MeasureT-loop
-μ-loop tally₀ i₀ tally i = 100 - i
-
-none-requires : tie.Need-none-requires Inv-loop μ-loop
-none-requires c κs = search needs
+μ-loop counts₀ i₀ t6 counts i = 100 - i
 
 loop-holds : tie.Need-loop-holds Inv-loop μ-loop
 loop-holds c = search needs
 
-add-t8 : tie.Need-add-t8 Inv-loop μ-loop
-add-t8 c = search needs
+add-t9 : tie.Need-add-t9 Inv-loop μ-loop
+add-t9 c = search needs
 
-add-t10 : tie.Need-add-t10 Inv-loop μ-loop
-add-t10 c = search needs
+add-t11 : tie.Need-add-t11 Inv-loop μ-loop
+add-t11 c = search needs
 
 slice-aggregate-open-read : tie.Need-slice-aggregate-open-read Inv-loop μ-loop
 slice-aggregate-open-read c = search needs
@@ -31,14 +28,20 @@ open-read-requires c κs = search needs
 returns : tie.Need-returns Inv-loop μ-loop
 returns c = search needs
 
-slice-aggregate-play-file : tie.Need-slice-aggregate-play-file Inv-loop μ-loop
-slice-aggregate-play-file c = search needs
-
 play-file-requires : tie.Need-play-file-requires Inv-loop μ-loop
 play-file-requires c κs = search needs
 
 close-requires : tie.Need-close-requires Inv-loop μ-loop
 close-requires c κs = search needs
+
+slice-aggregate-print : tie.Need-slice-aggregate-print Inv-loop μ-loop
+slice-aggregate-print c = search needs
+
+cast-print : tie.Need-cast-print Inv-loop μ-loop
+cast-print c = search needs
+
+print-requires : tie.Need-print-requires Inv-loop μ-loop
+print-requires c κs = search needs
 
 returns-2 : tie.Need-returns-2 Inv-loop μ-loop
 returns-2 c = search needs
@@ -61,16 +64,17 @@ play-files-spec =
     (tie.spec
     Inv-loop
     μ-loop
-    none-requires
     loop-holds
-    add-t8
-    add-t10
+    add-t9
+    add-t11
     slice-aggregate-open-read
     open-read-requires
     returns
-    slice-aggregate-play-file
     play-file-requires
     close-requires
+    slice-aggregate-print
+    cast-print
+    print-requires
     returns-2
     add-i
     loop-less

@@ -8,6 +8,9 @@ use Rattle.vectors.proofs.decisions.list_into.Tie as tie
 returns : tie.Need-returns
 returns c = search needs
 
+policy-of-requires : tie.Need-policy-of-requires
+policy-of-requires c κs = search needs
+
 slice-relend-prefix-list : tie.Need-slice-relend-prefix-list
 slice-relend-prefix-list c = search needs
 
@@ -28,6 +31,7 @@ list-into-spec =
     tie.close
     (tie.spec
     returns
+    policy-of-requires
     slice-relend-prefix-list
     slice-aggregate-list
     list-requires

@@ -5,31 +5,31 @@ use Rattle.vectors.proofs.sessions.unlike.Statement.{statement}
 use Rattle.vectors.proofs.sessions.unlike.Tie as tie
 
 abbrev Inv-loop : tie.InvT-loop
-Inv-loop these those i₀ i = i ≤ 32
+Inv-loop due sessions k₀ i₀ k i = i ≤ 32
 
 abbrev μ-loop : tie.MeasureT-loop
-μ-loop these those i₀ i = 32 - i
+μ-loop due sessions k₀ i₀ k i = 32 - i
 
 loop-holds : tie.Need-loop-holds Inv-loop μ-loop
 loop-holds c = search needs
 
-mul-x : tie.Need-mul-x Inv-loop μ-loop
-mul-x c = search needs
+mul-session : tie.Need-mul-session Inv-loop μ-loop
+mul-session c = search needs
 
-array-copy-out-x : tie.Need-array-copy-out-x Inv-loop μ-loop
-array-copy-out-x c = search needs
+array-copy-out-session : tie.Need-array-copy-out-session Inv-loop μ-loop
+array-copy-out-session c = search needs
 
-mul-y : tie.Need-mul-y Inv-loop μ-loop
-mul-y c = search needs
+stands-requires : tie.Need-stands-requires Inv-loop μ-loop
+stands-requires c κs = search needs
 
-array-copy-out-y : tie.Need-array-copy-out-y Inv-loop μ-loop
-array-copy-out-y c = search needs
-
-same-requires : tie.Need-same-requires Inv-loop μ-loop
-same-requires c κs = search needs
+add-result : tie.Need-add-result Inv-loop μ-loop
+add-result c = search needs
 
 returns : tie.Need-returns Inv-loop μ-loop
 returns c = search needs
+
+wrapping-add-usize-requires : tie.Need-wrapping-add-usize-requires Inv-loop μ-loop
+wrapping-add-usize-requires c κs = search needs
 
 add-i : tie.Need-add-i Inv-loop μ-loop
 add-i c = search needs
@@ -43,6 +43,9 @@ loop-again c = search needs
 returns-2 : tie.Need-returns-2 Inv-loop μ-loop
 returns-2 c = search needs
 
+returns-3 : tie.Need-returns-3 Inv-loop μ-loop
+returns-3 c = search needs
+
 pub unlike-spec : {M : Type 1} → statement M
 unlike-spec =
     tie.close
@@ -50,13 +53,14 @@ unlike-spec =
     Inv-loop
     μ-loop
     loop-holds
-    mul-x
-    array-copy-out-x
-    mul-y
-    array-copy-out-y
-    same-requires
+    mul-session
+    array-copy-out-session
+    stands-requires
+    add-result
     returns
+    wrapping-add-usize-requires
     add-i
     loop-less
     loop-again
-    returns-2)
+    returns-2
+    returns-3)

@@ -8,6 +8,9 @@ use Rattle.vectors.proofs.texts.write_into.Tie as tie
 returns : tie.Need-returns
 returns c = search needs
 
+policy-of-requires : tie.Need-policy-of-requires
+policy-of-requires c κs = search needs
+
 slice-relend-prefix-write : tie.Need-slice-relend-prefix-write
 slice-relend-prefix-write c = search needs
 
@@ -28,6 +31,7 @@ write-into-spec =
     tie.close
     (tie.spec
     returns
+    policy-of-requires
     slice-relend-prefix-write
     slice-aggregate-write
     write-requires

@@ -1,9 +1,9 @@
--- `vectors::texts::unlike_text` is safe and ends: i is a place of the buffer.
+-- `vectors::buffers::unlike_text` is safe and ends: i is a place of the buffer.
 use Prim.Native.Nat.{_-_, _≤_}
 use lib.ListN.{length}
 use borrow.Author.Needs.{needs}
-use Rattle.vectors.proofs.texts.unlike_text.Statement.{statement}
-use Rattle.vectors.proofs.texts.unlike_text.Tie as tie
+use Rattle.vectors.proofs.buffers.unlike_text.Statement.{statement}
+use Rattle.vectors.proofs.buffers.unlike_text.Tie as tie
 
 abbrev Inv-loop : tie.InvT-loop
 Inv-loop text buffer i₀ i = i ≤ length buffer
@@ -19,6 +19,9 @@ shared-slice-read-due c = search needs
 
 shared-slice-read-if2 : tie.Need-shared-slice-read-if2 Inv-loop μ-loop
 shared-slice-read-if2 c = search needs
+
+add-result : tie.Need-add-result Inv-loop μ-loop
+add-result c = search needs
 
 returns : tie.Need-returns Inv-loop μ-loop
 returns c = search needs
@@ -44,6 +47,7 @@ unlike-text-spec =
     loop-holds
     shared-slice-read-due
     shared-slice-read-if2
+    add-result
     returns
     add-i
     loop-less

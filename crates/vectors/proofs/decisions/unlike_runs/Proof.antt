@@ -1,0 +1,94 @@
+-- `vectors::decisions::unlike_runs` is safe and ends: i is a place of the buffer.
+use Prim.Native.Nat.{_-_, _≤_}
+use borrow.Author.Needs.{needs}
+use Rattle.vectors.proofs.decisions.unlike_runs.Statement.{statement}
+use Rattle.vectors.proofs.decisions.unlike_runs.Tie as tie
+
+abbrev Inv-loop : tie.InvT-loop
+Inv-loop runs buffer k₀ due₀ i₀ k due i = i ≤ 16384
+
+abbrev μ-loop : tie.MeasureT-loop
+μ-loop runs buffer k₀ due₀ i₀ k due i = 16384 - i
+
+cast-at : tie.Need-cast-at Inv-loop μ-loop
+cast-at c = search needs
+
+at-requires : tie.Need-at-requires Inv-loop μ-loop
+at-requires c κs = search needs
+
+loop-holds : tie.Need-loop-holds Inv-loop μ-loop
+loop-holds c = search needs
+
+mul-wide : tie.Need-mul-wide Inv-loop μ-loop
+mul-wide c = search needs
+
+element-copy-out-wide : tie.Need-element-copy-out-wide Inv-loop μ-loop
+element-copy-out-wide c = search needs
+
+wide-requires : tie.Need-wide-requires Inv-loop μ-loop
+wide-requires c κs = search needs
+
+add-result : tie.Need-add-result Inv-loop μ-loop
+add-result c = search needs
+
+returns : tie.Need-returns Inv-loop μ-loop
+returns c = search needs
+
+wrapping-add-usize-requires : tie.Need-wrapping-add-usize-requires Inv-loop μ-loop
+wrapping-add-usize-requires c κs = search needs
+
+cast-at-2 : tie.Need-cast-at-2 Inv-loop μ-loop
+cast-at-2 c = search needs
+
+at-requires-2 : tie.Need-at-requires-2 Inv-loop μ-loop
+at-requires-2 c κs = search needs
+
+wrapping-add-usize-requires-2 : tie.Need-wrapping-add-usize-requires-2 Inv-loop μ-loop
+wrapping-add-usize-requires-2 c κs = search needs
+
+cast-at-3 : tie.Need-cast-at-3 Inv-loop μ-loop
+cast-at-3 c = search needs
+
+at-requires-3 : tie.Need-at-requires-3 Inv-loop μ-loop
+at-requires-3 c κs = search needs
+
+wrapping-add-u32-requires : tie.Need-wrapping-add-u32-requires Inv-loop μ-loop
+wrapping-add-u32-requires c κs = search needs
+
+add-i : tie.Need-add-i Inv-loop μ-loop
+add-i c = search needs
+
+loop-less : tie.Need-loop-less Inv-loop μ-loop
+loop-less c = search needs
+
+loop-again : tie.Need-loop-again Inv-loop μ-loop
+loop-again c = search needs
+
+returns-2 : tie.Need-returns-2 Inv-loop μ-loop
+returns-2 c = search needs
+
+pub unlike-runs-spec : {M : Type 1} → statement M
+unlike-runs-spec =
+    tie.close
+    (tie.spec
+    Inv-loop
+    μ-loop
+    cast-at
+    at-requires
+    loop-holds
+    mul-wide
+    element-copy-out-wide
+    wide-requires
+    add-result
+    returns
+    wrapping-add-usize-requires
+    cast-at-2
+    at-requires-2
+    wrapping-add-usize-requires-2
+    cast-at-3
+    at-requires-3
+    wrapping-add-u32-requires
+    add-i
+    loop-less
+    loop-again
+    returns-2)

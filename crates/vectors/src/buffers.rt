@@ -1,0 +1,37 @@
+// Lent buffers: blank before a call, and compared after it.
+use crate::cursor;
+
+// What stands in a buffer of bytes before a call.
+pub const BLANK: u8 = 170;
+
+fn wide(x: u8) -> u32 {
+    x as u32
+}
+
+// The first place, from 1, at which a buffer is not these numbers with blanks behind them; 0 where there is none.
+pub fn unlike(due: &[u32], buffer: &[u8]) -> usize {
+    let mut i = 0;
+    while i < buffer.len() {
+        if wide(buffer[i]) != cursor::at(due, i, BLANK as u32) {
+            return i + 1;
+        }
+        i += 1;
+    }
+    0
+}
+
+// The same for a text with blanks behind it.
+pub fn unlike_text(text: &[u8], buffer: &[u8]) -> usize {
+    let mut i = 0;
+    while i < buffer.len() {
+        let mut due = BLANK;
+        if i < text.len() {
+            due = text[i];
+        }
+        if buffer[i] != due {
+            return i + 1;
+        }
+        i += 1;
+    }
+    0
+}
