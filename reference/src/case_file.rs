@@ -161,11 +161,10 @@ fn label_lines(out: &mut String, rng: &mut Rng, policy: &Policy, labelling: &Lab
         1 => o = short(rng, objects),
         _ => t = short(rng, places),
     }
-    // Nothing is stored.
-    line(
-        out,
-        format!("{},20,0,{u},{o},{t}", rng.pick(&['u', 'o', 'g'])),
-    );
+    // Nothing is stored in any of the three.
+    for tag in ['u', 'o', 'g'] {
+        line(out, format!("{tag},20,0,{u},{o},{t}"));
+    }
     let [u, o, t] = rooms(rng);
     for (tag, count, bytes) in [
         ('u', labelling.user_count, &labelling.user_labels),
