@@ -8,6 +8,14 @@ fn wide(x: u8) -> u32 {
     x as u32
 }
 
+// The first bytes of a buffer, to be lent; all where there are not so many.
+pub fn first(buffer: &mut [u8], n: usize) -> &mut [u8] {
+    if buffer.len() < n {
+        return buffer;
+    }
+    &mut buffer[..n]
+}
+
 // The first place, from 1, at which a buffer is not these numbers with blanks behind them; 0 where there is none.
 pub fn unlike(due: &[u32], buffer: &[u8]) -> usize {
     let mut i = 0;

@@ -7,41 +7,12 @@ use crate::found;
 use crate::found::Found;
 use crate::texts::policy_of;
 use labels::Compiled;
-use policy::refusal::Refusal;
 use policy::refusal::number_of;
 
 // The most sets of a side, and the most pairs of them.
 pub const SETS: usize = 128;
 
 pub const PAIRS: usize = 16384;
-
-// Compiles into the first bytes of three buffers.
-fn compile_into(
-    text: &[u8],
-    a: &[u32; NUMBERS],
-    users: &mut [u8],
-    objects: &mut [u8],
-    table: &mut [u8],
-) -> Compiled {
-    let u = cursor::size(a[2]);
-    let o = cursor::size(a[3]);
-    let t = cursor::size(a[4]);
-    if users.len() < u {
-        return Compiled::Refused(Refusal::TextTooLong);
-    }
-    if objects.len() < o {
-        return Compiled::Refused(Refusal::TextTooLong);
-    }
-    if table.len() < t {
-        return Compiled::Refused(Refusal::TextTooLong);
-    }
-    labels::compiler::compile(
-        policy_of(text),
-        &mut users[..u],
-        &mut objects[..o],
-        &mut table[..t],
-    )
-}
 
 // What compiling answers, with NU beside it for the user labels' buffer, else NO.
 fn counted(compiled: Compiled, tag: u8, place: usize) -> Found {
@@ -70,7 +41,12 @@ pub fn compiled(tag: u8, a: &[u32; NUMBERS], n: usize, text: &[u8]) -> Found {
     let mut users = [BLANK; SETS];
     let mut objects = [BLANK; SETS];
     let mut table = [BLANK; PAIRS];
-    let compiled = compile_into(text, a, &mut users, &mut objects, &mut table);
+    let compiled = labels::compiler::compile(
+        policy_of(text),
+        buffers::first(&mut users, cursor::size(a[2])),
+        buffers::first(&mut objects, cursor::size(a[3])),
+        buffers::first(&mut table, cursor::size(a[4])),
+    );
     let due = cursor::part(a, 5, n);
     match tag {
         b'u' => counted(compiled, tag, buffers::unlike(due, &users)),

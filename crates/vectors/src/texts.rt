@@ -6,7 +6,6 @@ use crate::cursor::NUMBERS;
 use crate::found;
 use crate::found::Found;
 use policy::TEXT_BYTES;
-use policy::refusal::Refusal;
 use policy::refusal::number_of;
 use policy::value::PolicyValue;
 use policy::value::Verdict;
@@ -43,18 +42,13 @@ pub fn read(text: &[u8]) -> Found {
     }
 }
 
-// Writing into the first bytes of a buffer; none where it has not so many.
-fn write_into(text: &[u8], buffer: &mut [u8], room: usize) -> Written {
-    if buffer.len() < room {
-        return Written::Refused(Refusal::TextTooLong);
-    }
-    writer::write(policy_of(text), &mut buffer[..room])
-}
-
 // `W`: writing leaves the text in the buffer, or nothing where it is refused.
 pub fn written(a: &[u32; NUMBERS], text: &[u8]) -> Found {
     let mut buffer = [BLANK; TEXT_BYTES];
-    let written = write_into(text, &mut buffer, cursor::size(a[2]));
+    let written = writer::write(
+        policy_of(text),
+        buffers::first(&mut buffer, cursor::size(a[2])),
+    );
     match written {
         Written::Stored(length) => Found {
             answer: found::DONE,
