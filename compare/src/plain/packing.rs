@@ -20,10 +20,13 @@ pub fn unpacked(packed: &PackedPolicy) -> Policy {
     };
     policy.rules.count = packed.rules.count;
     for (rule, from) in policy.rules.entries.iter_mut().zip(&packed.rules.entries) {
+        // Blank already, as most are.
+        if *from == PackedRule::default() {
+            continue;
+        }
         rule.action = from.action;
         rule.count = from.count;
         for (word, &number) in rule.words.iter_mut().zip(&from.words) {
-            // The others are blank already.
             if number != 0 {
                 *word = word_of(number);
             }
@@ -59,12 +62,12 @@ fn packed(policy: &Policy) -> PackedPolicy {
         ..PackedPolicy::default()
     };
     packed.rules.count = policy.rules.count;
-    for (rule, from) in packed.rules.entries.iter_mut().zip(&policy.rules.entries) {
-        *rule = PackedRule {
-            action: from.action,
-            count: from.count,
-            words: from.words.map(number_of),
-        };
+    for (rule, from) in packed.rules.entries.iter_mut().zip(policy.rules()) {
+        rule.action = from.action;
+        rule.count = from.count;
+        for (number, &word) in rule.words.iter_mut().zip(from.words()) {
+            *number = number_of(word);
+        }
     }
     packed
 }
