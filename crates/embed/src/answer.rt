@@ -29,8 +29,7 @@ use writer::Written;
 pub fn reading(x: Reading) -> PackedReading
     ensures { λ r. ⌜ ((o : Outcome) → ReadAs o x → r ≡ spec.packedReading o) ⌝ }
 {
-    let value = x.policy;
-    let policy = packing::pack::pack(value);
+    let policy = packing::pack::pack(x.policy);
     let verdict = x.verdict;
     match verdict {
         Verdict::Accepted => PackedReading {

@@ -3,7 +3,7 @@
 use Prim.Native.Nat.{ℕ, _-_}
 use mathlib.Core.Path.{_≡_, refl, _∙_, subst}
 use mathlib.Core.Bool.{Bool, true, _&&_}
-use mathlib.Core.List.{List, [], _∷_, _++_, map, List·Memᴰ, List·Memᴰ·not-nil}
+use mathlib.Core.List.{List, [], _∷_, _++_, map, List·Memᴰ}
 use native.Mathlib.Omega.{arith}
 use borrow.Author.Tests.{ltb-true, lt-ltb}
 use lib.Dec.{ltb}
@@ -26,8 +26,8 @@ use Rattle.policy.specs.declared.value.PolicyValue.{PolicyValue}
 use Rattle.policy.proofs.Bounds.{rule-bounds, rule-digits}
 use Rattle.policy.proofs.Valid.{valid-stored, valid-parts, yielded-valid}
 use Rattle.packing.specs.declared.value.PackedPolicy.{PackedPolicy}
-use Rattle.packing.specs.Packed.{bytes, inBytes, packedPolicy, unpackedPolicy, ruleWords, everyWord}
-use Rattle.packing.proofs.RoundTrip.{unpacked-policy, packed-policy}
+use Rattle.packing.specs.Packed.{bytes, inBytes, packedPolicy, unpackedPolicy}
+use Rattle.packing.proofs.RoundTrip.{ruleBytes, unpacked-policy, ruleWords, everyWord, policy-once}
 
 -- ---- every word of a stored policy, blanks too
 
@@ -47,7 +47,7 @@ module _ (t : Word → Bool) (h : t True ≡ true) where
       all-padded (λ (x : Slot). t (x .word)) wordPlaces (slot True) h (map slot ws) (all-map (λ (x : Slot). t (x .word)) slot ws ∙ e)
 
   stored-words : (p : Policy) → ((r : Rule) → List·Memᴰ r (p .rules) → all t (r .words) ≡ true) → everyWord t (valueOf p) ≡ true
-  unfolding everyWord valueOf rulesValue ruleValue noRule all
+  unfolding valueOf rulesValue ruleValue noRule all
   stored-words p e =
       all-padded (ruleWords t) rulePlaces noRule (rule-words [] refl) (map ruleValue (p .rules))
       (all-map (ruleWords t) ruleValue (p .rules) ∙ all-of (λ r. ruleWords t (ruleValue r)) (p .rules) (λ r m. rule-words (r .words) (e r m)))
@@ -82,27 +82,27 @@ valid-digits : (v : PolicyValue) → valid v ≡ true → everyWord inDigits v �
 unfolding inDigits
 valid-digits v e = subst (λ x. everyWord inDigits x ≡ true) (valid-stored v e .0) (stored-words inDigits refl (policyOf v) (valid-rules v e))
 
-valid-bytes : (v : PolicyValue) → valid v ≡ true → everyWord inBytes v ≡ true
-unfolding inBytes
+valid-bytes : (v : PolicyValue) → valid v ≡ true → all ruleBytes (policyOf v .rules) ≡ true
 valid-bytes v e =
-    subst (λ x. everyWord inBytes x ≡ true) (valid-stored v e .0)
-    (stored-words inBytes refl (policyOf v) (λ r m. all-of inBytes (r .words) (λ w n. digits-bytes w (all-at inDigits (r .words) (valid-rules v e r m) w n))))
+    all-of ruleBytes (policyOf v .rules)
+    (λ r m. all-of inBytes (r .words) (λ w n. digits-bytes w (all-at inDigits (r .words) (valid-rules v e r m) w n)))
 
 -- a valid policy value comes back from its packed form
 pub valid-unpacked : (v : PolicyValue) → valid v ≡ true → unpackedPolicy (packedPolicy v) ≡ v
-valid-unpacked v e = unpacked-policy v (valid-bytes v e)
+valid-unpacked v e = subst (λ x. unpackedPolicy (packedPolicy x) ≡ x) (valid-stored v e .0) (unpacked-policy (policyOf v) (valid-bytes v e))
 
 -- a packed policy that check 11 accepts is the packed form of its value: none with a number that is no word's is accepted
 pub valid-packed : (p : PackedPolicy) → valid (unpackedPolicy p) ≡ true → packedPolicy (unpackedPolicy p) ≡ p
 unfolding inDigits
-valid-packed p e = packed-policy inDigits refl p (valid-digits (unpackedPolicy p) e)
+valid-packed p e =
+    let v = unpackedPolicy p in policy-once inDigits refl (packedPolicy v) p (valid-digits v e) (valid-unpacked v e)
 
 -- ---- what reading answers
 
 value-crosses : (t : List ℕ) (o : Outcome) → readText t ≡ o → unpackedPolicy (packedPolicy (valueIn o)) ≡ valueIn o
-unfolding valueIn inBytes blank
+unfolding valueIn all blank
 value-crosses t (Accepted p) e = valid-unpacked (valueOf p) (yielded-valid t p e)
-value-crosses t (Refused n l) e = unpacked-policy (valueOf blank) (stored-words inBytes refl blank (λ r m. absurd (List·Memᴰ·not-nil m)))
+value-crosses t (Refused n l) e = unpacked-policy blank refl
 
 -- the value that a text is read as comes back from its packed form, and so does the blank value beside a refusal
 pub read-unpacked : (t : List ℕ) → unpackedPolicy (packedPolicy (valueIn (readText t))) ≡ valueIn (readText t)

@@ -1,27 +1,29 @@
--- Packing and unpacking undo each other: words first, then policy values, word by word.
-use Prim.Native.Nat.{ℕ, _+_, _*_, _/_, _%_, _<_}
+-- Packing and unpacking undo each other: words first, then policy values.
+use Prim.Native.Nat.{ℕ, zero, suc, _+_, _-_, _*_, _/_, _%_, _<_}
 use mathlib.Core.Path.{_≡_, refl, sym, ap, _∙_}
 use mathlib.Core.Logic.{_⊎_, inl, inr, ⊎-elim}
 use mathlib.Core.Bool.{Bool, true, false, cond, true≢false}
-use mathlib.Core.List.{List, [], _∷_, map}
+use mathlib.Core.List.{List, [], _∷_, map, map-append, cons-ne-nil}
 use native.Mathlib.Omega.{arith}
 use borrow.Author.Tests.{ltb-true, eqb-true}
 use lib.Dec.{eqb, ltb}
+use lib.ListN.{length, replicate, length-map}
 use lib.Arith.{digits-div, digits-mod}
-use Rattle.basis.specs.Lists.{all}
+use Rattle.basis.specs.Lists.{all, padded}
 use Rattle.basis.proofs.Bools.{and-left, and-right}
-use Rattle.basis.proofs.Lists.{all-map}
 use Rattle.words.specs.declared.Word.{Word}
 use Rattle.words.specs.declared.Word.the-variants.{True, False, Holds, Compares, Not, And, Or}
 use Rattle.words.specs.declared.Holding.the-variants.{User, Object}
 use Rattle.words.specs.declared.Comparison.the-variants.{Dominates, Equals}
-use Rattle.policy.specs.Value.{slot}
+use Rattle.policy.specs.Policy.{Rule, Policy}
+use Rattle.policy.specs.Value.{wordPlaces, rulePlaces, slot, noRule, ruleValue, rulesValue, valueOf}
 use Rattle.policy.specs.declared.value.Slot.{Slot}
 use Rattle.policy.specs.declared.value.RuleValue.{RuleValue}
 use Rattle.policy.specs.declared.value.PolicyValue.{PolicyValue}
+use Rattle.policy.proofs.Values.{rules-value}
 use Rattle.packing.specs.declared.value.PackedRule.{PackedRule}
 use Rattle.packing.specs.declared.value.PackedPolicy.{PackedPolicy}
-use Rattle.packing.specs.Packed.{bytes, number, packedWord, missing, wordOf, named, unpackedWord, inBytes, packedRule, packedRules, packedPolicy, unpackedRule, unpackedRules, unpackedPolicy, ruleWords, everyWord}
+use Rattle.packing.specs.Packed.{bytes, number, packedWord, missing, wordOf, named, unpackedWord, inBytes, noPackedRule, packedRule, packedRules, packedPolicy, unpackedRule, unpackedRules, unpackedPolicy}
 use Rattle.packing.proofs.Packing.{is-named}
 
 -- ---- words
@@ -74,64 +76,89 @@ pub packed-word : (n : ℕ) → (packedWord (unpackedWord n) ≡ n) ⊎ (unpacke
 unfolding unpackedWord
 packed-word n = chosen (eqb (packedWord (named n)) n) (named n) n refl
 
--- ---- policy values
+-- ---- what was packed, unpacked
 
--- a list mapped there and back, where that gives each element back
-back : {A B : Type 0} (f : A → B) (g : B → A) (t : A → Bool) → ((x : A) → t x ≡ true → g (f x) ≡ x)
-    → (xs : List A) → all t xs ≡ true → map g (map f xs) ≡ xs
-unfolding all
-back f g t h [] e = refl
-back f g t h (x ∷ xs) e = rw (h x (and-left _ _ e), back f g t h xs (and-right (t x) _ e))
+blanks-mapped : {B C : Type 0} (g : B → C) (n : ℕ) (b : B) → map g (replicate n b) ≡ replicate n (g b)
+blanks-mapped g zero b = refl
+blanks-mapped g (suc n) b = rw (blanks-mapped g n b)
 
-unpacked-rule : (r : RuleValue) → ruleWords inBytes r ≡ true → unpackedRule (packedRule r) ≡ r
-unfolding packedRule unpackedRule
+-- an array that starts with images, mapped: it starts with their images and has the blank's image behind them
+module _ {A B C : Type 0} (f : A → B) (g : B → C) (h : A → C) (t : A → Bool) (e : (x : A) → t x ≡ true → g (f x) ≡ h x) where
+  mapped-on : (xs : List A) → all t xs ≡ true → map g (map f xs) ≡ map h xs
+  unfolding all
+  mapped-on [] a = refl
+  mapped-on (x ∷ xs) a = rw (e x (and-left _ _ a), mapped-on xs (and-right (t x) _ a))
+
+  mapped-padded : (n : ℕ) (b : B) (xs : List A) → all t xs ≡ true → map g (padded n b (map f xs)) ≡ padded n (g b) (map h xs)
+  unfolding padded
+  mapped-padded n b xs a =
+      let k = n - length (map f xs) in
+      map-append g (map f xs) (replicate k b) ∙ rw (mapped-on xs a, blanks-mapped g k b, length-map xs f, length-map xs h)
+
+abbrev pub ruleBytes : Rule → Bool
+ruleBytes r = all inBytes (r .words)
+
+unpacked-rule : (r : Rule) → ruleBytes r ≡ true → unpackedRule (packedRule r) ≡ ruleValue r
+unfolding packedRule unpackedRule ruleValue packedWord wordOf unpackedWord
 unpacked-rule r h =
-    let with-words : List Slot → RuleValue = λ ws. record { action = r .action; count = r .count; words = ws } in
-    ap with-words
-    (back (λ (x : Slot). packedWord (x .word)) (λ n. slot (unpackedWord n)) (λ (x : Slot). inBytes (x .word))
-    (λ x e. ap slot (unpacked-word (x .word) e)) (r .words) h)
+    rw (mapped-padded packedWord (λ n. slot (unpackedWord n)) slot inBytes (λ w e. ap slot (unpacked-word w e)) wordPlaces 0 (r .words) h)
 
--- unpacking what was packed gives the same policy value, valid or not
-pub unpacked-policy : (v : PolicyValue) → everyWord inBytes v ≡ true → unpackedPolicy (packedPolicy v) ≡ v
-unfolding packedPolicy packedRules unpackedPolicy unpackedRules everyWord
-unpacked-policy v h =
-    let with-rules : List RuleValue → PolicyValue =
-    λ rs. record {
-      form = v .form;
-      user = v .user;
-      object = v .object;
-      users = v .users;
-      objects = v .objects;
-      rules = record { count = v .rules .count; entries = rs };
-    } in
-    ap with-rules (back packedRule unpackedRule (ruleWords inBytes) unpacked-rule (v .rules .entries) h)
+unpacked-blank : unpackedRule noPackedRule ≡ noRule
+unfolding noPackedRule unpackedRule noRule padded packedWord wordOf unpackedWord
+unpacked-blank = refl
 
--- ---- and back, for a test that the missing word fails
+unpacked-rules : (rs : List Rule) → all ruleBytes rs ≡ true → unpackedRules (packedRules rs) ≡ rulesValue rs
+unfolding packedRules unpackedRules rulesValue
+unpacked-rules rs h =
+    rw (mapped-padded packedRule unpackedRule ruleValue ruleBytes unpacked-rule rulePlaces noPackedRule rs h, unpacked-blank)
+
+-- unpacking what was packed gives the same policy value, of a sound policy or not
+pub unpacked-policy : (p : Policy) → all ruleBytes (p .rules) ≡ true → unpackedPolicy (packedPolicy (valueOf p)) ≡ valueOf p
+unfolding packedPolicy unpackedPolicy valueOf
+unpacked-policy p h = rw (rules-value (p .rules), unpacked-rules (p .rules) h)
+
+-- ---- what was unpacked comes of one packed policy only, for a test that the missing word fails
+
+-- every word of a value, those past a count too
+abbrev pub ruleWords : (Word → Bool) → RuleValue → Bool
+ruleWords t r = all (λ (x : Slot). t (x .word)) (r .words)
+
+abbrev pub everyWord : (Word → Bool) → PolicyValue → Bool
+everyWord t v = all (ruleWords t) (v .rules .entries)
+
+-- two lists with the same images are the same, where each image comes of one element only
+mapped-once : {A B : Type 0} (g : A → B) (t : B → Bool) → ((x y : A) → t (g y) ≡ true → g x ≡ g y → x ≡ y)
+    → (xs ys : List A) → all t (map g ys) ≡ true → map g xs ≡ map g ys → xs ≡ ys
+unfolding all
+mapped-once g t e [] [] a q = refl
+mapped-once g t e [] (y ∷ ys) a q = absurd (cons-ne-nil (g y) (map g ys) (sym q))
+mapped-once g t e (x ∷ xs) [] a q = absurd (cons-ne-nil (g x) (map g xs) q)
+mapped-once g t e (x ∷ xs) (y ∷ ys) a q =
+    rw (e x y (and-left _ _ a) (cc), mapped-once g t e xs ys (and-right (t (g y)) _ a) (cc))
 
 module _ (t : Word → Bool) (fails : t missing ≡ false) where
   packs : (n : ℕ) → t (unpackedWord n) ≡ true → packedWord (unpackedWord n) ≡ n
   packs n h = ⊎-elim (λ e. e) (λ e. absurd (true≢false (sym h ∙ ap t e ∙ fails))) (packed-word n)
 
-  packed-rule : (r : PackedRule) → ruleWords t (unpackedRule r) ≡ true → packedRule (unpackedRule r) ≡ r
-  unfolding packedRule unpackedRule
-  packed-rule r h =
-      let with-words : List ℕ → PackedRule = λ ws. record { action = r .action; count = r .count; words = ws } in
-      ap with-words
-      (back (λ n. slot (unpackedWord n)) (λ (x : Slot). packedWord (x .word)) (λ n. t (unpackedWord n)) packs (r .words)
-      (sym (all-map (λ (x : Slot). t (x .word)) (λ n. slot (unpackedWord n)) (r .words)) ∙ h))
+  word-once : (n m : ℕ) → t (unpackedWord m) ≡ true → slot (unpackedWord n) ≡ slot (unpackedWord m) → n ≡ m
+  word-once n m h q =
+      let e = ap (λ (x : Slot). x .word) q in sym (packs n (ap t e ∙ h)) ∙ ap packedWord e ∙ packs m h
 
-  pub packed-policy : (p : PackedPolicy) → everyWord t (unpackedPolicy p) ≡ true → packedPolicy (unpackedPolicy p) ≡ p
-  unfolding packedPolicy packedRules unpackedPolicy unpackedRules everyWord
-  packed-policy p h =
-      let with-rules : List PackedRule → PackedPolicy =
-      λ rs. record {
-        form = p .form;
-        user = p .user;
-        object = p .object;
-        users = p .users;
-        objects = p .objects;
-        rules = record { count = p .rules .count; entries = rs };
-      } in
-      ap with-rules
-      (back unpackedRule packedRule (λ r. ruleWords t (unpackedRule r)) packed-rule (p .rules .entries)
-      (sym (all-map (ruleWords t) unpackedRule (p .rules .entries)) ∙ h))
+  rule-once : (r s : PackedRule) → ruleWords t (unpackedRule s) ≡ true → unpackedRule r ≡ unpackedRule s → r ≡ s
+  unfolding unpackedRule
+  rule-once r s h q =
+      let w = mapped-once (λ n. slot (unpackedWord n)) (λ (x : Slot). t (x .word)) word-once (r .words) (s .words) h (λ i. q i .words) in
+      λ i. record { action = q i .action; count = q i .count; words = w i }
+
+  pub policy-once : (p q : PackedPolicy) → everyWord t (unpackedPolicy q) ≡ true → unpackedPolicy p ≡ unpackedPolicy q → p ≡ q
+  unfolding unpackedPolicy unpackedRules
+  policy-once p q h e =
+      let r = mapped-once unpackedRule (ruleWords t) rule-once (p .rules .entries) (q .rules .entries) h (λ i. e i .rules .entries) in
+      λ i. record {
+        form = e i .form;
+        user = e i .user;
+        object = e i .object;
+        users = e i .users;
+        objects = e i .objects;
+        rules = record { count = e i .rules .count; entries = r i };
+      }

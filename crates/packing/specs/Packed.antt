@@ -3,14 +3,14 @@ use Prim.Native.Nat.{ℕ, _+_, _*_, _/_, _%_, _^_}
 use mathlib.Core.Bool.{Bool, true, cond, _&&_}
 use mathlib.Core.List.{List, [], _∷_, map}
 use lib.Dec.{eqb, ltb}
-use lib.ListN.{getD}
-use Rattle.basis.specs.Lists.{all}
+use lib.ListN.{length, getD}
+use Rattle.basis.specs.Lists.{padded}
 use Rattle.words.specs.declared.Word.{Word}
 use Rattle.words.specs.declared.Word.the-variants.{True, False, Holds, Compares, Not, And, Or}
 use Rattle.words.specs.declared.Holding.the-variants.{User, Object}
 use Rattle.words.specs.declared.Comparison.the-variants.{Dominates, Equals}
-use Rattle.policy.specs.Value.{slot}
-use Rattle.policy.specs.declared.value.Slot.{Slot}
+use Rattle.policy.specs.Policy.{Rule}
+use Rattle.policy.specs.Value.{wordPlaces, rulePlaces, slot, rulesOf}
 use Rattle.policy.specs.declared.value.RuleValue.{RuleValue}
 use Rattle.policy.specs.declared.value.Rules.{Rules}
 use Rattle.policy.specs.declared.value.PolicyValue.{PolicyValue}
@@ -72,13 +72,16 @@ inBytes Not = true
 inBytes And = true
 inBytes Or = true
 
--- ---- policy values: the same, with each word as its number
+-- ---- policy values: the same, with each word as its number; of the rules, and of their words, those before each count
 
-unfoldable pub packedRule : RuleValue → PackedRule
-packedRule r = record { action = r .action; count = r .count; words = map (λ (x : Slot). packedWord (x .word)) (r .words) }
+unfoldable pub noPackedRule : PackedRule
+noPackedRule = record { action = 0; count = 0; words = padded wordPlaces 0 [] }
 
-unfoldable pub packedRules : Rules → PackedRules
-packedRules r = record { count = r .count; entries = map packedRule (r .entries) }
+unfoldable pub packedRule : Rule → PackedRule
+packedRule r = record { action = r .action; count = length (r .words); words = padded wordPlaces 0 (map packedWord (r .words)) }
+
+unfoldable pub packedRules : List Rule → PackedRules
+packedRules rs = record { count = length rs; entries = padded rulePlaces noPackedRule (map packedRule rs) }
 
 unfoldable pub packedPolicy : PolicyValue → PackedPolicy
 packedPolicy v =
@@ -88,7 +91,7 @@ packedPolicy v =
       object = v .object;
       users = v .users;
       objects = v .objects;
-      rules = packedRules (v .rules);
+      rules = packedRules (rulesOf (v .rules));
     }
 
 -- ---- and back
@@ -109,10 +112,3 @@ unpackedPolicy p =
       objects = p .objects;
       rules = unpackedRules (p .rules);
     }
-
--- a test of every word of a value, those past a count too
-abbrev pub ruleWords : (Word → Bool) → RuleValue → Bool
-ruleWords f r = all (λ (x : Slot). f (x .word)) (r .words)
-
-unfoldable pub everyWord : (Word → Bool) → PolicyValue → Bool
-everyWord f v = all (ruleWords f) (v .rules .entries)

@@ -1,8 +1,8 @@
 // A policy value packed: each word as its number.
+ghost use Prim.Native.Nat.{min};
 ghost use mathlib.Core.Path.{_≡_};
-ghost use mathlib.Core.List.{map};
-ghost use Rattle.policy.specs.declared.value.Slot.{Slot};
-ghost use Rattle.packing.specs.Packed.{packedWord, packedRule, packedRules, packedPolicy};
+ghost use Rattle.policy.specs.Value.{ruleOf, rulesOf};
+ghost use Rattle.packing.specs.Packed.{packedRule, packedRules, packedPolicy};
 use crate::value::PackedPolicy;
 use crate::value::PackedRule;
 use crate::value::PackedRules;
@@ -11,42 +11,42 @@ use policy::value::PolicyValue;
 use policy::value::RULE_PLACES;
 use policy::value::RuleValue;
 use policy::value::Rules;
-use policy::value::Slot;
 use policy::value::WORD_PLACES;
 
-// The numbers of a formula's words, blanks too.
-fn words(from: [Slot; WORD_PLACES]) -> [u32; WORD_PLACES]
-    ensures { λ r. ⌜ r ≡ map (λ (x : Slot). packedWord (x .word)) from ⌝ }
+// How many places stand before a count: all of them where it is above them.
+fn counted(count: usize, places: usize) -> usize
+    ensures { λ r. ⌜ r ≡ min count places ⌝ }
 {
-    let mut words = [0; WORD_PLACES];
-    let mut i = 0;
-    while i < WORD_PLACES {
-        let slot = from[i];
-        let w = slot.word;
-        words[i] = word::pack(w);
-        i += 1;
-    }
-    words
+    if count < places { count } else { places }
 }
 
 // A rule, with its words as numbers.
 fn rule(from: RuleValue) -> PackedRule
-    ensures { λ r. ⌜ r ≡ packedRule from ⌝ }
+    ensures { λ r. ⌜ r ≡ packedRule (ruleOf from) ⌝ }
 {
     let slots = from.words;
-    let packed = words(slots);
+    let count = counted(from.count, WORD_PLACES);
+    let mut words = [0; WORD_PLACES];
+    let mut i = 0;
+    while i < count {
+        let slot = slots[i];
+        let w = slot.word;
+        words[i] = word::pack(w);
+        i += 1;
+    }
     PackedRule {
         action: from.action,
-        count: from.count,
-        words: packed,
+        count,
+        words,
     }
 }
 
-// The rules, those past the count too.
+// The rules before the count.
 fn rules(from: Rules) -> PackedRules
-    ensures { λ r. ⌜ r ≡ packedRules from ⌝ }
+    ensures { λ r. ⌜ r ≡ packedRules (rulesOf from) ⌝ }
 {
     let values = from.entries;
+    let count = counted(from.count, RULE_PLACES);
     let words = [0; WORD_PLACES];
     let mut entries = [PackedRule {
         action: 0,
@@ -54,15 +54,12 @@ fn rules(from: Rules) -> PackedRules
         words,
     }; RULE_PLACES];
     let mut i = 0;
-    while i < RULE_PLACES {
+    while i < count {
         let r = values[i];
         entries[i] = rule(r);
         i += 1;
     }
-    PackedRules {
-        count: from.count,
-        entries,
-    }
+    PackedRules { count, entries }
 }
 
 // A policy value, valid or not, packed.
