@@ -14,11 +14,26 @@ use policy::value::ENTRY_PLACES;
 use policy::value::Entry;
 use policy::value::Register;
 
-// The first n entries pass their checks one after the other.
-fn entries_sound(most: u32, total: u32, entries: [Entry; ENTRY_PLACES], n: usize) -> bool
-    requires { ⌜ (n ≤ entryPlaces) × (total < masks) ⌝ }
-    ensures { λ r. ⌜ ((s : policy.Side) → total ≡ policy.total s → r ≡ entriesSound most s none (take n entries)) ⌝ }
+fn no_entry(e: Entry) -> bool
+    ensures { λ r. ⌜ r ≡ sameEntry noEntry e ⌝ }
 {
+    if e.number == 0 {
+        return e.set == 0;
+    }
+    false
+}
+
+// Check 11 of the users or objects: no more than there are places, each sound, and nothing behind the last.
+pub fn register_valid(most: u32, total: u32, x: Register) -> bool
+    requires { ⌜ total < masks ⌝ }
+    ensures { λ r. ⌜ ((s : policy.Side) → total ≡ policy.total s → r ≡ registerValid most s x) ⌝ }
+{
+    let n = x.count;
+    if ENTRY_PLACES < n {
+        return false;
+    }
+    // both loops look at this one copy
+    let entries = x.entries;
     let mut last: u32 = 0;
     let mut i = 0;
     while i < n {
@@ -32,23 +47,6 @@ fn entries_sound(most: u32, total: u32, entries: [Entry; ENTRY_PLACES], n: usize
         last = e.number;
         i += 1;
     }
-    true
-}
-
-fn no_entry(e: Entry) -> bool
-    ensures { λ r. ⌜ r ≡ sameEntry noEntry e ⌝ }
-{
-    if e.number == 0 {
-        return e.set == 0;
-    }
-    false
-}
-
-// Every entry from place n on is blank.
-fn entries_blank(entries: [Entry; ENTRY_PLACES], n: usize) -> bool
-    ensures { λ r. ⌜ r ≡ all (sameEntry noEntry) (drop n entries) ⌝ }
-{
-    let mut i = n;
     while i < ENTRY_PLACES {
         let e = entries[i];
         if !no_entry(e) {
@@ -57,20 +55,4 @@ fn entries_blank(entries: [Entry; ENTRY_PLACES], n: usize) -> bool
         i += 1;
     }
     true
-}
-
-// Check 11 of the users or objects: no more than there are places, each sound, and nothing behind the last.
-pub fn register_valid(most: u32, total: u32, x: Register) -> bool
-    requires { ⌜ total < masks ⌝ }
-    ensures { λ r. ⌜ ((s : policy.Side) → total ≡ policy.total s → r ≡ registerValid most s x) ⌝ }
-{
-    let n = x.count;
-    if ENTRY_PLACES < n {
-        return false;
-    }
-    let entries = x.entries;
-    if !entries_sound(most, total, entries, n) {
-        return false;
-    }
-    entries_blank(entries, n)
 }

@@ -2,21 +2,23 @@
 use Prim.Native.Nat.{_-_}
 use borrow.Author.Tests.{not-true, not-false}
 use borrow.Author.Needs.{needs}
+use lib.ListN.{drop}
+use Rattle.basis.specs.Lists.{all}
 use Rattle.words.specs.declared.Word.the-variants.{True}
-use Rattle.policy.specs.Value.{slot}
+use Rattle.policy.specs.Value.{wordPlaces, slot}
 use Rattle.policy.specs.Valid.{sameSlot}
 use Rattle.validity.proofs.Blank.{BlankTo, blank-none, blank-all, blank-more, blank-not}
 use Rattle.validity.proofs.rules.words_blank.Statement.{statement}
 use Rattle.validity.proofs.rules.words_blank.Tie as tie
 
 abbrev Inv-loop : tie.InvT-loop
-Inv-loop n slots i₀ i = BlankTo (sameSlot (slot True)) slots n i
+Inv-loop n slots i₀ i = BlankTo (all (sameSlot (slot True)) (drop n slots)) (sameSlot (slot True)) slots wordPlaces i
 
 abbrev μ-loop : tie.MeasureT-loop
 μ-loop n slots i₀ i = 32 - i
 
 loop-holds : tie.Need-loop-holds Inv-loop μ-loop
-loop-holds c = blank-none
+loop-holds c = blank-none (search needs)
 
 mul-s : tie.Need-mul-s Inv-loop μ-loop
 mul-s c = search needs
