@@ -34,7 +34,7 @@ module _ {A K S : Type 0} {P : S → Type 0} {answer : S → Bool} {blank : A �
 
   module _ {i : ℕ} {last : K} (q : Risen P answer blank f key above xs m n i last) where
     -- all pass: what is left are the places from n on, and i is the first of them
-    pub risen-blank : n ≤ i → BlankTo (all blank (drop n xs)) blank xs m i
+    pub risen-blank : n ≤ i → BlankTo (all blank (drop n xs)) blank xs m i true
     risen-blank h = let e : i ≡ n = omega arith in rw e (blank-none (q .places))
 
     pub risen-all : n ≤ i → {r : Bool} → r ≡ all blank (drop n xs) → (s : S) → P s → r ≡ answer s

@@ -25,7 +25,6 @@ use Rattle.policy.specs.Policy.{Side}
 use Rattle.policy.specs.Value.{widthPlaces, entryPlaces, wordPlaces, slot, noEntry, noRule, entriesOf, register, ruleValue, ruleOf}
 use Rattle.policy.specs.Valid.{sameLine, sameEntry, sameSlot, sameRegister, sameRule}
 use Rattle.policy.specs.declared.value.Entry.{Entry}
-use Rattle.policy.specs.declared.value.Register.{Register}
 use Rattle.policy.specs.declared.value.RuleValue.{RuleValue}
 use Rattle.policy.proofs.Same.{exact-number, exact-line, exact-entry, exact-slot}
 use Rattle.policy.proofs.Parts.{lineFits, lineAbove, numberFits, numberAbove, lines-rising, entries-rising}

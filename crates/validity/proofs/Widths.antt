@@ -38,7 +38,7 @@ module _ {most : ℕ} {answer : Bool} {ws : List ℕ} {m n : ℕ} where
 
   module _ {t i : ℕ} (q : Summed most answer ws m n t i) where
     -- all pass: what is left is behind them
-    pub summed-all : n ≤ i → BlankTo answer (eqb 0) ws m i
+    pub summed-all : n ≤ i → BlankTo answer (eqb 0) ws m i true
     unfolding widthsSound
     summed-all h =
         let e : n ≡ i = omega arith in

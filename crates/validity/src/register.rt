@@ -1,14 +1,10 @@
 // The registered users, or objects.
 ghost use mathlib.Core.Path.{_≡_};
-ghost use mathlib.Core.Option.{none};
-ghost use Prim.Native.Nat.{_≤_, _<_};
-ghost use lib.ListN.{take, drop};
-ghost use Rattle.basis.specs.Lists.{all};
+ghost use Prim.Native.Nat.{_<_};
 ghost use Rattle.sets.specs.Set.{masks};
 ghost use Rattle.policy.specs.Policy as policy;
-ghost use Rattle.policy.specs.Value.{entryPlaces, noEntry};
+ghost use Rattle.policy.specs.Value.{noEntry};
 ghost use Rattle.policy.specs.Valid.{sameEntry};
-ghost use Rattle.policy.proofs.Sound.{entriesSound};
 ghost use Rattle.validity.specs.Parts.{registerValid};
 use policy::value::ENTRY_PLACES;
 use policy::value::Entry;
@@ -47,12 +43,11 @@ pub fn register_valid(most: u32, total: u32, x: Register) -> bool
         last = e.number;
         i += 1;
     }
+    let mut blank = true;
     while i < ENTRY_PLACES {
         let e = entries[i];
-        if !no_entry(e) {
-            return false;
-        }
+        blank = crate::behind::still_blank(blank, no_entry(e));
         i += 1;
     }
-    true
+    blank
 }

@@ -1,14 +1,14 @@
 // The rules and their words.
 ghost use mathlib.Core.Path.{_≡_};
 ghost use Prim.Native.Nat.{_≤_};
-ghost use lib.ListN.{take, drop};
+ghost use lib.ListN.{drop};
 ghost use Rattle.basis.specs.Lists.{all};
 ghost use Rattle.words.specs.declared.Word.the-variants as word;
 ghost use Rattle.policy.specs.Policy.{Policy};
-ghost use Rattle.policy.specs.Value.{widthPlaces, wordPlaces, rulePlaces, slot, noRule, ruleOf};
+ghost use Rattle.policy.specs.Value.{widthPlaces, wordPlaces, slot, noRule, ruleOf};
 ghost use Rattle.policy.specs.Valid.{sameSlot, sameRule};
 ghost use Rattle.policy.proofs.Sound.{ruleSound};
-ghost use Rattle.validity.specs.Parts.{ShapedBy, ruleValid, rulesRising, rulesValid};
+ghost use Rattle.validity.specs.Parts.{ShapedBy, ruleValid, rulesValid};
 use checks::side::Shape;
 use policy::value::RULE_PLACES;
 use policy::value::RuleValue;
@@ -36,16 +36,15 @@ fn no_word(w: Word) -> bool
 fn words_blank(slots: [Slot; WORD_PLACES], n: usize) -> bool
     ensures { λ r. ⌜ r ≡ all (sameSlot (slot word.True)) (drop n slots) ⌝ }
 {
+    let mut blank = true;
     let mut i = n;
     while i < WORD_PLACES {
         let s = slots[i];
         let w = s.word;
-        if !no_word(w) {
-            return false;
-        }
+        blank = crate::behind::still_blank(blank, no_word(w));
         i += 1;
     }
-    true
+    blank
 }
 
 // A rule's checks, but that it rises.
@@ -120,12 +119,11 @@ pub fn rules_valid(actions: u32, user: Shape, object: Shape, x: Rules) -> bool
         last = y.action;
         i += 1;
     }
+    let mut blank = true;
     while i < RULE_PLACES {
         let y = rules[i];
-        if !no_rule(y) {
-            return false;
-        }
+        blank = crate::behind::still_blank(blank, no_rule(y));
         i += 1;
     }
-    true
+    blank
 }

@@ -1,16 +1,13 @@
 // The lists of a side: its widths and its direct seniorities.
 ghost use mathlib.Core.Path.{_≡_};
-ghost use mathlib.Core.Option.{none};
 ghost use Prim.Native.Nat.{_≤_, _<_};
-ghost use lib.Dec.{eqb};
-ghost use lib.ListN.{take, drop};
-ghost use Rattle.basis.specs.Lists.{all, sum};
+ghost use lib.ListN.{take};
+ghost use Rattle.basis.specs.Lists.{sum};
 ghost use Rattle.sets.specs.Set.{masks};
-ghost use Rattle.seniority.specs.Seniority.{linePlaces, direct};
+ghost use Rattle.seniority.specs.Seniority.{direct};
 ghost use Rattle.policy.specs.Policy as policy;
 ghost use Rattle.policy.specs.Value.{widthPlaces, sideOf};
 ghost use Rattle.policy.specs.Valid.{sameLine};
-ghost use Rattle.policy.proofs.Sound.{widthsSound, linesSound};
 ghost use Rattle.checks.specs.Sides.{Shaped};
 ghost use Rattle.validity.specs.Parts.{widthsValid, linesValid, sideValid, SmallShape};
 use checks::side::Shape;
@@ -39,13 +36,12 @@ fn widths_valid(most: u32, widths: [u32; WIDTH_PLACES], n: usize) -> bool
         total += w;
         i += 1;
     }
+    let mut blank = true;
     while i < WIDTH_PLACES {
-        if widths[i] != 0 {
-            return false;
-        }
+        blank = crate::behind::still_blank(blank, 0 == widths[i]);
         i += 1;
     }
-    true
+    blank
 }
 
 fn no_line(l: Direct) -> bool
@@ -81,14 +77,13 @@ fn lines_valid(side: Shape, lines: [Direct; LINE_PLACES], n: usize) -> bool
         last = l;
         i += 1;
     }
+    let mut blank = true;
     while i < LINE_PLACES {
         let l = lines[i];
-        if !no_line(l) {
-            return false;
-        }
+        blank = crate::behind::still_blank(blank, no_line(l));
         i += 1;
     }
-    true
+    blank
 }
 
 // Check 11 of a side.

@@ -1,4 +1,5 @@
--- `validity::register::register_valid` meets its contract: the entries before place i pass and rise, and those from place n to i are blank.
+-- `validity::register::register_valid` meets its contract: the entries before place i pass and rise, and `blank` says whether those
+-- from place n to i are.
 use Prim.Native.Nat.{_-_}
 use mathlib.Core.Path.{_≡_}
 use borrow.Author.Tests.{not-true, not-false}
@@ -13,7 +14,7 @@ use Rattle.policy.specs.Valid.{sameEntry}
 use Rattle.policy.specs.declared.value.Entry.{Entry}
 use Rattle.policy.proofs.Parts.{numberFits}
 use Rattle.validity.specs.Parts.{registerValid}
-use Rattle.validity.proofs.Blank.{BlankTo, blank-all, blank-more, blank-not}
+use Rattle.validity.proofs.Blank.{BlankTo, blank-all, blank-more}
 use Rattle.validity.proofs.Rising.{Risen, risen-none, risen-blank, risen-all, risen-unfit, risen-falls, risen-more}
 use Rattle.validity.proofs.Stored.{entries-out, entries-in}
 use Rattle.validity.proofs.register.register_valid.Statement.{statement}
@@ -28,10 +29,10 @@ abbrev μ-loop : tie.MeasureT-loop
 μ-loop most total n entries last₀ i₀ last i = n - i
 
 abbrev Inv-loop2 : tie.InvT-loop2
-Inv-loop2 most total n entries last i₀ i = BlankTo (all (sameEntry noEntry) (drop n entries)) (sameEntry noEntry) entries entryPlaces i
+Inv-loop2 most total n entries last i₀ blank₀ i blank = BlankTo (all (sameEntry noEntry) (drop n entries)) (sameEntry noEntry) entries entryPlaces i blank
 
 abbrev μ-loop2 : tie.MeasureT-loop2
-μ-loop2 most total n entries last i₀ i = entryPlaces - i
+μ-loop2 most total n entries last i₀ blank₀ i blank = entryPlaces - i
 
 returns : tie.Need-returns Inv-loop μ-loop Inv-loop2 μ-loop2
 returns c = λ s p. entries-out _ s _ _ (search (needs, long)) (c .if1 .taken)
@@ -82,10 +83,8 @@ array-copy-out-e-2 c = search needs
 no-entry-requires : tie.Need-no-entry-requires Inv-loop μ-loop Inv-loop2 μ-loop2
 no-entry-requires c κs = search needs
 
-returns-4 : tie.Need-returns-4 Inv-loop μ-loop Inv-loop2 μ-loop2
-returns-4 c =
-    risen-all (c .before .before .before .before .before .before .loop .inv) (c .before .before .before .before .before .loop-test .left)
-    (blank-not (c .before .before .before .before .loop2 .inv) noEntry (search needs) (c .before .no-entry .ensures) (not-true _ (c .if4 .taken)))
+still-blank-requires : tie.Need-still-blank-requires Inv-loop μ-loop Inv-loop2 μ-loop2
+still-blank-requires c κs = search needs
 
 add-i-2 : tie.Need-add-i-2 Inv-loop μ-loop Inv-loop2 μ-loop2
 add-i-2 c = search needs
@@ -94,10 +93,10 @@ loop2-less : tie.Need-loop2-less Inv-loop μ-loop Inv-loop2 μ-loop2
 loop2-less c = search needs
 
 loop2-again : tie.Need-loop2-again Inv-loop μ-loop Inv-loop2 μ-loop2
-loop2-again c = blank-more (c .before .before .before .before .loop2 .inv) noEntry (search needs) (c .before .no-entry .ensures) (not-false _ (c .if4 .left))
+loop2-again c = blank-more (c .before .before .before .before .loop2 .inv) noEntry (search needs) (c .before .no-entry .ensures) (c .still-blank .ensures)
 
-returns-5 : tie.Need-returns-5 Inv-loop μ-loop Inv-loop2 μ-loop2
-returns-5 c = risen-all (c .before .before .before .loop .inv) (c .before .before .loop-test .left) (blank-all (c .before .loop2 .inv) (search needs))
+returns-4 : tie.Need-returns-4 Inv-loop μ-loop Inv-loop2 μ-loop2
+returns-4 c = risen-all (c .before .before .before .loop .inv) (c .before .before .loop-test .left) (blank-all (c .before .loop2 .inv) (search needs))
 
 pub register-valid-spec : {M : Type 1} → statement M
 register-valid-spec =
@@ -122,8 +121,8 @@ register-valid-spec =
     mul-e-2
     array-copy-out-e-2
     no-entry-requires
-    returns-4
+    still-blank-requires
     add-i-2
     loop2-less
     loop2-again
-    returns-5)
+    returns-4)

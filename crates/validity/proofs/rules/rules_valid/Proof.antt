@@ -1,4 +1,5 @@
--- `validity::rules::rules_valid` meets its contract: the rules before place i pass and rise, and those from place n to i are blank.
+-- `validity::rules::rules_valid` meets its contract: the rules before place i pass and rise, and `blank` says whether those
+-- from place n to i are.
 use Prim.Native.Nat.{_-_}
 use borrow.Author.Tests.{not-true, not-false}
 use borrow.Author.Needs.{needs}
@@ -10,7 +11,7 @@ use Rattle.policy.specs.Value.{rulePlaces, noRule}
 use Rattle.policy.specs.Valid.{sameRule}
 use Rattle.policy.specs.declared.value.RuleValue.{RuleValue}
 use Rattle.validity.specs.Parts.{ShapedBy, ruleValid, rulesValid}
-use Rattle.validity.proofs.Blank.{BlankTo, blank-all, blank-more, blank-not, emptyRule}
+use Rattle.validity.proofs.Blank.{BlankTo, blank-all, blank-more, emptyRule}
 use Rattle.validity.proofs.Rising.{Risen, risen-none, risen-blank, risen-all, risen-unfit, risen-falls, risen-more}
 use Rattle.validity.proofs.Whole.{rules-out, rules-in}
 use Rattle.validity.proofs.rules.rules_valid.Statement.{statement}
@@ -25,10 +26,10 @@ abbrev μ-loop : tie.MeasureT-loop
 μ-loop actions user object n rules last₀ i₀ last i = n - i
 
 abbrev Inv-loop2 : tie.InvT-loop2
-Inv-loop2 actions n rules last i₀ i = BlankTo (all (sameRule noRule) (drop n rules)) (sameRule noRule) rules rulePlaces i
+Inv-loop2 actions n rules last i₀ blank₀ i blank = BlankTo (all (sameRule noRule) (drop n rules)) (sameRule noRule) rules rulePlaces i blank
 
 abbrev μ-loop2 : tie.MeasureT-loop2
-μ-loop2 actions n rules last i₀ i = rulePlaces - i
+μ-loop2 actions n rules last i₀ blank₀ i blank = rulePlaces - i
 
 returns : tie.Need-returns Inv-loop μ-loop Inv-loop2 μ-loop2
 returns c = λ s p. rules-out s _ (search (needs, long)) (c .if1 .taken)
@@ -79,10 +80,8 @@ array-copy-out-y-2 c = search needs
 no-rule-requires : tie.Need-no-rule-requires Inv-loop μ-loop Inv-loop2 μ-loop2
 no-rule-requires c κs = search needs
 
-returns-4 : tie.Need-returns-4 Inv-loop μ-loop Inv-loop2 μ-loop2
-returns-4 c =
-    risen-all (c .before .before .before .before .before .before .loop .inv) (c .before .before .before .before .before .loop-test .left)
-    (blank-not (c .before .before .before .before .loop2 .inv) emptyRule (search needs) (c .before .no-rule .ensures) (not-true _ (c .if4 .taken)))
+still-blank-requires : tie.Need-still-blank-requires Inv-loop μ-loop Inv-loop2 μ-loop2
+still-blank-requires c κs = search needs
 
 add-i-2 : tie.Need-add-i-2 Inv-loop μ-loop Inv-loop2 μ-loop2
 add-i-2 c = search needs
@@ -91,10 +90,10 @@ loop2-less : tie.Need-loop2-less Inv-loop μ-loop Inv-loop2 μ-loop2
 loop2-less c = search needs
 
 loop2-again : tie.Need-loop2-again Inv-loop μ-loop Inv-loop2 μ-loop2
-loop2-again c = blank-more (c .before .before .before .before .loop2 .inv) emptyRule (search needs) (c .before .no-rule .ensures) (not-false _ (c .if4 .left))
+loop2-again c = blank-more (c .before .before .before .before .loop2 .inv) emptyRule (search needs) (c .before .no-rule .ensures) (c .still-blank .ensures)
 
-returns-5 : tie.Need-returns-5 Inv-loop μ-loop Inv-loop2 μ-loop2
-returns-5 c = risen-all (c .before .before .before .loop .inv) (c .before .before .loop-test .left) (blank-all (c .before .loop2 .inv) (search needs))
+returns-4 : tie.Need-returns-4 Inv-loop μ-loop Inv-loop2 μ-loop2
+returns-4 c = risen-all (c .before .before .before .loop .inv) (c .before .before .loop-test .left) (blank-all (c .before .loop2 .inv) (search needs))
 
 pub rules-valid-spec : {M : Type 1} → statement M
 rules-valid-spec =
@@ -119,8 +118,8 @@ rules-valid-spec =
     mul-y-2
     array-copy-out-y-2
     no-rule-requires
-    returns-4
+    still-blank-requires
     add-i-2
     loop2-less
     loop2-again
-    returns-5)
+    returns-4)

@@ -1,4 +1,5 @@
--- `validity::side::lines_valid` meets its contract: the lines before place i pass and rise, and those from place n to i are blank.
+-- `validity::side::lines_valid` meets its contract: the lines before place i pass and rise, and `blank` says whether those
+-- from place n to i are.
 use Prim.Native.Nat.{_-_}
 use borrow.Author.Tests.{not-true, not-false}
 use borrow.Author.Needs.{needs}
@@ -10,7 +11,7 @@ use Rattle.policy.specs.Valid.{sameLine}
 use Rattle.policy.proofs.Parts.{lineFits, lineAbove}
 use Rattle.checks.specs.Sides.{Shaped}
 use Rattle.validity.specs.Parts.{linesValid}
-use Rattle.validity.proofs.Blank.{BlankTo, blank-all, blank-more, blank-not}
+use Rattle.validity.proofs.Blank.{BlankTo, blank-all, blank-more}
 use Rattle.validity.proofs.Rising.{Risen, risen-none, risen-blank, risen-all, risen-unfit, risen-falls, risen-more}
 use Rattle.validity.proofs.Stored.{lines-out, lines-in}
 use Rattle.validity.proofs.side.lines_valid.Statement.{statement}
@@ -24,10 +25,10 @@ abbrev μ-loop : tie.MeasureT-loop
 μ-loop side n lines last₀ i₀ last i = n - i
 
 abbrev Inv-loop2 : tie.InvT-loop2
-Inv-loop2 n lines i₀ i = BlankTo (all (sameLine (direct 0 0)) (drop n lines)) (sameLine (direct 0 0)) lines linePlaces i
+Inv-loop2 n lines i₀ blank₀ i blank = BlankTo (all (sameLine (direct 0 0)) (drop n lines)) (sameLine (direct 0 0)) lines linePlaces i blank
 
 abbrev μ-loop2 : tie.MeasureT-loop2
-μ-loop2 n lines i₀ i = linePlaces - i
+μ-loop2 n lines i₀ blank₀ i blank = linePlaces - i
 
 returns : tie.Need-returns Inv-loop μ-loop Inv-loop2 μ-loop2
 returns c = λ s p. lines-out s _ _ (search (needs, long)) (c .if1 .taken)
@@ -78,10 +79,8 @@ array-copy-out-l-2 c = search needs
 no-line-requires : tie.Need-no-line-requires Inv-loop μ-loop Inv-loop2 μ-loop2
 no-line-requires c κs = search needs
 
-returns-4 : tie.Need-returns-4 Inv-loop μ-loop Inv-loop2 μ-loop2
-returns-4 c =
-    risen-all (c .before .before .before .before .before .before .loop .inv) (c .before .before .before .before .before .loop-test .left)
-    (blank-not (c .before .before .before .before .loop2 .inv) (direct 0 0) (search needs) (c .before .no-line .ensures) (not-true _ (c .if4 .taken)))
+still-blank-requires : tie.Need-still-blank-requires Inv-loop μ-loop Inv-loop2 μ-loop2
+still-blank-requires c κs = search needs
 
 add-i-2 : tie.Need-add-i-2 Inv-loop μ-loop Inv-loop2 μ-loop2
 add-i-2 c = search needs
@@ -90,10 +89,10 @@ loop2-less : tie.Need-loop2-less Inv-loop μ-loop Inv-loop2 μ-loop2
 loop2-less c = search needs
 
 loop2-again : tie.Need-loop2-again Inv-loop μ-loop Inv-loop2 μ-loop2
-loop2-again c = blank-more (c .before .before .before .before .loop2 .inv) (direct 0 0) (search needs) (c .before .no-line .ensures) (not-false _ (c .if4 .left))
+loop2-again c = blank-more (c .before .before .before .before .loop2 .inv) (direct 0 0) (search needs) (c .before .no-line .ensures) (c .still-blank .ensures)
 
-returns-5 : tie.Need-returns-5 Inv-loop μ-loop Inv-loop2 μ-loop2
-returns-5 c = risen-all (c .before .before .before .loop .inv) (c .before .before .loop-test .left) (blank-all (c .before .loop2 .inv) (search needs))
+returns-4 : tie.Need-returns-4 Inv-loop μ-loop Inv-loop2 μ-loop2
+returns-4 c = risen-all (c .before .before .before .loop .inv) (c .before .before .loop-test .left) (blank-all (c .before .loop2 .inv) (search needs))
 
 pub lines-valid-spec : {M : Type 1} → statement M
 lines-valid-spec =
@@ -118,8 +117,8 @@ lines-valid-spec =
     mul-l-2
     array-copy-out-l-2
     no-line-requires
-    returns-4
+    still-blank-requires
     add-i-2
     loop2-less
     loop2-again
-    returns-5)
+    returns-4)

@@ -1,13 +1,14 @@
--- `validity::side::widths_valid` meets its contract: the widths before place i pass and sum to `total`, and those from place n to i are 0.
+-- `validity::side::widths_valid` meets its contract: the widths before place i pass and sum to `total`, and
+-- `blank` says whether those from place n to i are 0.
 use Prim.Native.Nat.{_-_}
-use mathlib.Core.Path.{refl, sym}
+use mathlib.Core.Path.{refl}
 use native.Mathlib.Omega.{arith}
-use borrow.Author.Tests.{eq-eqb, ne-eqb, not-true, not-false}
+use borrow.Author.Tests.{not-true, not-false}
 use borrow.Author.Needs.{needs}
 use lib.Dec.{eqb}
 use Rattle.policy.specs.Value.{widthPlaces}
 use Rattle.validity.specs.Parts.{widthsValid}
-use Rattle.validity.proofs.Blank.{BlankTo, blank-all, blank-more, blank-not}
+use Rattle.validity.proofs.Blank.{BlankTo, blank-all, blank-more}
 use Rattle.validity.proofs.Stored.{widths-none, widths-many, widths-in}
 use Rattle.validity.proofs.Widths.{Summed, summed-none, summed-all, summed-not, summed-more, sum-bound}
 use Rattle.validity.proofs.side.widths_valid.Statement.{statement}
@@ -20,10 +21,10 @@ abbrev μ-loop : tie.MeasureT-loop
 μ-loop most n widths total₀ i₀ total i = n - i
 
 abbrev Inv-loop2 : tie.InvT-loop2
-Inv-loop2 most n widths total i₀ i = BlankTo (widthsValid most widths n) (eqb 0) widths widthPlaces i
+Inv-loop2 most n widths total i₀ blank₀ i blank = BlankTo (widthsValid most widths n) (eqb 0) widths widthPlaces i blank
 
 abbrev μ-loop2 : tie.MeasureT-loop2
-μ-loop2 most n widths total i₀ i = widthPlaces - i
+μ-loop2 most n widths total i₀ blank₀ i blank = widthPlaces - i
 
 returns : tie.Need-returns Inv-loop μ-loop Inv-loop2 μ-loop2
 returns c = widths-none _ _ _ (search needs) (c .if1 .taken)
@@ -61,14 +62,14 @@ loop-again c = summed-more (c .before .before .before .loop .inv) (search needs)
 loop2-holds : tie.Need-loop2-holds Inv-loop μ-loop Inv-loop2 μ-loop2
 loop2-holds c = summed-all (c .before .loop .inv) (c .loop-test .left)
 
-mul-if4 : tie.Need-mul-if4 Inv-loop μ-loop Inv-loop2 μ-loop2
-mul-if4 c = search needs
+mul-still-blank : tie.Need-mul-still-blank Inv-loop μ-loop Inv-loop2 μ-loop2
+mul-still-blank c = search needs
 
-array-read-if4 : tie.Need-array-read-if4 Inv-loop μ-loop Inv-loop2 μ-loop2
-array-read-if4 c = search needs
+array-read-still-blank : tie.Need-array-read-still-blank Inv-loop μ-loop Inv-loop2 μ-loop2
+array-read-still-blank c = search needs
 
-returns-4 : tie.Need-returns-4 Inv-loop μ-loop Inv-loop2 μ-loop2
-returns-4 c = blank-not (c .before .before .loop2 .inv) 0 (search needs) refl (ne-eqb 0 _ (λ e. c .if4 .taken (sym e)))
+still-blank-requires : tie.Need-still-blank-requires Inv-loop μ-loop Inv-loop2 μ-loop2
+still-blank-requires c κs = search needs
 
 add-i-2 : tie.Need-add-i-2 Inv-loop μ-loop Inv-loop2 μ-loop2
 add-i-2 c = search needs
@@ -77,10 +78,10 @@ loop2-less : tie.Need-loop2-less Inv-loop μ-loop Inv-loop2 μ-loop2
 loop2-less c = search needs
 
 loop2-again : tie.Need-loop2-again Inv-loop μ-loop Inv-loop2 μ-loop2
-loop2-again c = blank-more (c .before .before .loop2 .inv) 0 (search needs) refl (eq-eqb 0 _ (sym (c .if4 .left)))
+loop2-again c = blank-more (c .before .before .loop2 .inv) 0 (search needs) refl (c .still-blank .ensures)
 
-returns-5 : tie.Need-returns-5 Inv-loop μ-loop Inv-loop2 μ-loop2
-returns-5 c = blank-all (c .before .loop2 .inv) (search needs)
+returns-4 : tie.Need-returns-4 Inv-loop μ-loop Inv-loop2 μ-loop2
+returns-4 c = blank-all (c .before .loop2 .inv) (search needs)
 
 pub widths-valid-spec : {M : Type 1} → statement M
 widths-valid-spec =
@@ -102,10 +103,10 @@ widths-valid-spec =
     loop-less
     loop-again
     loop2-holds
-    mul-if4
-    array-read-if4
-    returns-4
+    mul-still-blank
+    array-read-still-blank
+    still-blank-requires
     add-i-2
     loop2-less
     loop2-again
-    returns-5)
+    returns-4)
