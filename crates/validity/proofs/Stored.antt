@@ -1,7 +1,7 @@
 -- A list stored in an array, blank behind it: what each test of the code says of it. One law for each answer of the tests of a whole list.
 use Prim.Native.Nat.{ℕ, _≤_, _<_}
 use mathlib.Core.Path.{_≡_, refl, sym, _∙_}
-use mathlib.Core.Bool.{Bool, true, false, _&&_, and-false, and-true}
+use mathlib.Core.Bool.{Bool, true, false, _&&_, and-false}
 use mathlib.Core.List.{List, [], map-map, map-id}
 use mathlib.Core.Option.{none}
 use native.Mathlib.Omega.{arith}
@@ -25,11 +25,12 @@ use Rattle.policy.specs.Policy.{Side}
 use Rattle.policy.specs.Value.{widthPlaces, entryPlaces, wordPlaces, slot, noEntry, noRule, entriesOf, register, ruleValue, ruleOf}
 use Rattle.policy.specs.Valid.{sameLine, sameEntry, sameSlot, sameRegister, sameRule}
 use Rattle.policy.specs.declared.value.Entry.{Entry}
-use Rattle.policy.specs.declared.value.Register.{Register}
 use Rattle.policy.specs.declared.value.RuleValue.{RuleValue}
 use Rattle.policy.proofs.Same.{exact-number, exact-line, exact-entry, exact-slot}
-use Rattle.policy.proofs.Sound.{widthsSound, entriesSound}
-use Rattle.validity.specs.Parts.{holds, widthsValid, registerValid}
+use Rattle.policy.proofs.Parts.{lineFits, lineAbove, numberFits, numberAbove, lines-rising, entries-rising}
+use Rattle.policy.proofs.Rising.{rising}
+use Rattle.policy.proofs.Sound.{widthsSound}
+use Rattle.validity.specs.Parts.{holds, widthsValid, linesValid, registerValid}
 
 -- ---- any list
 
@@ -79,28 +80,29 @@ module _ (most : ℕ) (ws : List ℕ) (n : ℕ) (k : length ws ≡ widthPlaces) 
   unfolding widthsValid
   widths-many h = rw (holds-out eqb 0 ws n widthPlaces k h)
 
-  pub widths-unsound : {b : Bool} → b ≡ widthsSound most 0 (take n ws) → b ≡ false → false ≡ widthsValid most ws n
+  pub widths-in : 1 ≤ n → n ≤ widthPlaces → widthsValid most ws n ≡ (all (eqb 0) (drop n ws) && widthsSound most 0 (take n ws))
   unfolding widthsValid
-  widths-unsound q e = rw (← q, e, and-false, and-false)
+  widths-in h g = rw (le-leb 1 (length (take n ws)) (omega (arith, length-take n ws)), holds-in eqb 0 ws n widthPlaces k (exact-number .self) g)
 
-  pub widths-stored : 1 ≤ n → n ≤ widthPlaces → {b r : Bool} → b ≡ widthsSound most 0 (take n ws) → b ≡ true
-      → r ≡ all (eqb 0) (drop n ws) → r ≡ widthsValid most ws n
-  unfolding widthsValid
-  widths-stored h g q e t =
-      rw (← q, e, le-leb 1 (length (take n ws)) (omega (arith, length-take n ws)), and-true, holds-in eqb 0 ws n widthPlaces k (exact-number .self) g) t
+module _ (s : Side) (ls : List Direct) (n : ℕ) (k : length ls ≡ linePlaces) where
+  pub lines-out : linePlaces < n → false ≡ linesValid s ls n
+  unfolding linesValid
+  lines-out h = rw (holds-out sameLine (direct 0 0) ls n linePlaces k h)
 
-pub lines-stored : (ls : List Direct) (n : ℕ) → length ls ≡ linePlaces → n ≤ linePlaces
-    → holds sameLine linePlaces (direct 0 0) ls n ≡ all (sameLine (direct 0 0)) (drop n ls)
-lines-stored ls n k h = holds-in sameLine (direct 0 0) ls n linePlaces k (exact-line .self) h
+  pub lines-in : n ≤ linePlaces → linesValid s ls n ≡ (all (sameLine (direct 0 0)) (drop n ls) && rising (lineFits s) lineAbove none (take n ls))
+  unfolding linesValid
+  lines-in h = rw (holds-in sameLine (direct 0 0) ls n linePlaces k (exact-line .self) h, lines-rising s none (take n ls))
 
-pub entries-stored : (es : List Entry) (n : ℕ) → length es ≡ entryPlaces → n ≤ entryPlaces
-    → holds sameEntry entryPlaces noEntry es n ≡ all (sameEntry noEntry) (drop n es)
-entries-stored es n k h = holds-in sameEntry noEntry es n entryPlaces k (exact-entry .self) h
+module _ (most : ℕ) (s : Side) (es : List Entry) (n : ℕ) (k : length es ≡ entryPlaces) where
+  pub entries-out : entryPlaces < n → false ≡ registerValid most s (record { count = n; entries = es })
+  unfolding registerValid sameRegister register entriesOf holds
+  entries-out h = rw (holds-out sameEntry noEntry es n entryPlaces k h)
 
-pub register-is : (most : ℕ) (s : Side) (x : Register)
-    → registerValid most s x ≡ (holds sameEntry entryPlaces noEntry (x .entries) (x .count) && entriesSound most s none (take (x .count) (x .entries)))
-unfolding registerValid sameRegister register entriesOf holds
-register-is most s x = refl
+  pub entries-in : n ≤ entryPlaces
+      → registerValid most s (record { count = n; entries = es })
+      ≡ (all (sameEntry noEntry) (drop n es) && rising (numberFits most s) numberAbove none (take n es))
+  unfolding registerValid sameRegister register entriesOf holds
+  entries-in h = rw (holds-in sameEntry noEntry es n entryPlaces k (exact-entry .self) h, entries-rising most s none (take n es))
 
 module _ (x : RuleValue) (k : length (x .words) ≡ wordPlaces) where
   rule-holds : sameRule (ruleValue (ruleOf x)) x ≡ holds sameSlot wordPlaces (slot True) (x .words) (x .count)

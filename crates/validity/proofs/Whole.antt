@@ -85,7 +85,7 @@ rules-order true b r = refl
 rules-order false b r = sym (and-false b)
 
 module _ (p : Policy) (x : Rules) (k : length (x .entries) ≡ rulePlaces) where
-  pub rules-out : rulePlaces < x .count → rulesValid p x ≡ false
+  pub rules-out : rulePlaces < x .count → false ≡ rulesValid p x
   unfolding rulesValid sameRules rulesValue rulesOf
   rules-out h = rw (length-map, ne-eqb (length (take (x .count) (x .entries))) (x .count) (λ q. omega (arith, length-take (x .count) (x .entries))))
 

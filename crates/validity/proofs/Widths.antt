@@ -1,23 +1,27 @@
--- The loop over the first n widths of a side: the widths before place i pass and sum to t. Widths that pass have a small sum.
+-- The loop over the first n widths of a side: the widths before place i pass and sum to t, and the answer is that of the rest and of the places
+-- from n on. Widths that pass have a small sum.
 use Prim.Native.Nat.{ℕ, _+_, _≤_, _<_}
 use mathlib.Core.Path.{_≡_, refl, sym, _∙_}
-use mathlib.Core.Bool.{Bool, true, false, _&&_}
+use mathlib.Core.Bool.{Bool, true, false, _&&_, and-false, and-true}
 use mathlib.Core.List.{List, [], _∷_}
 use native.Mathlib.Nat.{add-zero}
 use native.Mathlib.Omega.{arith}
-use lib.Dec.{leb}
+use lib.Dec.{eqb, leb}
 use lib.ListN.{length, getD, take, drop}
-use Rattle.basis.specs.Lists.{sum}
+use Rattle.basis.specs.Lists.{all, sum}
 use Rattle.basis.proofs.Walk.{part-next, part-end}
 use Rattle.policy.specs.Policy.{Side, total}
 use Rattle.policy.specs.Checks.{widthFits}
 use Rattle.policy.proofs.Bounds.{width-fits, total-most}
 use Rattle.policy.proofs.Rising.{rising}
 use Rattle.policy.proofs.Sound.{widthsSound}
+use Rattle.validity.proofs.Blank.{BlankTo}
 
-pub record Summed (most : ℕ) (ws : List ℕ) (n t i : ℕ) : Type 0 where
+pub record Summed (most : ℕ) (answer : Bool) (ws : List ℕ) (m n t i : ℕ) : Type 0 where
+  pub places : length ws ≡ m
+  pub few : n ≤ m
   pub before : i ≤ n
-  pub rest : widthsSound most 0 (take n ws) ≡ widthsSound most t (drop i (take n ws))
+  pub rest : answer ≡ (all (eqb 0) (drop n ws) && widthsSound most t (drop i (take n ws)))
 
 -- a side with this sum
 abbrev alone : ℕ → Side
@@ -28,25 +32,28 @@ fits-after : (most t w : ℕ) (b : Bool) → ((s : Side) → t ≡ total s → b
 unfolding total sum widthFits
 fits-after most t w b f = rw (add-zero t) at (f (alone t) (sym (add-zero t)))
 
-module _ {most : ℕ} {ws : List ℕ} {n : ℕ} where
-  pub summed-none : Summed most ws n 0 0
-  summed-none = record { before = omega arith; rest = refl }
+module _ {most : ℕ} {answer : Bool} {ws : List ℕ} {m n : ℕ} where
+  pub summed-none : length ws ≡ m → n ≤ m → answer ≡ (all (eqb 0) (drop n ws) && widthsSound most 0 (take n ws)) → Summed most answer ws m n 0 0
+  summed-none k h e = record { places = k; few = h; before = omega arith; rest = e }
 
-  module _ {t i : ℕ} (q : Summed most ws n t i) where
-    pub summed-all : n ≤ i → true ≡ widthsSound most 0 (take n ws)
+  module _ {t i : ℕ} (q : Summed most answer ws m n t i) where
+    -- all pass: what is left is behind them
+    pub summed-all : n ≤ i → BlankTo answer (eqb 0) ws m i true
     unfolding widthsSound
-    summed-all h = sym (q .rest ∙ rw (part-end ws n i h))
+    summed-all h =
+        let e : n ≡ i = omega arith in
+        record { places = q .places; rest = q .rest ∙ rw (part-end ws n i h, and-true, e) }
 
-    module _ (h : i < n) (k : n ≤ length ws) {b : Bool} (f : (s : Side) → t ≡ total s → b ≡ widthFits most s (getD ws i 0)) where
-      turn : widthsSound most 0 (take n ws) ≡ (b && widthsSound most (t + getD ws i 0) (drop (i + 1) (take n ws)))
+    module _ (h : i < n) {b : Bool} (f : (s : Side) → t ≡ total s → b ≡ widthFits most s (getD ws i 0)) where
+      turn : answer ≡ (all (eqb 0) (drop n ws) && (b && widthsSound most (t + getD ws i 0) (drop (i + 1) (take n ws))))
       unfolding widthsSound
-      turn = q .rest ∙ rw (part-next 0 ws i n h k, ← fits-after most t (getD ws i 0) b f)
+      turn = q .rest ∙ rw (part-next 0 ws i n h (rw (q .places) (q .few)), ← fits-after most t (getD ws i 0) b f)
 
-      pub summed-not : b ≡ false → false ≡ widthsSound most 0 (take n ws)
-      summed-not e = sym (turn ∙ rw e)
+      pub summed-not : b ≡ false → false ≡ answer
+      summed-not e = sym (turn ∙ rw (e, and-false))
 
-      pub summed-more : b ≡ true → Summed most ws n (t + getD ws i 0) (i + 1)
-      summed-more e = record { before = omega arith; rest = turn ∙ rw e }
+      pub summed-more : b ≡ true → Summed most answer ws m n (t + getD ws i 0) (i + 1)
+      summed-more e = record { places = q .places; few = q .few; before = omega arith; rest = turn ∙ rw e }
 
 -- a width that passes does not pass the limit
 pub sum-bound : (most t w : ℕ) (b : Bool) → ((s : Side) → t ≡ total s → b ≡ widthFits most s w) → b ≡ true → t + w ≤ most

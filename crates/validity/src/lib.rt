@@ -3,6 +3,7 @@ ghost use mathlib.Core.Path.{_≡_};
 ghost use Rattle.policy.specs.Valid.{valid};
 ghost use Rattle.validity.specs.Parts.{SidesValid, listsValid};
 
+mod behind;
 mod order;
 mod register;
 mod rules;

@@ -1,24 +1,35 @@
 // The registered users, or objects.
 ghost use mathlib.Core.Path.{_≡_};
-ghost use mathlib.Core.Option.{none};
-ghost use Prim.Native.Nat.{_≤_, _<_};
-ghost use lib.ListN.{take, drop};
-ghost use Rattle.basis.specs.Lists.{all};
+ghost use Prim.Native.Nat.{_<_};
 ghost use Rattle.sets.specs.Set.{masks};
 ghost use Rattle.policy.specs.Policy as policy;
-ghost use Rattle.policy.specs.Value.{entryPlaces, noEntry};
+ghost use Rattle.policy.specs.Value.{noEntry};
 ghost use Rattle.policy.specs.Valid.{sameEntry};
-ghost use Rattle.policy.proofs.Sound.{entriesSound};
 ghost use Rattle.validity.specs.Parts.{registerValid};
 use policy::value::ENTRY_PLACES;
 use policy::value::Entry;
 use policy::value::Register;
 
-// The first n entries pass their checks one after the other.
-fn entries_sound(most: u32, total: u32, entries: [Entry; ENTRY_PLACES], n: usize) -> bool
-    requires { ⌜ (n ≤ entryPlaces) × (total < masks) ⌝ }
-    ensures { λ r. ⌜ ((s : policy.Side) → total ≡ policy.total s → r ≡ entriesSound most s none (take n entries)) ⌝ }
+fn no_entry(e: Entry) -> bool
+    ensures { λ r. ⌜ r ≡ sameEntry noEntry e ⌝ }
 {
+    if e.number == 0 {
+        return e.set == 0;
+    }
+    false
+}
+
+// Check 11 of the users or objects: no more than there are places, each sound, and nothing behind the last.
+pub fn register_valid(most: u32, total: u32, x: Register) -> bool
+    requires { ⌜ total < masks ⌝ }
+    ensures { λ r. ⌜ ((s : policy.Side) → total ≡ policy.total s → r ≡ registerValid most s x) ⌝ }
+{
+    let n = x.count;
+    if ENTRY_PLACES < n {
+        return false;
+    }
+    // both loops look at this one copy
+    let entries = x.entries;
     let mut last: u32 = 0;
     let mut i = 0;
     while i < n {
@@ -32,45 +43,11 @@ fn entries_sound(most: u32, total: u32, entries: [Entry; ENTRY_PLACES], n: usize
         last = e.number;
         i += 1;
     }
-    true
-}
-
-fn no_entry(e: Entry) -> bool
-    ensures { λ r. ⌜ r ≡ sameEntry noEntry e ⌝ }
-{
-    if e.number == 0 {
-        return e.set == 0;
-    }
-    false
-}
-
-// Every entry from place n on is blank.
-fn entries_blank(entries: [Entry; ENTRY_PLACES], n: usize) -> bool
-    ensures { λ r. ⌜ r ≡ all (sameEntry noEntry) (drop n entries) ⌝ }
-{
-    let mut i = n;
+    let mut blank = true;
     while i < ENTRY_PLACES {
         let e = entries[i];
-        if !no_entry(e) {
-            return false;
-        }
+        blank = crate::behind::still_blank(blank, no_entry(e));
         i += 1;
     }
-    true
-}
-
-// Check 11 of the users or objects: no more than there are places, each sound, and nothing behind the last.
-pub fn register_valid(most: u32, total: u32, x: Register) -> bool
-    requires { ⌜ total < masks ⌝ }
-    ensures { λ r. ⌜ ((s : policy.Side) → total ≡ policy.total s → r ≡ registerValid most s x) ⌝ }
-{
-    let n = x.count;
-    if ENTRY_PLACES < n {
-        return false;
-    }
-    let entries = x.entries;
-    if !entries_sound(most, total, entries, n) {
-        return false;
-    }
-    entries_blank(entries, n)
+    blank
 }

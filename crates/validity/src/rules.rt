@@ -1,14 +1,14 @@
 // The rules and their words.
 ghost use mathlib.Core.Path.{_≡_};
 ghost use Prim.Native.Nat.{_≤_};
-ghost use lib.ListN.{take, drop};
+ghost use lib.ListN.{drop};
 ghost use Rattle.basis.specs.Lists.{all};
 ghost use Rattle.words.specs.declared.Word.the-variants as word;
 ghost use Rattle.policy.specs.Policy.{Policy};
-ghost use Rattle.policy.specs.Value.{widthPlaces, wordPlaces, rulePlaces, slot, noRule, ruleOf};
+ghost use Rattle.policy.specs.Value.{widthPlaces, wordPlaces, slot, noRule, ruleOf};
 ghost use Rattle.policy.specs.Valid.{sameSlot, sameRule};
 ghost use Rattle.policy.proofs.Sound.{ruleSound};
-ghost use Rattle.validity.specs.Parts.{ShapedBy, ruleValid, rulesRising, rulesValid};
+ghost use Rattle.validity.specs.Parts.{ShapedBy, ruleValid, rulesValid};
 use checks::side::Shape;
 use policy::value::RULE_PLACES;
 use policy::value::RuleValue;
@@ -36,16 +36,15 @@ fn no_word(w: Word) -> bool
 fn words_blank(slots: [Slot; WORD_PLACES], n: usize) -> bool
     ensures { λ r. ⌜ r ≡ all (sameSlot (slot word.True)) (drop n slots) ⌝ }
 {
+    let mut blank = true;
     let mut i = n;
     while i < WORD_PLACES {
         let s = slots[i];
         let w = s.word;
-        if !no_word(w) {
-            return false;
-        }
+        blank = crate::behind::still_blank(blank, no_word(w));
         i += 1;
     }
-    true
+    blank
 }
 
 // A rule's checks, but that it rises.
@@ -83,33 +82,6 @@ fn rule_valid(actions: u32, user: Shape, object: Shape, x: RuleValue) -> bool
     words_blank(slots, n)
 }
 
-// The first n rules pass their checks one after the other.
-fn rules_sound(
-    actions: u32,
-    user: Shape,
-    object: Shape,
-    rules: [RuleValue; RULE_PLACES],
-    n: usize,
-) -> bool
-    requires { ⌜ (n ≤ rulePlaces) × (user .attributes ≤ widthPlaces) × (object .attributes ≤ widthPlaces) ⌝ }
-    ensures { λ r. ⌜ ((p : Policy) → ShapedBy actions user object p → r ≡ rulesRising p (take n rules)) ⌝ }
-{
-    let mut last: u32 = 0;
-    let mut i = 0;
-    while i < n {
-        let x = rules[i];
-        if !rule_valid(actions, user, object, x) {
-            return false;
-        }
-        if !crate::order::number_rises(i, last, x.action) {
-            return false;
-        }
-        last = x.action;
-        i += 1;
-    }
-    true
-}
-
 fn no_rule(x: RuleValue) -> bool
     ensures { λ r. ⌜ r ≡ sameRule noRule x ⌝ }
 {
@@ -123,21 +95,6 @@ fn no_rule(x: RuleValue) -> bool
     words_blank(slots, 0)
 }
 
-// Every rule from place n on is blank.
-fn rules_blank(rules: [RuleValue; RULE_PLACES], n: usize) -> bool
-    ensures { λ r. ⌜ r ≡ all (sameRule noRule) (drop n rules) ⌝ }
-{
-    let mut i = n;
-    while i < RULE_PLACES {
-        let x = rules[i];
-        if !no_rule(x) {
-            return false;
-        }
-        i += 1;
-    }
-    true
-}
-
 // Check 11 of the rules: no more than there are places, each sound, and nothing behind the last.
 pub fn rules_valid(actions: u32, user: Shape, object: Shape, x: Rules) -> bool
     requires { ⌜ (user .attributes ≤ widthPlaces) × (object .attributes ≤ widthPlaces) ⌝ }
@@ -147,9 +104,26 @@ pub fn rules_valid(actions: u32, user: Shape, object: Shape, x: Rules) -> bool
     if RULE_PLACES < n {
         return false;
     }
+    // both loops look at this one copy
     let rules = x.entries;
-    if !rules_sound(actions, user, object, rules, n) {
-        return false;
+    let mut last: u32 = 0;
+    let mut i = 0;
+    while i < n {
+        let y = rules[i];
+        if !rule_valid(actions, user, object, y) {
+            return false;
+        }
+        if !crate::order::number_rises(i, last, y.action) {
+            return false;
+        }
+        last = y.action;
+        i += 1;
     }
-    rules_blank(rules, n)
+    let mut blank = true;
+    while i < RULE_PLACES {
+        let y = rules[i];
+        blank = crate::behind::still_blank(blank, no_rule(y));
+        i += 1;
+    }
+    blank
 }

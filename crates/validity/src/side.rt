@@ -1,16 +1,13 @@
 // The lists of a side: its widths and its direct seniorities.
 ghost use mathlib.Core.Path.{_≡_};
-ghost use mathlib.Core.Option.{none};
 ghost use Prim.Native.Nat.{_≤_, _<_};
-ghost use lib.Dec.{eqb};
-ghost use lib.ListN.{take, drop};
-ghost use Rattle.basis.specs.Lists.{all, sum};
+ghost use lib.ListN.{take};
+ghost use Rattle.basis.specs.Lists.{sum};
 ghost use Rattle.sets.specs.Set.{masks};
-ghost use Rattle.seniority.specs.Seniority.{linePlaces, direct};
+ghost use Rattle.seniority.specs.Seniority.{direct};
 ghost use Rattle.policy.specs.Policy as policy;
 ghost use Rattle.policy.specs.Value.{widthPlaces, sideOf};
 ghost use Rattle.policy.specs.Valid.{sameLine};
-ghost use Rattle.policy.proofs.Sound.{widthsSound, linesSound};
 ghost use Rattle.checks.specs.Sides.{Shaped};
 ghost use Rattle.validity.specs.Parts.{widthsValid, linesValid, sideValid, SmallShape};
 use checks::side::Shape;
@@ -18,39 +15,6 @@ use policy::value::SideValue;
 use policy::value::WIDTH_PLACES;
 use seniority::Direct;
 use seniority::LINE_PLACES;
-
-// The first n widths pass their check one after the other.
-fn widths_sound(most: u32, widths: [u32; WIDTH_PLACES], n: usize) -> bool
-    requires { ⌜ n ≤ widthPlaces ⌝ }
-    ensures { λ r. ⌜ r ≡ widthsSound most 0 (take n widths) ⌝ }
-{
-    let mut total: u32 = 0;
-    let mut i = 0;
-    while i < n {
-        let w = widths[i];
-        if !checks::side::width_fits(most, total, w) {
-            return false;
-        }
-        total += w;
-        i += 1;
-    }
-    true
-}
-
-// Every width from place n on is 0.
-fn widths_blank(widths: [u32; WIDTH_PLACES], n: usize) -> bool
-    ensures { λ r. ⌜ r ≡ all (eqb 0) (drop n widths) ⌝ }
-{
-    let mut i = n;
-    while i < WIDTH_PLACES {
-        let w = widths[i];
-        if w != 0 {
-            return false;
-        }
-        i += 1;
-    }
-    true
-}
 
 // At least one width and no more than there are places, each sound, and nothing behind the last.
 fn widths_valid(most: u32, widths: [u32; WIDTH_PLACES], n: usize) -> bool
@@ -62,17 +26,41 @@ fn widths_valid(most: u32, widths: [u32; WIDTH_PLACES], n: usize) -> bool
     if WIDTH_PLACES < n {
         return false;
     }
-    if !widths_sound(most, widths, n) {
-        return false;
+    let mut total: u32 = 0;
+    let mut i = 0;
+    while i < n {
+        let w = widths[i];
+        if !checks::side::width_fits(most, total, w) {
+            return false;
+        }
+        total += w;
+        i += 1;
     }
-    widths_blank(widths, n)
+    let mut blank = true;
+    while i < WIDTH_PLACES {
+        blank = crate::behind::still_blank(blank, 0 == widths[i]);
+        i += 1;
+    }
+    blank
 }
 
-// The first n lines pass their checks one after the other.
-fn lines_sound(side: Shape, lines: [Direct; LINE_PLACES], n: usize) -> bool
-    requires { ⌜ (n ≤ linePlaces) × (side .attributes ≤ widthPlaces) ⌝ }
-    ensures { λ r. ⌜ ((s : policy.Side) → Shaped side s → r ≡ linesSound s none (take n lines)) ⌝ }
+fn no_line(l: Direct) -> bool
+    ensures { λ r. ⌜ r ≡ sameLine (direct 0 0) l ⌝ }
 {
+    if l.senior == 0 {
+        return l.junior == 0;
+    }
+    false
+}
+
+// No more lines than there are places, each sound, and nothing behind the last.
+fn lines_valid(side: Shape, lines: [Direct; LINE_PLACES], n: usize) -> bool
+    requires { ⌜ side .attributes ≤ widthPlaces ⌝ }
+    ensures { λ r. ⌜ ((s : policy.Side) → Shaped side s → r ≡ linesValid s lines n) ⌝ }
+{
+    if LINE_PLACES < n {
+        return false;
+    }
     let mut last = Direct {
         senior: 0,
         junior: 0,
@@ -89,45 +77,13 @@ fn lines_sound(side: Shape, lines: [Direct; LINE_PLACES], n: usize) -> bool
         last = l;
         i += 1;
     }
-    true
-}
-
-fn no_line(l: Direct) -> bool
-    ensures { λ r. ⌜ r ≡ sameLine (direct 0 0) l ⌝ }
-{
-    if l.senior == 0 {
-        return l.junior == 0;
-    }
-    false
-}
-
-// Every line from place n on is blank.
-fn lines_blank(lines: [Direct; LINE_PLACES], n: usize) -> bool
-    ensures { λ r. ⌜ r ≡ all (sameLine (direct 0 0)) (drop n lines) ⌝ }
-{
-    let mut i = n;
+    let mut blank = true;
     while i < LINE_PLACES {
         let l = lines[i];
-        if !no_line(l) {
-            return false;
-        }
+        blank = crate::behind::still_blank(blank, no_line(l));
         i += 1;
     }
-    true
-}
-
-// No more lines than there are places, each sound, and nothing behind the last.
-fn lines_valid(side: Shape, lines: [Direct; LINE_PLACES], n: usize) -> bool
-    requires { ⌜ side .attributes ≤ widthPlaces ⌝ }
-    ensures { λ r. ⌜ ((s : policy.Side) → Shaped side s → r ≡ linesValid s lines n) ⌝ }
-{
-    if LINE_PLACES < n {
-        return false;
-    }
-    if !lines_sound(side, lines, n) {
-        return false;
-    }
-    lines_blank(lines, n)
+    blank
 }
 
 // Check 11 of a side.

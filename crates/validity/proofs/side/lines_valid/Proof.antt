@@ -1,37 +1,124 @@
--- `validity::side::lines_valid` meets its contract: too many lines, lines that do not pass, and else what is behind them.
-use mathlib.Core.Bool.{and-false, and-true}
+-- `validity::side::lines_valid` meets its contract: the lines before place i pass and rise, and `blank` says whether those
+-- from place n to i are.
+use Prim.Native.Nat.{_-_}
 use borrow.Author.Tests.{not-true, not-false}
 use borrow.Author.Needs.{needs}
+use lib.ListN.{drop}
+use Rattle.basis.specs.Lists.{all}
 use Rattle.basis.proofs.Lists.{long}
 use Rattle.seniority.specs.Seniority.{linePlaces, direct}
 use Rattle.policy.specs.Valid.{sameLine}
+use Rattle.policy.proofs.Parts.{lineFits, lineAbove}
+use Rattle.checks.specs.Sides.{Shaped}
 use Rattle.validity.specs.Parts.{linesValid}
-use Rattle.validity.proofs.Stored.{holds-out, lines-stored}
+use Rattle.validity.proofs.Blank.{BlankTo, blank-all, blank-more}
+use Rattle.validity.proofs.Rising.{Risen, risen-none, risen-blank, risen-all, risen-unfit, risen-falls, risen-more}
+use Rattle.validity.proofs.Stored.{lines-out, lines-in}
 use Rattle.validity.proofs.side.lines_valid.Statement.{statement}
 use Rattle.validity.proofs.side.lines_valid.Tie as tie
 
-returns : tie.Need-returns
-unfolding linesValid
-returns c = λ s p. rw (holds-out sameLine (direct 0 0) (c .before .args .lines) (c .before .args .n) linePlaces (search (needs, long)) (c .if1 .taken))
+abbrev Inv-loop : tie.InvT-loop
+Inv-loop side n lines last₀ i₀ last i =
+    Risen (Shaped side) (λ s. linesValid s lines n) (sameLine (direct 0 0)) lineFits (λ l. l) lineAbove lines linePlaces n i last
 
-lines-sound-requires : tie.Need-lines-sound-requires
-lines-sound-requires c κs = search needs
+abbrev μ-loop : tie.MeasureT-loop
+μ-loop side n lines last₀ i₀ last i = n - i
 
-returns-2 : tie.Need-returns-2
-unfolding linesValid
-returns-2 c = λ s p. rw (← c .before .lines-sound .ensures s p, not-true (c .before .lines-sound .result) (c .if2 .taken), and-false)
+abbrev Inv-loop2 : tie.InvT-loop2
+Inv-loop2 n lines i₀ blank₀ i blank = BlankTo (all (sameLine (direct 0 0)) (drop n lines)) (sameLine (direct 0 0)) lines linePlaces i blank
 
-lines-blank-requires : tie.Need-lines-blank-requires
-lines-blank-requires c κs = search needs
+abbrev μ-loop2 : tie.MeasureT-loop2
+μ-loop2 n lines i₀ blank₀ i blank = linePlaces - i
 
-returns-3 : tie.Need-returns-3
-unfolding linesValid
-returns-3 c = λ s p.
-    let a = c .before .before .before .before .args in
-    let l = c .before .before .lines-sound in
-    rw (← l .ensures s p, not-false (l .result) (c .before .if2 .left), and-true, lines-stored (a .lines) (a .n) (search (needs, long)) (search needs))
-    (c .lines-blank .ensures)
+returns : tie.Need-returns Inv-loop μ-loop Inv-loop2 μ-loop2
+returns c = λ s p. lines-out s _ _ (search (needs, long)) (c .if1 .taken)
+
+loop-holds : tie.Need-loop-holds Inv-loop μ-loop Inv-loop2 μ-loop2
+loop-holds c = risen-none (search (needs, long)) (search needs) (λ s. lines-in s _ _ (search (needs, long)) (search needs))
+
+mul-l : tie.Need-mul-l Inv-loop μ-loop Inv-loop2 μ-loop2
+mul-l c = search needs
+
+array-copy-out-l : tie.Need-array-copy-out-l Inv-loop μ-loop Inv-loop2 μ-loop2
+array-copy-out-l c = search needs
+
+pair-fits-requires : tie.Need-pair-fits-requires Inv-loop μ-loop Inv-loop2 μ-loop2
+pair-fits-requires c κs = search needs
+
+returns-2 : tie.Need-returns-2 Inv-loop μ-loop Inv-loop2 μ-loop2
+returns-2 c = risen-unfit (c .before .before .before .before .loop .inv) (direct 0 0) (search needs) (c .before .pair-fits .ensures) (not-true _ (c .if2 .taken))
+
+pair-rises-requires : tie.Need-pair-rises-requires Inv-loop μ-loop Inv-loop2 μ-loop2
+pair-rises-requires c κs = search needs
+
+returns-3 : tie.Need-returns-3 Inv-loop μ-loop Inv-loop2 μ-loop2
+returns-3 c =
+    risen-falls (c .before .before .before .before .before .before .loop .inv) (direct 0 0) (search needs)
+    (c .before .before .before .pair-fits .ensures) (not-false _ (c .before .before .if2 .left)) (c .before .pair-rises .ensures) (not-true _ (c .if3 .taken))
+
+add-i : tie.Need-add-i Inv-loop μ-loop Inv-loop2 μ-loop2
+add-i c = search needs
+
+loop-less : tie.Need-loop-less Inv-loop μ-loop Inv-loop2 μ-loop2
+loop-less c = search needs
+
+loop-again : tie.Need-loop-again Inv-loop μ-loop Inv-loop2 μ-loop2
+loop-again c =
+    risen-more (c .before .before .before .before .before .before .loop .inv) (direct 0 0) (search needs)
+    (c .before .before .before .pair-fits .ensures) (not-false _ (c .before .before .if2 .left)) (c .before .pair-rises .ensures) (not-false _ (c .if3 .left))
+
+loop2-holds : tie.Need-loop2-holds Inv-loop μ-loop Inv-loop2 μ-loop2
+loop2-holds c = risen-blank (c .before .loop .inv) (c .loop-test .left)
+
+mul-l-2 : tie.Need-mul-l-2 Inv-loop μ-loop Inv-loop2 μ-loop2
+mul-l-2 c = search needs
+
+array-copy-out-l-2 : tie.Need-array-copy-out-l-2 Inv-loop μ-loop Inv-loop2 μ-loop2
+array-copy-out-l-2 c = search needs
+
+no-line-requires : tie.Need-no-line-requires Inv-loop μ-loop Inv-loop2 μ-loop2
+no-line-requires c κs = search needs
+
+still-blank-requires : tie.Need-still-blank-requires Inv-loop μ-loop Inv-loop2 μ-loop2
+still-blank-requires c κs = search needs
+
+add-i-2 : tie.Need-add-i-2 Inv-loop μ-loop Inv-loop2 μ-loop2
+add-i-2 c = search needs
+
+loop2-less : tie.Need-loop2-less Inv-loop μ-loop Inv-loop2 μ-loop2
+loop2-less c = search needs
+
+loop2-again : tie.Need-loop2-again Inv-loop μ-loop Inv-loop2 μ-loop2
+loop2-again c = blank-more (c .before .before .before .before .loop2 .inv) (direct 0 0) (search needs) (c .before .no-line .ensures) (c .still-blank .ensures)
+
+returns-4 : tie.Need-returns-4 Inv-loop μ-loop Inv-loop2 μ-loop2
+returns-4 c = risen-all (c .before .before .before .loop .inv) (c .before .before .loop-test .left) (blank-all (c .before .loop2 .inv) (search needs))
 
 pub lines-valid-spec : {M : Type 1} → statement M
 lines-valid-spec =
-    tie.close (tie.spec returns lines-sound-requires returns-2 lines-blank-requires returns-3)
+    tie.close
+    (tie.spec
+    Inv-loop
+    μ-loop
+    Inv-loop2
+    μ-loop2
+    returns
+    loop-holds
+    mul-l
+    array-copy-out-l
+    pair-fits-requires
+    returns-2
+    pair-rises-requires
+    returns-3
+    add-i
+    loop-less
+    loop-again
+    loop2-holds
+    mul-l-2
+    array-copy-out-l-2
+    no-line-requires
+    still-blank-requires
+    add-i-2
+    loop2-less
+    loop2-again
+    returns-4)
