@@ -14,6 +14,7 @@ use line::fault::Fault;
 use line::numbers::Before;
 use policy::TEXT_BYTES;
 use policy::refusal::Refusal;
+use policy::value::Entry;
 use policy::value::PolicyValue;
 use policy::value::Reading;
 use policy::value::Verdict;
@@ -87,7 +88,14 @@ pub fn read(text: &[u8]) -> Reading
             }
             Kind::Usen => user = value::with_line(user, x.first, x.second),
             Kind::Osen => object = value::with_line(object, x.first, x.second),
-            Kind::User => users = value::with_entry(users, x.first, x.second),
+            Kind::User => {
+                let i = users.count;
+                users.entries[i] = Entry {
+                    number: x.first,
+                    set: x.second,
+                };
+                users.count = i + 1;
+            }
             Kind::Object => objects = value::with_entry(objects, x.first, x.second),
             Kind::Rule => {
                 let y = line::rule::admit(x.first, line, before, form, user_shape, object_shape);

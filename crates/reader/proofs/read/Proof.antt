@@ -7,6 +7,7 @@ use denote.Ref.{now}
 use lib.ListN.{length}
 use Rattle.policy.specs.Answers.{valueIn}
 use Rattle.reader.proofs.States.{Held, At, Step, Taken, at-sides, at-sized, blank-sized, at-start, too-long, at-open, at-ended, at-unended, at-value, step-refused, rule-counted, rule-refused}
+use Rattle.reader.proofs.Stored.{stored-entry}
 use Rattle.reader.proofs.Turns.{at-form, uattr-room, uattr-sized, at-uattr, oattr-room, oattr-sized, at-oattr, usen-room, at-usen, osen-room, at-osen, user-room, at-user, object-room, at-object, rule-room, at-rule, at-end}
 use Rattle.reader.proofs.read.Statement.{statement}
 use Rattle.reader.proofs.read.Tie as tie
@@ -192,26 +193,35 @@ loop-again-5 c = at-osen (taken (c .before .before .before)) (c .before .enum-to
 enum-told-7 : tie.Need-enum-told-7 Inv-loop μ-loop
 enum-told-7 c = search needs
 
-with-entry-requires : tie.Need-with-entry-requires Inv-loop μ-loop
-with-entry-requires c κs = user-room (taken (c .before .before)) (c .enum-told7 .given .1)
+mul-t37 : tie.Need-mul-t37 Inv-loop μ-loop
+mul-t37 c = let h = user-room (taken (c .before .before)) (c .enum-told7 .given .1) in search needs
+
+element-set-from-users : tie.Need-element-set-from-users Inv-loop μ-loop
+element-set-from-users c = user-room (taken (c .before .before)) (c .enum-told7 .given .1)
+
+add-users : tie.Need-add-users Inv-loop μ-loop
+add-users c = let h = user-room (taken (c .before .before)) (c .enum-told7 .given .1) in search needs
 
 loop-less-6 : tie.Need-loop-less-6 Inv-loop μ-loop
 loop-less-6 c = search needs
 
 loop-again-6 : tie.Need-loop-again-6 Inv-loop μ-loop
-loop-again-6 c = at-user (taken (c .before .before .before)) (c .before .enum-told7 .given .1) _ (c .with-entry .ensures)
+loop-again-6 c =
+    let j = taken (c .before .before) in
+    let q = c .enum-told7 .given .1 in
+    at-user j q _ (λ es e. stored-entry _ es e _ _ (user-room j q))
 
 enum-told-8 : tie.Need-enum-told-8 Inv-loop μ-loop
 enum-told-8 c = search needs
 
-with-entry-requires-2 : tie.Need-with-entry-requires-2 Inv-loop μ-loop
-with-entry-requires-2 c κs = object-room (taken (c .before .before)) (c .enum-told8 .given .1)
+with-entry-requires : tie.Need-with-entry-requires Inv-loop μ-loop
+with-entry-requires c κs = object-room (taken (c .before .before)) (c .enum-told8 .given .1)
 
 loop-less-7 : tie.Need-loop-less-7 Inv-loop μ-loop
 loop-less-7 c = search needs
 
 loop-again-7 : tie.Need-loop-again-7 Inv-loop μ-loop
-loop-again-7 c = at-object (taken (c .before .before .before)) (c .before .enum-told8 .given .1) _ (c .with-entry2 .ensures)
+loop-again-7 c = at-object (taken (c .before .before .before)) (c .before .enum-told8 .given .1) _ (c .with-entry .ensures)
 
 enum-told-9 : tie.Need-enum-told-9 Inv-loop μ-loop
 enum-told-9 c = search needs
@@ -319,11 +329,13 @@ read-spec =
     loop-less-5
     loop-again-5
     enum-told-7
-    with-entry-requires
+    mul-t37
+    element-set-from-users
+    add-users
     loop-less-6
     loop-again-6
     enum-told-8
-    with-entry-requires-2
+    with-entry-requires
     loop-less-7
     loop-again-7
     enum-told-9
