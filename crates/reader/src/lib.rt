@@ -18,6 +18,7 @@ use policy::value::Entry;
 use policy::value::PolicyValue;
 use policy::value::Reading;
 use policy::value::Verdict;
+use seniority::Direct;
 use text::kind::Kind;
 
 fn refused(r: Refusal, line: usize) -> Reading
@@ -76,6 +77,14 @@ pub fn read(text: &[u8]) -> Reading
         last = Before::After(k, x.first, x.second);
         at = e + 1;
         n += 1;
+        let pair = Direct {
+            senior: x.first,
+            junior: x.second,
+        };
+        let entry = Entry {
+            number: x.first,
+            set: x.second,
+        };
         match k {
             Kind::Policy => form = x.first,
             Kind::Uattr => {
@@ -86,17 +95,26 @@ pub fn read(text: &[u8]) -> Reading
                 object = value::with_width(object, x.first);
                 object_shape = value::shape(object);
             }
-            Kind::Usen => user = value::with_line(user, x.first, x.second),
-            Kind::Osen => object = value::with_line(object, x.first, x.second),
+            Kind::Usen => {
+                let i = user.lines;
+                user.seniority[i] = pair;
+                user.lines = i + 1;
+            }
+            Kind::Osen => {
+                let i = object.lines;
+                object.seniority[i] = pair;
+                object.lines = i + 1;
+            }
             Kind::User => {
                 let i = users.count;
-                users.entries[i] = Entry {
-                    number: x.first,
-                    set: x.second,
-                };
+                users.entries[i] = entry;
                 users.count = i + 1;
             }
-            Kind::Object => objects = value::with_entry(objects, x.first, x.second),
+            Kind::Object => {
+                let i = objects.count;
+                objects.entries[i] = entry;
+                objects.count = i + 1;
+            }
             Kind::Rule => {
                 let y = line::rule::admit(x.first, line, before, form, user_shape, object_shape);
                 let g = y.fault;
@@ -104,7 +122,9 @@ pub fn read(text: &[u8]) -> Reading
                     return refused(r, here);
                 }
                 let rule = y.rule;
-                rules = value::with_rule(rules, rule);
+                let i = rules.count;
+                rules.entries[i] = rule;
+                rules.count = i + 1;
             }
             Kind::End => {}
         }
