@@ -5,7 +5,9 @@ ghost use Rattle.basis.specs.Choice.{given};
 ghost use Rattle.text.specs.Kind.{isKind};
 ghost use Rattle.text.specs.declared.kind.Kind.the-variants as kind;
 ghost use Rattle.policy.specs.Answers.{numberOf, ReadAs};
-ghost use Rattle.policy.specs.Read.{Refused, readText};
+ghost use Rattle.policy.specs.Policy.{Policy};
+ghost use Rattle.policy.specs.Read.{Accepted, Refused, readText};
+ghost use Rattle.policy.specs.Value.{valueOf};
 ghost use Rattle.line.specs.Line.{beforeOf};
 
 mod value;
@@ -17,6 +19,9 @@ use policy::refusal::Refusal;
 use policy::value::Entry;
 use policy::value::PolicyValue;
 use policy::value::Reading;
+use policy::value::Register;
+use policy::value::Rules;
+use policy::value::SideValue;
 use policy::value::Verdict;
 use seniority::Direct;
 use text::kind::Kind;
@@ -27,6 +32,31 @@ fn refused(r: Refusal, line: usize) -> Reading
     let policy = value::blank();
     Reading {
         verdict: Verdict::Refused(r, line),
+        policy,
+    }
+}
+
+// The answer to an accepted text, by the parts of its value.
+fn accepted(
+    form: u32,
+    user: SideValue,
+    object: SideValue,
+    users: Register,
+    objects: Register,
+    rules: Rules,
+) -> Reading
+    ensures { λ r. ⌜ ((p : Policy) → record { form = form; user = user; object = object; users = users; objects = objects; rules = rules } ≡ valueOf p → ReadAs (Accepted p) r) ⌝ }
+{
+    let policy = PolicyValue {
+        form,
+        user,
+        object,
+        users,
+        objects,
+        rules,
+    };
+    Reading {
+        verdict: Verdict::Accepted,
         policy,
     }
 }
@@ -130,18 +160,7 @@ pub fn read(text: &[u8]) -> Reading
         }
     }
     if ended(last) {
-        let policy = PolicyValue {
-            form,
-            user,
-            object,
-            users,
-            objects,
-            rules,
-        };
-        return Reading {
-            verdict: Verdict::Accepted,
-            policy,
-        };
+        return accepted(form, user, object, users, objects, rules);
     }
     refused(Refusal::EndMissing, n)
 }

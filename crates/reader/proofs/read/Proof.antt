@@ -1,12 +1,10 @@
 -- `reader::read` meets its contract: what is held at a place stands for the state of reading there, and what is left to read from it is the text's outcome.
 use Prim.Native.Nat.{_-_, _<_}
-use mathlib.Core.Path.{refl}
 use native.Mathlib.Omega.{arith}
 use borrow.Author.Needs.{needs}
 use denote.Ref.{now}
 use lib.ListN.{length}
 use Rattle.seniority.specs.Seniority.{linePlaces}
-use Rattle.policy.specs.Answers.{valueIn}
 use Rattle.policy.specs.Value.{entryPlaces, rulePlaces}
 use Rattle.reader.proofs.States.{Held, At, Step, Taken, at-sides, at-sized, blank-sized, at-start, too-long, at-open, at-ended, at-unended, at-value, step-refused, rule-counted, rule-refused}
 use Rattle.reader.proofs.Stored.{stored-line, stored-entry, stored-rule}
@@ -309,9 +307,13 @@ loop-again-9 c = at-end (taken (c .before .before)) (c .enum-told11 .given .1)
 ended-requires : tie.Need-ended-requires Inv-loop μ-loop
 ended-requires c κs = search needs
 
+accepted-requires : tie.Need-accepted-requires Inv-loop μ-loop
+accepted-requires c κs = search needs
+
 returns-5 : tie.Need-returns-5 Inv-loop μ-loop
-unfolding valueIn
-returns-5 c = rw (at-ended (c .before .before .before .loop .inv) (c .before .before .loop-test .left) (c .before .ended .result) (c .before .ended .ensures) (c .if3 .taken)) (record { verdict = refl; value = at-value (c .before .before .before .loop .inv) })
+returns-5 c =
+    let i = c .before .before .before .before .loop .inv in
+    rw (at-ended i (c .before .before .before .loop-test .left) (c .before .before .ended .result) (c .before .before .ended .ensures) (c .before .if3 .taken)) (c .accepted .ensures _ (at-value i))
 
 refused-requires-5 : tie.Need-refused-requires-5 Inv-loop μ-loop
 refused-requires-5 c κs = search needs
@@ -397,6 +399,7 @@ read-spec =
     loop-less-9
     loop-again-9
     ended-requires
+    accepted-requires
     returns-5
     refused-requires-5
     returns-6)
