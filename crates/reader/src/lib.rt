@@ -2,6 +2,7 @@
 ghost use mathlib.Core.Path.{_≡_};
 ghost use mathlib.Core.Bool.{false};
 ghost use Rattle.basis.specs.Choice.{given};
+ghost use Rattle.seniority.specs.Seniority.{direct};
 ghost use Rattle.text.specs.Kind.{isKind};
 ghost use Rattle.text.specs.declared.kind.Kind.the-variants as kind;
 ghost use Rattle.policy.specs.Answers.{numberOf, ReadAs};
@@ -14,6 +15,7 @@ mod value;
 
 use line::fault::Fault;
 use line::numbers::Before;
+use line::numbers::Line;
 use policy::TEXT_BYTES;
 use policy::refusal::Refusal;
 use policy::value::Entry;
@@ -71,6 +73,26 @@ fn ended(before: Before) -> bool
     text::kind::same(Kind::End, k)
 }
 
+// The seniority that a line says.
+fn pair(x: Line) -> Direct
+    ensures { λ r. ⌜ r ≡ direct (x .first) (x .second) ⌝ }
+{
+    Direct {
+        senior: x.first,
+        junior: x.second,
+    }
+}
+
+// The user or object that a line says.
+fn entry(x: Line) -> Entry
+    ensures { λ r. ⌜ r ≡ record { number = x .first; set = x .second } ⌝ }
+{
+    Entry {
+        number: x.first,
+        set: x.second,
+    }
+}
+
 // The policy value of a text, or the refusal and its line.
 pub fn read(text: &[u8]) -> Reading
     ensures { λ r. ⌜ ReadAs (readText (now (text .entry))) r ⌝ }
@@ -107,14 +129,7 @@ pub fn read(text: &[u8]) -> Reading
         last = Before::After(k, x.first, x.second);
         at = e + 1;
         n += 1;
-        let pair = Direct {
-            senior: x.first,
-            junior: x.second,
-        };
-        let entry = Entry {
-            number: x.first,
-            set: x.second,
-        };
+        // The lists are changed in place: one that goes to a function and back is copied twice.
         match k {
             Kind::Policy => form = x.first,
             Kind::Uattr => {
@@ -127,22 +142,22 @@ pub fn read(text: &[u8]) -> Reading
             }
             Kind::Usen => {
                 let i = user.lines;
-                user.seniority[i] = pair;
+                user.seniority[i] = pair(x);
                 user.lines = i + 1;
             }
             Kind::Osen => {
                 let i = object.lines;
-                object.seniority[i] = pair;
+                object.seniority[i] = pair(x);
                 object.lines = i + 1;
             }
             Kind::User => {
                 let i = users.count;
-                users.entries[i] = entry;
+                users.entries[i] = entry(x);
                 users.count = i + 1;
             }
             Kind::Object => {
                 let i = objects.count;
-                objects.entries[i] = entry;
+                objects.entries[i] = entry(x);
                 objects.count = i + 1;
             }
             Kind::Rule => {

@@ -169,14 +169,17 @@ loop-again-3 c = at-oattr (taken (c .before .before .before .before)) (c .before
 enum-told-5 : tie.Need-enum-told-5 Inv-loop μ-loop
 enum-told-5 c = search needs
 
-usen-free : (c : tie.After-enum-told5 Inv-loop μ-loop) → held (c .before .before .before .before) .user .lines < linePlaces
-usen-free c = usen-room (taken (c .before .before)) (c .enum-told5 .given .1)
+pair-requires : tie.Need-pair-requires Inv-loop μ-loop
+pair-requires c κs = search needs
 
-mul-pair : tie.Need-mul-pair Inv-loop μ-loop
-mul-pair c = let h = usen-free c in search needs
+usen-free : (c : tie.After-pair Inv-loop μ-loop) → held (c .before .before .before .before .before) .user .lines < linePlaces
+usen-free c = usen-room (taken (c .before .before .before)) (c .before .enum-told5 .given .1)
 
-element-set-from-pair : tie.Need-element-set-from-pair Inv-loop μ-loop
-element-set-from-pair c = usen-free c
+mul-t46 : tie.Need-mul-t46 Inv-loop μ-loop
+mul-t46 c = let h = usen-free c in search needs
+
+element-set-from-user : tie.Need-element-set-from-user Inv-loop μ-loop
+element-set-from-user c = usen-free c
 
 add-user : tie.Need-add-user Inv-loop μ-loop
 add-user c = let h = usen-free c in search needs
@@ -185,19 +188,22 @@ loop-less-4 : tie.Need-loop-less-4 Inv-loop μ-loop
 loop-less-4 c = search needs
 
 loop-again-4 : tie.Need-loop-again-4 Inv-loop μ-loop
-loop-again-4 c = at-usen (taken (c .before .before)) (c .enum-told5 .given .1) _ (λ l e. stored-line _ l e _ _ (usen-free c))
+loop-again-4 c = at-usen (taken (c .before .before .before)) (c .before .enum-told5 .given .1) _ (λ l e. rw (c .pair .ensures) (stored-line _ l e _ _ (usen-free c)))
 
 enum-told-6 : tie.Need-enum-told-6 Inv-loop μ-loop
 enum-told-6 c = search needs
 
-osen-free : (c : tie.After-enum-told6 Inv-loop μ-loop) → held (c .before .before .before .before) .object .lines < linePlaces
-osen-free c = osen-room (taken (c .before .before)) (c .enum-told6 .given .1)
+pair-requires-2 : tie.Need-pair-requires-2 Inv-loop μ-loop
+pair-requires-2 c κs = search needs
 
-mul-pair-2 : tie.Need-mul-pair-2 Inv-loop μ-loop
-mul-pair-2 c = let h = osen-free c in search needs
+osen-free : (c : tie.After-pair2 Inv-loop μ-loop) → held (c .before .before .before .before .before) .object .lines < linePlaces
+osen-free c = osen-room (taken (c .before .before .before)) (c .before .enum-told6 .given .1)
 
-element-set-from-pair-2 : tie.Need-element-set-from-pair-2 Inv-loop μ-loop
-element-set-from-pair-2 c = osen-free c
+mul-t50 : tie.Need-mul-t50 Inv-loop μ-loop
+mul-t50 c = let h = osen-free c in search needs
+
+element-set-from-object : tie.Need-element-set-from-object Inv-loop μ-loop
+element-set-from-object c = osen-free c
 
 add-object : tie.Need-add-object Inv-loop μ-loop
 add-object c = let h = osen-free c in search needs
@@ -206,19 +212,22 @@ loop-less-5 : tie.Need-loop-less-5 Inv-loop μ-loop
 loop-less-5 c = search needs
 
 loop-again-5 : tie.Need-loop-again-5 Inv-loop μ-loop
-loop-again-5 c = at-osen (taken (c .before .before)) (c .enum-told6 .given .1) _ (λ l e. stored-line _ l e _ _ (osen-free c))
+loop-again-5 c = at-osen (taken (c .before .before .before)) (c .before .enum-told6 .given .1) _ (λ l e. rw (c .pair2 .ensures) (stored-line _ l e _ _ (osen-free c)))
 
 enum-told-7 : tie.Need-enum-told-7 Inv-loop μ-loop
 enum-told-7 c = search needs
 
-user-free : (c : tie.After-enum-told7 Inv-loop μ-loop) → held (c .before .before .before .before) .users .count < entryPlaces
-user-free c = user-room (taken (c .before .before)) (c .enum-told7 .given .1)
+entry-requires : tie.Need-entry-requires Inv-loop μ-loop
+entry-requires c κs = search needs
 
-mul-entry : tie.Need-mul-entry Inv-loop μ-loop
-mul-entry c = let h = user-free c in search needs
+user-free : (c : tie.After-entry Inv-loop μ-loop) → held (c .before .before .before .before .before) .users .count < entryPlaces
+user-free c = user-room (taken (c .before .before .before)) (c .before .enum-told7 .given .1)
 
-element-set-from-entry : tie.Need-element-set-from-entry Inv-loop μ-loop
-element-set-from-entry c = user-free c
+mul-t54 : tie.Need-mul-t54 Inv-loop μ-loop
+mul-t54 c = let h = user-free c in search needs
+
+element-set-from-users : tie.Need-element-set-from-users Inv-loop μ-loop
+element-set-from-users c = user-free c
 
 add-users : tie.Need-add-users Inv-loop μ-loop
 add-users c = let h = user-free c in search needs
@@ -227,19 +236,22 @@ loop-less-6 : tie.Need-loop-less-6 Inv-loop μ-loop
 loop-less-6 c = search needs
 
 loop-again-6 : tie.Need-loop-again-6 Inv-loop μ-loop
-loop-again-6 c = at-user (taken (c .before .before)) (c .enum-told7 .given .1) _ (λ l e. stored-entry _ l e _ _ (user-free c))
+loop-again-6 c = at-user (taken (c .before .before .before)) (c .before .enum-told7 .given .1) _ (λ l e. rw (c .entry .ensures) (stored-entry _ l e _ _ (user-free c)))
 
 enum-told-8 : tie.Need-enum-told-8 Inv-loop μ-loop
 enum-told-8 c = search needs
 
-object-free : (c : tie.After-enum-told8 Inv-loop μ-loop) → held (c .before .before .before .before) .objects .count < entryPlaces
-object-free c = object-room (taken (c .before .before)) (c .enum-told8 .given .1)
+entry-requires-2 : tie.Need-entry-requires-2 Inv-loop μ-loop
+entry-requires-2 c κs = search needs
 
-mul-entry-2 : tie.Need-mul-entry-2 Inv-loop μ-loop
-mul-entry-2 c = let h = object-free c in search needs
+object-free : (c : tie.After-entry2 Inv-loop μ-loop) → held (c .before .before .before .before .before) .objects .count < entryPlaces
+object-free c = object-room (taken (c .before .before .before)) (c .before .enum-told8 .given .1)
 
-element-set-from-entry-2 : tie.Need-element-set-from-entry-2 Inv-loop μ-loop
-element-set-from-entry-2 c = object-free c
+mul-t58 : tie.Need-mul-t58 Inv-loop μ-loop
+mul-t58 c = let h = object-free c in search needs
+
+element-set-from-objects : tie.Need-element-set-from-objects Inv-loop μ-loop
+element-set-from-objects c = object-free c
 
 add-objects : tie.Need-add-objects Inv-loop μ-loop
 add-objects c = let h = object-free c in search needs
@@ -248,7 +260,7 @@ loop-less-7 : tie.Need-loop-less-7 Inv-loop μ-loop
 loop-less-7 c = search needs
 
 loop-again-7 : tie.Need-loop-again-7 Inv-loop μ-loop
-loop-again-7 c = at-object (taken (c .before .before)) (c .enum-told8 .given .1) _ (λ l e. stored-entry _ l e _ _ (object-free c))
+loop-again-7 c = at-object (taken (c .before .before .before)) (c .before .enum-told8 .given .1) _ (λ l e. rw (c .entry2 .ensures) (stored-entry _ l e _ _ (object-free c)))
 
 enum-told-9 : tie.Need-enum-told-9 Inv-loop μ-loop
 enum-told-9 c = search needs
@@ -361,26 +373,30 @@ read-spec =
     loop-less-3
     loop-again-3
     enum-told-5
-    mul-pair
-    element-set-from-pair
+    pair-requires
+    mul-t46
+    element-set-from-user
     add-user
     loop-less-4
     loop-again-4
     enum-told-6
-    mul-pair-2
-    element-set-from-pair-2
+    pair-requires-2
+    mul-t50
+    element-set-from-object
     add-object
     loop-less-5
     loop-again-5
     enum-told-7
-    mul-entry
-    element-set-from-entry
+    entry-requires
+    mul-t54
+    element-set-from-users
     add-users
     loop-less-6
     loop-again-6
     enum-told-8
-    mul-entry-2
-    element-set-from-entry-2
+    entry-requires-2
+    mul-t58
+    element-set-from-objects
     add-objects
     loop-less-7
     loop-again-7
