@@ -2,21 +2,30 @@
 ghost use mathlib.Core.Path.{_≡_};
 ghost use mathlib.Core.Bool.{false};
 ghost use Rattle.basis.specs.Choice.{given};
+ghost use Rattle.seniority.specs.Seniority.{direct};
 ghost use Rattle.text.specs.Kind.{isKind};
 ghost use Rattle.text.specs.declared.kind.Kind.the-variants as kind;
 ghost use Rattle.policy.specs.Answers.{numberOf, ReadAs};
-ghost use Rattle.policy.specs.Read.{Refused, readText};
+ghost use Rattle.policy.specs.Policy.{Policy};
+ghost use Rattle.policy.specs.Read.{Accepted, Refused, readText};
+ghost use Rattle.policy.specs.Value.{valueOf};
 ghost use Rattle.line.specs.Line.{beforeOf};
 
 mod value;
 
 use line::fault::Fault;
 use line::numbers::Before;
+use line::numbers::Line;
 use policy::TEXT_BYTES;
 use policy::refusal::Refusal;
+use policy::value::Entry;
 use policy::value::PolicyValue;
 use policy::value::Reading;
+use policy::value::Register;
+use policy::value::Rules;
+use policy::value::SideValue;
 use policy::value::Verdict;
+use seniority::Direct;
 use text::kind::Kind;
 
 fn refused(r: Refusal, line: usize) -> Reading
@@ -29,6 +38,31 @@ fn refused(r: Refusal, line: usize) -> Reading
     }
 }
 
+// The answer to an accepted text, by the parts of its value.
+fn accepted(
+    form: u32,
+    user: SideValue,
+    object: SideValue,
+    users: Register,
+    objects: Register,
+    rules: Rules,
+) -> Reading
+    ensures { λ r. ⌜ ((p : Policy) → record { form = form; user = user; object = object; users = users; objects = objects; rules = rules } ≡ valueOf p → ReadAs (Accepted p) r) ⌝ }
+{
+    let policy = PolicyValue {
+        form,
+        user,
+        object,
+        users,
+        objects,
+        rules,
+    };
+    Reading {
+        verdict: Verdict::Accepted,
+        policy,
+    }
+}
+
 // Whether the line before is the end line.
 fn ended(before: Before) -> bool
     ensures { λ r. ⌜ r ≡ given (beforeOf before) false (isKind kind.End) ⌝ }
@@ -37,6 +71,26 @@ fn ended(before: Before) -> bool
         return false;
     };
     text::kind::same(Kind::End, k)
+}
+
+// The seniority that a line says.
+fn pair(x: Line) -> Direct
+    ensures { λ r. ⌜ r ≡ direct (x .first) (x .second) ⌝ }
+{
+    Direct {
+        senior: x.first,
+        junior: x.second,
+    }
+}
+
+// The user or object that a line says.
+fn entry(x: Line) -> Entry
+    ensures { λ r. ⌜ r ≡ record { number = x .first; set = x .second } ⌝ }
+{
+    Entry {
+        number: x.first,
+        set: x.second,
+    }
 }
 
 // The policy value of a text, or the refusal and its line.
@@ -75,6 +129,7 @@ pub fn read(text: &[u8]) -> Reading
         last = Before::After(k, x.first, x.second);
         at = e + 1;
         n += 1;
+        // The lists are changed in place: one that goes to a function and back is copied twice.
         match k {
             Kind::Policy => form = x.first,
             Kind::Uattr => {
@@ -85,10 +140,26 @@ pub fn read(text: &[u8]) -> Reading
                 object = value::with_width(object, x.first);
                 object_shape = value::shape(object);
             }
-            Kind::Usen => user = value::with_line(user, x.first, x.second),
-            Kind::Osen => object = value::with_line(object, x.first, x.second),
-            Kind::User => users = value::with_entry(users, x.first, x.second),
-            Kind::Object => objects = value::with_entry(objects, x.first, x.second),
+            Kind::Usen => {
+                let i = user.lines;
+                user.seniority[i] = pair(x);
+                user.lines = i + 1;
+            }
+            Kind::Osen => {
+                let i = object.lines;
+                object.seniority[i] = pair(x);
+                object.lines = i + 1;
+            }
+            Kind::User => {
+                let i = users.count;
+                users.entries[i] = entry(x);
+                users.count = i + 1;
+            }
+            Kind::Object => {
+                let i = objects.count;
+                objects.entries[i] = entry(x);
+                objects.count = i + 1;
+            }
             Kind::Rule => {
                 let y = line::rule::admit(x.first, line, before, form, user_shape, object_shape);
                 let g = y.fault;
@@ -96,24 +167,15 @@ pub fn read(text: &[u8]) -> Reading
                     return refused(r, here);
                 }
                 let rule = y.rule;
-                rules = value::with_rule(rules, rule);
+                let i = rules.count;
+                rules.entries[i] = rule;
+                rules.count = i + 1;
             }
             Kind::End => {}
         }
     }
     if ended(last) {
-        let policy = PolicyValue {
-            form,
-            user,
-            object,
-            users,
-            objects,
-            rules,
-        };
-        return Reading {
-            verdict: Verdict::Accepted,
-            policy,
-        };
+        return accepted(form, user, object, users, objects, rules);
     }
     refused(Refusal::EndMissing, n)
 }

@@ -1,15 +1,13 @@
-// The policy value before the first line, and with one line more.
+// The policy value before the first line, and a side with one width more.
 ghost use mathlib.Core.Path.{_≡_};
-ghost use mathlib.Core.List.{List, [], _∷_, _++_};
+ghost use mathlib.Core.List.{[]};
 ghost use Prim.Native.Nat.{_^_, _<_, _≤_};
 ghost use lib.ListN.{take};
 ghost use Rattle.basis.specs.Lists.{sum};
-ghost use Rattle.seniority.specs.Seniority.{linePlaces};
 ghost use Rattle.checks.specs.Sides.{Shaped};
 ghost use Rattle.policy.specs.Policy as policy;
-ghost use Rattle.policy.specs.Checks.{withWidth, withLine, withEntry};
-ghost use Rattle.policy.specs.declared.value.Entry.{Entry};
-ghost use Rattle.policy.specs.Value.{widthPlaces, entryPlaces, rulePlaces, sideValue, register, ruleValue, rulesValue, valueOf};
+ghost use Rattle.policy.specs.Checks.{withWidth};
+ghost use Rattle.policy.specs.Value.{widthPlaces, sideValue, register, rulesValue, valueOf};
 use checks::side::Shape;
 use policy::value::ENTRY_PLACES;
 use policy::value::Entry;
@@ -84,42 +82,6 @@ pub fn with_width(side: SideValue, w: u32) -> SideValue
     let i = side.attributes;
     more.widths[i] = w;
     more.attributes = i + 1;
-    more
-}
-
-pub fn with_line(side: SideValue, v: u32, j: u32) -> SideValue
-    requires { ⌜ side .lines < linePlaces ⌝ }
-    ensures { λ r. ⌜ ((s : policy.Side) → side ≡ sideValue s → r ≡ sideValue (withLine v j s)) ⌝ }
-{
-    let mut more = side;
-    let i = side.lines;
-    more.seniority[i] = Direct {
-        senior: v,
-        junior: j,
-    };
-    more.lines = i + 1;
-    more
-}
-
-pub fn with_entry(entries: Register, n: u32, s: u32) -> Register
-    requires { ⌜ entries .count < entryPlaces ⌝ }
-    ensures { λ r. ⌜ ((es : List Entry) → entries ≡ register es → r ≡ register (withEntry n s es)) ⌝ }
-{
-    let mut more = entries;
-    let i = entries.count;
-    more.entries[i] = Entry { number: n, set: s };
-    more.count = i + 1;
-    more
-}
-
-pub fn with_rule(rules: Rules, rule: RuleValue) -> Rules
-    requires { ⌜ rules .count < rulePlaces ⌝ }
-    ensures { λ r. ⌜ ((rs : List policy.Rule) (x : policy.Rule) → rules ≡ rulesValue rs → rule ≡ ruleValue x → r ≡ rulesValue (rs ++ (x ∷ []))) ⌝ }
-{
-    let mut more = rules;
-    let i = rules.count;
-    more.entries[i] = rule;
-    more.count = i + 1;
     more
 }
 

@@ -1,12 +1,13 @@
 -- `reader::read` meets its contract: what is held at a place stands for the state of reading there, and what is left to read from it is the text's outcome.
-use Prim.Native.Nat.{_-_}
-use mathlib.Core.Path.{refl}
+use Prim.Native.Nat.{_-_, _<_}
 use native.Mathlib.Omega.{arith}
 use borrow.Author.Needs.{needs}
 use denote.Ref.{now}
 use lib.ListN.{length}
-use Rattle.policy.specs.Answers.{valueIn}
+use Rattle.seniority.specs.Seniority.{linePlaces}
+use Rattle.policy.specs.Value.{entryPlaces, rulePlaces}
 use Rattle.reader.proofs.States.{Held, At, Step, Taken, at-sides, at-sized, blank-sized, at-start, too-long, at-open, at-ended, at-unended, at-value, step-refused, rule-counted, rule-refused}
+use Rattle.reader.proofs.Stored.{stored-line, stored-entry, stored-rule}
 use Rattle.reader.proofs.Turns.{at-form, uattr-room, uattr-sized, at-uattr, oattr-room, oattr-sized, at-oattr, usen-room, at-usen, osen-room, at-osen, user-room, at-user, object-room, at-object, rule-room, at-rule, at-end}
 use Rattle.reader.proofs.read.Statement.{statement}
 use Rattle.reader.proofs.read.Tie as tie
@@ -168,50 +169,98 @@ loop-again-3 c = at-oattr (taken (c .before .before .before .before)) (c .before
 enum-told-5 : tie.Need-enum-told-5 Inv-loop μ-loop
 enum-told-5 c = search needs
 
-with-line-requires : tie.Need-with-line-requires Inv-loop μ-loop
-with-line-requires c κs = usen-room (taken (c .before .before)) (c .enum-told5 .given .1)
+pair-requires : tie.Need-pair-requires Inv-loop μ-loop
+pair-requires c κs = search needs
+
+usen-free : (c : tie.After-pair Inv-loop μ-loop) → held (c .before .before .before .before .before) .user .lines < linePlaces
+usen-free c = usen-room (taken (c .before .before .before)) (c .before .enum-told5 .given .1)
+
+mul-t46 : tie.Need-mul-t46 Inv-loop μ-loop
+mul-t46 c = let h = usen-free c in search needs
+
+element-set-from-user : tie.Need-element-set-from-user Inv-loop μ-loop
+element-set-from-user c = usen-free c
+
+add-user : tie.Need-add-user Inv-loop μ-loop
+add-user c = let h = usen-free c in search needs
 
 loop-less-4 : tie.Need-loop-less-4 Inv-loop μ-loop
 loop-less-4 c = search needs
 
 loop-again-4 : tie.Need-loop-again-4 Inv-loop μ-loop
-loop-again-4 c = at-usen (taken (c .before .before .before)) (c .before .enum-told5 .given .1) _ (c .with-line .ensures)
+loop-again-4 c = at-usen (taken (c .before .before .before)) (c .before .enum-told5 .given .1) _ (λ l e. rw (c .pair .ensures) (stored-line _ l e _ _ (usen-free c)))
 
 enum-told-6 : tie.Need-enum-told-6 Inv-loop μ-loop
 enum-told-6 c = search needs
 
-with-line-requires-2 : tie.Need-with-line-requires-2 Inv-loop μ-loop
-with-line-requires-2 c κs = osen-room (taken (c .before .before)) (c .enum-told6 .given .1)
+pair-requires-2 : tie.Need-pair-requires-2 Inv-loop μ-loop
+pair-requires-2 c κs = search needs
+
+osen-free : (c : tie.After-pair2 Inv-loop μ-loop) → held (c .before .before .before .before .before) .object .lines < linePlaces
+osen-free c = osen-room (taken (c .before .before .before)) (c .before .enum-told6 .given .1)
+
+mul-t50 : tie.Need-mul-t50 Inv-loop μ-loop
+mul-t50 c = let h = osen-free c in search needs
+
+element-set-from-object : tie.Need-element-set-from-object Inv-loop μ-loop
+element-set-from-object c = osen-free c
+
+add-object : tie.Need-add-object Inv-loop μ-loop
+add-object c = let h = osen-free c in search needs
 
 loop-less-5 : tie.Need-loop-less-5 Inv-loop μ-loop
 loop-less-5 c = search needs
 
 loop-again-5 : tie.Need-loop-again-5 Inv-loop μ-loop
-loop-again-5 c = at-osen (taken (c .before .before .before)) (c .before .enum-told6 .given .1) _ (c .with-line2 .ensures)
+loop-again-5 c = at-osen (taken (c .before .before .before)) (c .before .enum-told6 .given .1) _ (λ l e. rw (c .pair2 .ensures) (stored-line _ l e _ _ (osen-free c)))
 
 enum-told-7 : tie.Need-enum-told-7 Inv-loop μ-loop
 enum-told-7 c = search needs
 
-with-entry-requires : tie.Need-with-entry-requires Inv-loop μ-loop
-with-entry-requires c κs = user-room (taken (c .before .before)) (c .enum-told7 .given .1)
+entry-requires : tie.Need-entry-requires Inv-loop μ-loop
+entry-requires c κs = search needs
+
+user-free : (c : tie.After-entry Inv-loop μ-loop) → held (c .before .before .before .before .before) .users .count < entryPlaces
+user-free c = user-room (taken (c .before .before .before)) (c .before .enum-told7 .given .1)
+
+mul-t54 : tie.Need-mul-t54 Inv-loop μ-loop
+mul-t54 c = let h = user-free c in search needs
+
+element-set-from-users : tie.Need-element-set-from-users Inv-loop μ-loop
+element-set-from-users c = user-free c
+
+add-users : tie.Need-add-users Inv-loop μ-loop
+add-users c = let h = user-free c in search needs
 
 loop-less-6 : tie.Need-loop-less-6 Inv-loop μ-loop
 loop-less-6 c = search needs
 
 loop-again-6 : tie.Need-loop-again-6 Inv-loop μ-loop
-loop-again-6 c = at-user (taken (c .before .before .before)) (c .before .enum-told7 .given .1) _ (c .with-entry .ensures)
+loop-again-6 c = at-user (taken (c .before .before .before)) (c .before .enum-told7 .given .1) _ (λ l e. rw (c .entry .ensures) (stored-entry _ l e _ _ (user-free c)))
 
 enum-told-8 : tie.Need-enum-told-8 Inv-loop μ-loop
 enum-told-8 c = search needs
 
-with-entry-requires-2 : tie.Need-with-entry-requires-2 Inv-loop μ-loop
-with-entry-requires-2 c κs = object-room (taken (c .before .before)) (c .enum-told8 .given .1)
+entry-requires-2 : tie.Need-entry-requires-2 Inv-loop μ-loop
+entry-requires-2 c κs = search needs
+
+object-free : (c : tie.After-entry2 Inv-loop μ-loop) → held (c .before .before .before .before .before) .objects .count < entryPlaces
+object-free c = object-room (taken (c .before .before .before)) (c .before .enum-told8 .given .1)
+
+mul-t58 : tie.Need-mul-t58 Inv-loop μ-loop
+mul-t58 c = let h = object-free c in search needs
+
+element-set-from-objects : tie.Need-element-set-from-objects Inv-loop μ-loop
+element-set-from-objects c = object-free c
+
+add-objects : tie.Need-add-objects Inv-loop μ-loop
+add-objects c = let h = object-free c in search needs
 
 loop-less-7 : tie.Need-loop-less-7 Inv-loop μ-loop
 loop-less-7 c = search needs
 
 loop-again-7 : tie.Need-loop-again-7 Inv-loop μ-loop
-loop-again-7 c = at-object (taken (c .before .before .before)) (c .before .enum-told8 .given .1) _ (c .with-entry2 .ensures)
+loop-again-7 c = at-object (taken (c .before .before .before)) (c .before .enum-told8 .given .1) _ (λ l e. rw (c .entry2 .ensures) (stored-entry _ l e _ _ (object-free c)))
 
 enum-told-9 : tie.Need-enum-told-9 Inv-loop μ-loop
 enum-told-9 c = search needs
@@ -236,18 +285,27 @@ returns-4 c =
 enum-told-10 : tie.Need-enum-told-10 Inv-loop μ-loop
 enum-told-10 c = search needs
 
-with-rule-requires : tie.Need-with-rule-requires Inv-loop μ-loop
-with-rule-requires c κs =
+rule-free : (c : tie.After-rule Inv-loop μ-loop) → held (c .before .before .before .before .before .before .before .before) .rules .count < rulePlaces
+rule-free c =
     let j = taken (c .before .before .before .before .before .before) in
     rule-room j (c .before .before .before .before .enum-told9 .given .1) _ (c .before .before .before .admit .ensures (j .step .here .state .policy) (at-sides (j .step .here))) (c .before .enum-told10 .given .1)
+
+mul-rule : tie.Need-mul-rule Inv-loop μ-loop
+mul-rule c = let h = rule-free c in search needs
+
+element-set-from-rule : tie.Need-element-set-from-rule Inv-loop μ-loop
+element-set-from-rule c = rule-free c
+
+add-rules : tie.Need-add-rules Inv-loop μ-loop
+add-rules c = let h = rule-free c in search needs
 
 loop-less-8 : tie.Need-loop-less-8 Inv-loop μ-loop
 loop-less-8 c = search needs
 
 loop-again-8 : tie.Need-loop-again-8 Inv-loop μ-loop
 loop-again-8 c =
-    let j = taken (c .before .before .before .before .before .before .before) in
-    at-rule j (c .before .before .before .before .before .enum-told9 .given .1) _ (c .before .before .before .before .admit .ensures (j .step .here .state .policy) (at-sides (j .step .here))) (c .before .before .enum-told10 .given .1) _ (c .with-rule .ensures)
+    let j = taken (c .before .before .before .before .before .before) in
+    at-rule j (c .before .before .before .before .enum-told9 .given .1) _ (c .before .before .before .admit .ensures (j .step .here .state .policy) (at-sides (j .step .here))) (c .before .enum-told10 .given .1) _ (λ l r e f. stored-rule _ l _ r e f (rule-free c))
 
 enum-told-11 : tie.Need-enum-told-11 Inv-loop μ-loop
 enum-told-11 c = search needs
@@ -261,9 +319,13 @@ loop-again-9 c = at-end (taken (c .before .before)) (c .enum-told11 .given .1)
 ended-requires : tie.Need-ended-requires Inv-loop μ-loop
 ended-requires c κs = search needs
 
+accepted-requires : tie.Need-accepted-requires Inv-loop μ-loop
+accepted-requires c κs = search needs
+
 returns-5 : tie.Need-returns-5 Inv-loop μ-loop
-unfolding valueIn
-returns-5 c = rw (at-ended (c .before .before .before .loop .inv) (c .before .before .loop-test .left) (c .before .ended .result) (c .before .ended .ensures) (c .if3 .taken)) (record { verdict = refl; value = at-value (c .before .before .before .loop .inv) })
+returns-5 c =
+    let i = c .before .before .before .before .loop .inv in
+    rw (at-ended i (c .before .before .before .loop-test .left) (c .before .before .ended .result) (c .before .before .ended .ensures) (c .before .if3 .taken)) (c .accepted .ensures _ (at-value i))
 
 refused-requires-5 : tie.Need-refused-requires-5 Inv-loop μ-loop
 refused-requires-5 c κs = search needs
@@ -311,19 +373,31 @@ read-spec =
     loop-less-3
     loop-again-3
     enum-told-5
-    with-line-requires
+    pair-requires
+    mul-t46
+    element-set-from-user
+    add-user
     loop-less-4
     loop-again-4
     enum-told-6
-    with-line-requires-2
+    pair-requires-2
+    mul-t50
+    element-set-from-object
+    add-object
     loop-less-5
     loop-again-5
     enum-told-7
-    with-entry-requires
+    entry-requires
+    mul-t54
+    element-set-from-users
+    add-users
     loop-less-6
     loop-again-6
     enum-told-8
-    with-entry-requires-2
+    entry-requires-2
+    mul-t58
+    element-set-from-objects
+    add-objects
     loop-less-7
     loop-again-7
     enum-told-9
@@ -332,13 +406,16 @@ read-spec =
     refused-requires-4
     returns-4
     enum-told-10
-    with-rule-requires
+    mul-rule
+    element-set-from-rule
+    add-rules
     loop-less-8
     loop-again-8
     enum-told-11
     loop-less-9
     loop-again-9
     ended-requires
+    accepted-requires
     returns-5
     refused-requires-5
     returns-6)
