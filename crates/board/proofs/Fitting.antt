@@ -8,14 +8,18 @@ use Rattle.basis.specs.Choice.{given}
 use Rattle.basis.specs.Lists.{all}
 use Rattle.basis.proofs.Bools.{and-left}
 use Rattle.basis.proofs.Walk.{rest-next}
-use Rattle.policy.specs.Policy.{Policy}
+use Rattle.sets.specs.Set.{within}
+use Rattle.policy.specs.Policy.{Policy, setOfNumber}
 use Rattle.policy.specs.Value.{sideOf, entriesOf, policyOf}
 use Rattle.policy.specs.Valid.{valid}
+use Rattle.policy.specs.declared.value.SideValue.{SideValue}
 use Rattle.policy.specs.declared.value.PolicyValue.{PolicyValue}
 use Rattle.board.specs.declared.Session.{Session}
 use Rattle.board.specs.declared.Board.{Board}
+use Rattle.board.specs.declared.reach.Found.{Found}
 use Rattle.board.specs.Board.{closed, entryOf, entryFits, boardFits, fits}
-use Rattle.board.specs.Machine.{entry}
+use Rattle.board.specs.Inner.{FoundAs}
+use Rattle.board.proofs.Users.{reachIn, covers-user}
 
 abbrev pub fitsIn : Policy → Session → Bool
 fitsIn p x = given (entryOf x) true (entryFits p)
@@ -24,8 +28,9 @@ module _ (p : Policy) (x : Session) where
   pub fits-closed : x .live ≡ false → true ≡ fitsIn p x
   fits-closed l = rw l
 
-  pub fits-live : x .live ≡ true → (t : Bool) → t ≡ entryFits p (entry (x .user) (x .held)) → t ≡ fitsIn p x
-  fits-live l t e = rw l e
+  pub fits-live : (side : SideValue) → p .user ≡ sideOf side → (f : Found) → FoundAs (setOfNumber (p .users) (x .user)) f → x .live ≡ true
+      → (t : Bool) → t ≡ (f .registered && within (x .held) (reachIn side (f .set))) → t ≡ fitsIn p x
+  fits-live side es f q l t e = rw l (e ∙ covers-user p side es (x .user) f q (x .held))
 
 -- ---- the entries from place i on
 

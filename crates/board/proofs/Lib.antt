@@ -5,6 +5,7 @@ pub mod OneRequest
 pub mod Valid
 mod Look
 mod Users
+mod ByNumber
 mod Ways
 mod Fitting
 mod Settled

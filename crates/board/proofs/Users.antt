@@ -11,16 +11,20 @@ use Rattle.basis.specs.Choice.{there}
 use Rattle.basis.proofs.Bools.{never}
 use Rattle.basis.proofs.Walk.{part-next, part-end}
 use Rattle.sets.specs.Set.{has, within}
-use Rattle.seniority.specs.Seniority.{heldOrSenior}
-use Rattle.seniority.proofs.Laws.{reach-is, assigned-reached}
-use Rattle.policy.specs.Policy.{Policy, total, setOfNumber}
+use Rattle.seniority.specs.Seniority.{linePlaces, Ordered, wordBits, heldOrSenior, reach}
+use Rattle.seniority.proofs.Laws.{ordered-more, reach-is, assigned-reached}
+use Rattle.policy.specs.Policy.{Policy, total, sets, setOfNumber}
 use Rattle.policy.specs.Value.{noEntry, sideOf, entriesOf}
 use Rattle.policy.specs.declared.value.Entry.{Entry}
 use Rattle.policy.specs.declared.value.SideValue.{SideValue}
 use Rattle.policy.specs.declared.value.Register.{Register}
 use Rattle.board.specs.declared.reach.Found.{Found}
 use Rattle.board.specs.Machine.{reachOf}
-use Rattle.board.specs.Inner.{FoundAs, Reaches, Reachable}
+use Rattle.board.specs.Inner.{FoundAs, Reaches, Rising, Reachable}
+
+-- the reach of an assigned set
+abbrev pub reachIn : SideValue → ℕ → ℕ
+reachIn side s = reach (sideOf side .lines) (total (sideOf side)) s
 
 module _ (es : List Entry) (n k i : ℕ) where
   set-next : i < n → n ≤ length es
@@ -40,6 +44,11 @@ module _ (es : List Entry) (n k i : ℕ) where
   unfolding setOfNumber
   set-nowhere h = rw (part-end es n i h)
 
+-- what working out juniors asks of the lines
+pub juniors-ask : (side : SideValue) → Rising side → (side .lines ≤ linePlaces) × Ordered wordBits (take (side .lines) (side .seniority))
+unfolding sideOf
+juniors-ask side h = (h .lines, ordered-more (total (sideOf side)) wordBits (h .values) (sideOf side .lines) (h .ordered))
+
 -- a user's reach, from the set that is found
 module _ (users : Register) (side : SideValue) (h : Reachable side users) (u : ℕ) (f : Found)
     (q : FoundAs (setOfNumber (entriesOf users) u) f) (p : Policy) (eu : p .users ≡ entriesOf users) (es : p .user ≡ sideOf side) where
@@ -57,29 +66,8 @@ module _ (users : Register) (side : SideValue) (h : Reachable side users) (u : �
             registered = rw (eu, n);
             set =
                 rw (eu, es, n)
-                (reach-is (total (sideOf side)) (sideOf side .lines) (h .ordered) s (h .assigned u s n) r (rw k at e));
+                (reach-is (total (sideOf side)) (sideOf side .lines) (h .seniority .ordered) s (h .assigned u s n) r (rw k at e));
           }
-
-  -- the answer of the test by reach, for each way out
-  pub covers-reached : f .registered ≡ true
-      → (r : ℕ) → ((v : ℕ) → has r v ≡ heldOrSenior (take (side .lines) (side .seniority)) (f .set) v)
-      → (set : ℕ) (t : Bool) → t ≡ within set r → t ≡ (there (setOfNumber (p .users) u) && within set (reachOf p u))
-  covers-reached t r e set x w = let q = reach-found t r e in rw (← q .registered, ← q .set) w
-
-  pub covers-assigned : f .registered ≡ true → (set : ℕ) → within set (f .set) ≡ true
-      → true ≡ (there (setOfNumber (p .users) u) && within set (reachOf p u))
-  unfolding reachOf
-  covers-assigned t set w = go (setOfNumber (entriesOf users) u) refl
-    where
-      go : (x : Option ℕ) → setOfNumber (entriesOf users) u ≡ x → true ≡ (there (setOfNumber (p .users) u) && within set (reachOf p u))
-      go none n = absurd (never (f .registered) t (q .registered ∙ rw n))
-      go (some s) n =
-          let k : f .set ≡ s = q .set ∙ rw n in
-          let r = assigned-reached (total (sideOf side)) (sideOf side .lines) (h .ordered) s (h .assigned u s n) set (rw k at w) in
-          rw (eu, es, n, r)
-
-  pub covers-none : f .registered ≡ false → (set : ℕ) → false ≡ (there (setOfNumber (p .users) u) && within set (reachOf p u))
-  covers-none t set = rw (eu, ← q .registered, t)
 
   pub reach-none : f .registered ≡ false → Reaches p u f
   unfolding reachOf
@@ -88,3 +76,28 @@ module _ (users : Register) (side : SideValue) (h : Reachable side users) (u : �
       go : (x : Option ℕ) → setOfNumber (entriesOf users) u ≡ x → Reaches p u f
       go none n = record { registered = rw (eu, n) t; set = rw (eu, n) (q .set ∙ rw n) }
       go (some s) n = absurd (never (f .registered) (q .registered ∙ rw n) t)
+
+-- the answer of the test by reach, for each way out
+module _ (side : SideValue) (h : Rising side) (f : Found) (b : f .set < sets (sideOf side)) (set : ℕ) where
+  pub covers-none : f .registered ≡ false → false ≡ (f .registered && within set (reachIn side (f .set)))
+  covers-none t = rw t
+
+  pub covers-assigned : f .registered ≡ true → within set (f .set) ≡ true → true ≡ (f .registered && within set (reachIn side (f .set)))
+  covers-assigned t w = rw (t, assigned-reached (total (sideOf side)) (sideOf side .lines) (h .ordered) (f .set) b set w)
+
+  pub covers-reached : f .registered ≡ true
+      → (r : ℕ) → ((v : ℕ) → has r v ≡ heldOrSenior (take (side .lines) (side .seniority)) (f .set) v)
+      → (x : Bool) → x ≡ within set r → x ≡ (f .registered && within set (reachIn side (f .set)))
+  unfolding sideOf
+  covers-reached t r e x w = rw (t, ← reach-is (total (sideOf side)) (sideOf side .lines) (h .ordered) (f .set) b r e) w
+
+-- what is found for a user answers for the user
+pub covers-user : (p : Policy) (side : SideValue) → p .user ≡ sideOf side → (u : ℕ) (f : Found) → FoundAs (setOfNumber (p .users) u) f → (set : ℕ)
+    → (f .registered && within set (reachIn side (f .set))) ≡ (there (setOfNumber (p .users) u) && within set (reachOf p u))
+unfolding reachOf
+covers-user p side es u f q set = go (setOfNumber (p .users) u) refl
+  where
+    go : (x : Option ℕ) → setOfNumber (p .users) u ≡ x
+        → (f .registered && within set (reachIn side (f .set))) ≡ (there (setOfNumber (p .users) u) && within set (reachOf p u))
+    go none n = rw (q .registered, n)
+    go (some s) n = rw (q .registered, q .set, n, es)

@@ -7,6 +7,7 @@ use mathlib.Core.Option.{Option, none, some}
 use native.Mathlib.Nat.{le-trans}
 use native.Mathlib.Omega.{arith}
 use lib.Dec.{eqb, lit≤}
+use borrow.Author.Tests.{eqb-true}
 use Rattle.policy.specs.Limits.{values, userNumbers, objectNumbers}
 use Rattle.policy.specs.Policy.{Side, Policy, sets, setOfNumber}
 use Rattle.policy.specs.Value.{entryPlaces, policyOf, sideValue, register, valueOf}
@@ -21,20 +22,25 @@ use Rattle.policy.proofs.Valid.{valid-stored}
 use Rattle.board.specs.Inner.{Reachable}
 use Rattle.board.proofs.Agreement.{ObjectsFit}
 
--- a set that is found is an entry's
-set-in : (es : List Entry) (n s : ℕ) → setOfNumber es n ≡ some s → (e : Entry) × List·Memᴰ e es × (e .set ≡ s)
+-- a set that is found is that of an entry with the number
+set-in : (es : List Entry) (n s : ℕ) → setOfNumber es n ≡ some s → (e : Entry) × List·Memᴰ e es × (e .number ≡ n) × (e .set ≡ s)
 unfolding setOfNumber
 set-in [] n s q = let z : _≡_ {A = ℕ} 0 1 = cc in absurd (omega arith)
-set-in (e ∷ es) n s q = go (eqb (e .number) n) (set-in es n s) q
+set-in (e ∷ es) n s q = go (eqb (e .number) n) refl (set-in es n s) q
   where
-    go : (t : Bool) → (setOfNumber es n ≡ some s → (e : Entry) × List·Memᴰ e es × (e .set ≡ s))
-        → _≡_ {A = Option ℕ} (cond t (some (e .set)) (setOfNumber es n)) (some s) → (d : Entry) × List·Memᴰ d (e ∷ es) × (d .set ≡ s)
-    go true h f = (e, List·Memᴰ·head refl, cc)
-    go false h f = let r = h f in (r .0, List·Memᴰ·tail (r .1), r .2)
+    go : (t : Bool) → eqb (e .number) n ≡ t → (setOfNumber es n ≡ some s → (e : Entry) × List·Memᴰ e es × (e .number ≡ n) × (e .set ≡ s))
+        → _≡_ {A = Option ℕ} (cond t (some (e .set)) (setOfNumber es n)) (some s)
+        → (d : Entry) × List·Memᴰ d (e ∷ es) × (d .number ≡ n) × (d .set ≡ s)
+    go true w h f = (e, List·Memᴰ·head refl, eqb-true (e .number) n w, cc)
+    go false w h f = let r = h f in (r .0, List·Memᴰ·tail (r .1), r .2, r .3)
 
-set-lt : (most : ℕ) (side : Side) (es : List Entry) → rising (numberFits most side) numberAbove none es ≡ true
-    → (n s : ℕ) → setOfNumber es n ≡ some s → s < sets side
-set-lt most side es h n s q = let r = set-in es n s q in rw (r .2) at (entry-bounds most side es h (r .0) (r .1) .1)
+module _ (most : ℕ) (side : Side) (es : List Entry) (h : rising (numberFits most side) numberAbove none es ≡ true) (n s : ℕ)
+    (q : setOfNumber es n ≡ some s) where
+  number-lt : n < most
+  number-lt = let r = set-in es n s q in rw (r .2) at (entry-bounds most side es h (r .0) (r .1) .0)
+
+  set-lt : s < sets side
+  set-lt = let r = set-in es n s q in rw (r .3) at (entry-bounds most side es h (r .0) (r .1) .1)
 
 pub objects-fit : (p : Policy) → sound p ≡ true → ObjectsFit p
 objects-fit p e = set-lt objectNumbers (p .object) (p .objects) (parts p (whole p e .lists) .objects)
@@ -47,10 +53,13 @@ reachable v e =
     let t : Parts p = parts p (whole p (q .1) .lists) in
     let w : Within p = parts-within p t in
     record {
-      lines = rw (ap (λ (x : PolicyValue). x .user .lines) (q .0)) at (w .user .lines);
+      seniority = record {
+        lines = rw (ap (λ (x : PolicyValue). x .user .lines) (q .0)) at (w .user .lines);
+        values = le-trans (total-most (values (p .form)) (p .user) (t .user)) (lit≤ tt);
+        ordered = lines-ordered (values (p .form)) (p .user) (t .user);
+      };
       count = rw (ap (λ (x : PolicyValue). x .users .count) (q .0)) at (w .users);
-      values = le-trans (total-most (values (p .form)) (p .user) (t .user)) (lit≤ tt);
-      ordered = lines-ordered (values (p .form)) (p .user) (t .user);
+      numbers = number-lt userNumbers (p .user) (p .users) (t .users);
       assigned = set-lt userNumbers (p .user) (p .users) (t .users);
     }
 

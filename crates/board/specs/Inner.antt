@@ -1,16 +1,18 @@
 -- What the inner functions of the code answer, and what they ask of a policy value. Public contracts do without these.
 use Prim.Native.Nat.{ℕ, _≤_, _<_}
 use mathlib.Core.Path.{_≡_}
-use mathlib.Core.Bool.{cond, not}
+use mathlib.Core.Bool.{false, cond, not}
 use mathlib.Core.List.{List, _∷_}
 use mathlib.Core.Option.{Option, none, some}
 use lib.Dec.{ltb}
 use lib.ListN.{length, getD, set}
 use Rattle.basis.specs.Choice.{given, there, check, lowest}
 use Rattle.seniority.specs.Seniority.{linePlaces, Ordered, wordBits}
+use Rattle.policy.specs.Limits.{userNumbers}
 use Rattle.policy.specs.Policy.{Policy, total, sets, setOfNumber}
 use Rattle.policy.specs.Value.{entryPlaces, sideOf, entriesOf, policyOf}
 use Rattle.policy.specs.Answers.{numberOf, Reply, done, refused, decided}
+use Rattle.policy.specs.declared.value.Entry.{Entry}
 use Rattle.policy.specs.declared.value.SideValue.{SideValue}
 use Rattle.policy.specs.declared.value.Register.{Register}
 use Rattle.policy.specs.declared.value.PolicyValue.{PolicyValue}
@@ -41,6 +43,18 @@ pub record FoundAs (o : Option ℕ) (f : Found) : Type 0 where
   pub registered : f .registered ≡ there o
   pub set : f .set ≡ given o 0 (λ s. s)
 
+abbrev pub notFound : Found
+notFound = record { registered = false; set = 0 }
+
+-- the place of a number among those of the user numbers; past them is one for all others
+unfoldable pub placeOf : ℕ → ℕ
+placeOf n = cond (ltb n userNumbers) n userNumbers
+
+-- what is found for each user number, and nothing at the place of all others
+pub record ByNumber (es : List Entry) (found : List Found) : Type 0 where
+  pub below : (n : ℕ) → n < userNumbers → FoundAs (setOfNumber es n) (getD found n notFound)
+  pub past : getD found userNumbers notFound ≡ notFound
+
 -- whether a user is registered, and the user's reach
 pub record Reaches (p : Policy) (u : ℕ) (f : Found) : Type 0 where
   pub registered : f .registered ≡ there (setOfNumber (p .users) u)
@@ -65,9 +79,14 @@ settled b s refusal entry =
 
 -- ---- what check 11 ensures of the users and their side
 
-pub record Reachable (side : SideValue) (users : Register) : Type 0 where
+-- seniority lines by which reach can be worked out
+pub record Rising (side : SideValue) : Type 0 where
   pub lines : side .lines ≤ linePlaces
-  pub count : users .count ≤ entryPlaces
   pub values : total (sideOf side) ≤ wordBits
   pub ordered : Ordered (total (sideOf side)) (sideOf side .lines)
+
+pub record Reachable (side : SideValue) (users : Register) : Type 0 where
+  pub seniority : Rising side
+  pub count : users .count ≤ entryPlaces
+  pub numbers : (n s : ℕ) → setOfNumber (entriesOf users) n ≡ some s → n < userNumbers
   pub assigned : (n s : ℕ) → setOfNumber (entriesOf users) n ≡ some s → s < sets (sideOf side)

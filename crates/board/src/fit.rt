@@ -1,26 +1,29 @@
 // Check 11: a valid policy value, and on the board no session whose user is not registered or whose set is out of reach.
 ghost use mathlib.Core.Path.{_≡_};
 ghost use mathlib.Core.Bool.{true};
+ghost use Prim.Native.Nat.{_<_};
 ghost use Rattle.basis.specs.Choice.{given};
 ghost use Rattle.policy.specs.Policy as policy;
 ghost use Rattle.policy.specs.Value.{entriesOf, sideOf};
 ghost use Rattle.board.specs.Board.{entryOf, entryFits, boardFits, fits};
-ghost use Rattle.board.specs.Inner.{Reachable};
+ghost use Rattle.board.specs.Inner.{FoundAs, Rising, Reachable};
 use crate::Board;
 use crate::SESSION_PLACES;
 use crate::Session;
+use crate::assigned;
 use crate::reach;
+use crate::reach::Found;
 use policy::value::PolicyValue;
 use policy::value::Register;
 use policy::value::SideValue;
 
-// Whether an entry is closed, or its user registered and its set in the user's reach.
-fn entry_fits(users: Register, side: SideValue, entry: Session) -> bool
-    requires { ⌜ Reachable side users ⌝ }
-    ensures { λ r. ⌜ ((p : policy.Policy) → p .users ≡ entriesOf users → p .user ≡ sideOf side → r ≡ given (entryOf entry) true (entryFits p)) ⌝ }
+// Whether an entry is closed, or its user registered and its set in the user's reach, where this is found for its user.
+fn entry_fits(found: Found, side: SideValue, entry: Session) -> bool
+    requires { ⌜ Rising side × (found .set < policy.sets (sideOf side)) ⌝ }
+    ensures { λ r. ⌜ ((p : policy.Policy) → p .user ≡ sideOf side → FoundAs (policy.setOfNumber (p .users) (entry .user)) found → r ≡ given (entryOf entry) true (entryFits p)) ⌝ }
 {
     if entry.live {
-        reach::covers(users, side, entry.user, entry.held)
+        reach::covers(found, side, entry.held)
     } else {
         true
     }
@@ -32,10 +35,13 @@ fn entries_fit(users: Register, side: SideValue, board: Board) -> bool
     ensures { λ r. ⌜ ((p : policy.Policy) → p .users ≡ entriesOf users → p .user ≡ sideOf side → r ≡ boardFits p board) ⌝ }
 {
     let sessions = board.sessions;
+    let table = assigned::table(users);
     let mut i: usize = 0;
     while i < SESSION_PLACES {
         let entry = sessions[i];
-        if !entry_fits(users, side, entry) {
+        let place = assigned::place(entry.user);
+        let found = table[place];
+        if !entry_fits(found, side, entry) {
             return false;
         }
         i += 1;

@@ -13,6 +13,7 @@ use policy::refusal::Refusal;
 use policy::value::PolicyValue;
 
 mod asking;
+mod assigned;
 mod buffers;
 mod entries;
 mod fit;

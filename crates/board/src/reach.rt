@@ -1,13 +1,12 @@
 // The set of a registered user or object, and a user's reach.
 ghost use mathlib.Core.Path.{_≡_};
 ghost use mathlib.Core.Bool.{_&&_};
-ghost use Prim.Native.Nat.{_≤_};
-ghost use Rattle.basis.specs.Choice.{there};
+ghost use Prim.Native.Nat.{_≤_, _<_};
 ghost use Rattle.sets.specs.Set.{within};
+ghost use Rattle.seniority.specs.Seniority.{reach};
 ghost use Rattle.policy.specs.Policy as policy;
 ghost use Rattle.policy.specs.Value.{entryPlaces, entriesOf, sideOf};
-ghost use Rattle.board.specs.Machine.{reachOf};
-ghost use Rattle.board.specs.Inner.{FoundAs, Reaches, Reachable};
+ghost use Rattle.board.specs.Inner.{FoundAs, Reaches, Rising, Reachable};
 use policy::value::Register;
 use policy::value::SideValue;
 
@@ -67,12 +66,11 @@ pub fn of(users: Register, side: SideValue, user: u32) -> Found
     }
 }
 
-// Whether the user is registered and the set in the user's reach. What is assigned is in reach without a look at seniority.
-pub fn covers(users: Register, side: SideValue, user: u32, set: u32) -> bool
-    requires { ⌜ Reachable side users ⌝ }
-    ensures { λ r. ⌜ ((p : policy.Policy) → p .users ≡ entriesOf users → p .user ≡ sideOf side → r ≡ (there (policy.setOfNumber (p .users) user) && within set (reachOf p user))) ⌝ }
+// Whether what is found is registered and the set in its reach. What is assigned is in reach without a look at seniority.
+pub fn covers(found: Found, side: SideValue, set: u32) -> bool
+    requires { ⌜ Rising side × (found .set < policy.sets (sideOf side)) ⌝ }
+    ensures { λ r. ⌜ r ≡ (found .registered && within set (reach (sideOf side .lines) (policy.total (sideOf side)) (found .set))) ⌝ }
 {
-    let found = set_of(users, user);
     if !found.registered {
         return false;
     }

@@ -2,32 +2,36 @@
 use Prim.Native.Nat.{_≤_, _<_, _-_}
 use mathlib.Core.Path.{_≡_, refl, sym, _∙_}
 use native.Mathlib.Omega.{arith}
-use lib.ListN.{length, drop}
+use lib.ListN.{length, getD, drop}
 use borrow.Author.Needs.{needs}
 use borrow.Author.Tests.{not-true, not-false}
 use Rattle.basis.specs.Lists.{all}
 use Rattle.basis.proofs.Lists.{long}
 use Rattle.policy.specs.Policy.{Policy}
-use Rattle.policy.specs.Value.{sideOf, entriesOf}
+use Rattle.policy.specs.Value.{sideOf}
 use Rattle.board.specs.Machine.{sessionNumbers}
-use Rattle.board.specs.Board.{boardFits}
+use Rattle.board.specs.Board.{closed, boardFits}
+use Rattle.board.proofs.ByNumber.{places, Assigns, assigns, place-lt, found-lt}
 use Rattle.board.proofs.Fitting.{fitsIn, next-fails, next-fits, none-left}
 use Rattle.board.proofs.fit.entries_fit.Statement.{statement}
 use Rattle.board.proofs.fit.entries_fit.Tie as tie
 
 abbrev Inv-loop : tie.InvT-loop
-Inv-loop users side sessions i₀ i =
+Inv-loop side sessions table i₀ i =
     (i ≤ sessionNumbers)
-    × ((p : Policy) → p .users ≡ entriesOf users → p .user ≡ sideOf side → all (fitsIn p) sessions ≡ all (fitsIn p) (drop i sessions))
+    × ((p : Policy) → p .user ≡ sideOf side → Assigns p table → all (fitsIn p) sessions ≡ all (fitsIn p) (drop i sessions))
 
 abbrev μ-loop : tie.MeasureT-loop
-μ-loop users side sessions i₀ i = sessionNumbers - i
+μ-loop side sessions table i₀ i = sessionNumbers - i
 
 size : (c : tie.Start Inv-loop μ-loop) → length (c .args .board .sessions) ≡ sessionNumbers
 size c = search (needs, long)
 
+table-requires : tie.Need-table-requires Inv-loop μ-loop
+table-requires c κs = search needs
+
 loop-holds : tie.Need-loop-holds Inv-loop μ-loop
-loop-holds c = (omega arith, λ p eu es. refl)
+loop-holds c = (omega arith, λ p es q. refl)
 
 mul-entry : tie.Need-mul-entry Inv-loop μ-loop
 mul-entry c = search needs
@@ -35,20 +39,54 @@ mul-entry c = search needs
 array-copy-out-entry : tie.Need-array-copy-out-entry Inv-loop μ-loop
 array-copy-out-entry c = search needs
 
+place-requires : tie.Need-place-requires Inv-loop μ-loop
+place-requires c κs = search needs
+
+-- the user's place is in the table
+placed : (c : tie.After-place Inv-loop μ-loop) → c .place .result < places
+placed c =
+    rw (c .place .ensures)
+    (place-lt (getD (c .before .before .before .before .before .before .args .board .sessions) (c .before .before .before .loop .i) closed .user))
+
+mul-found : tie.Need-mul-found Inv-loop μ-loop
+mul-found c = let h = placed c in search needs
+
+array-copy-out-found : tie.Need-array-copy-out-found Inv-loop μ-loop
+array-copy-out-found c = placed c
+
 entry-fits-requires : tie.Need-entry-fits-requires Inv-loop μ-loop
-entry-fits-requires c κs = search needs
+entry-fits-requires c κs =
+    let l = c .before .before .before .before in let s = l .before .before .before in (
+      s .pre .seniority,
+      rw (c .before .place .ensures)
+          (found-lt (s .args .side) (s .args .users) (s .pre) (l .before .table .result) (l .before .table .ensures)
+          (getD (s .args .board .sessions) (l .loop .i) closed .user)),
+    )
 
 -- the turn's entry is in the list, and its test is the call's answer
 inside : (c : tie.After-entry-fits Inv-loop μ-loop)
-    → c .before .before .before .loop .i < length (c .before .before .before .before .before .args .board .sessions)
-inside c = omega (arith, size (c .before .before .before .before .before), c .before .before .loop-test .taken)
+    → c .before .before .before .before .before .loop .i
+    < length (c .before .before .before .before .before .before .before .before .args .board .sessions)
+inside c =
+    omega (arith, size (c .before .before .before .before .before .before .before .before), c .before .before .before .before .loop-test .taken)
+
+tested : (c : tie.After-entry-fits Inv-loop μ-loop) (p : Policy)
+    → p .user ≡ sideOf (c .before .before .before .before .before .before .before .before .args .side)
+    → Assigns p (c .before .before .before .before .before .before .table .result)
+    → c .entry-fits .result
+    ≡ fitsIn p (getD (c .before .before .before .before .before .before .before .before .args .board .sessions) (c .before .before .before .before .before .loop .i) closed)
+tested c p es q =
+    let l = c .before .before .before .before .before in
+    c .entry-fits .ensures p es
+    (rw (c .before .before .place .ensures) (q (getD (l .before .before .before .args .board .sessions) (l .loop .i) closed .user)))
 
 returns : tie.Need-returns Inv-loop μ-loop
 unfolding boardFits
 returns c p eu es =
-    let l = c .before .before .before .before in
-    let t = sym (c .before .entry-fits .ensures p eu es) ∙ not-true (c .before .entry-fits .result) (c .if1 .taken) in
-    sym (l .loop .inv .1 p eu es ∙ next-fails p (l .before .before .args .board .sessions) (l .loop .i) (inside (c .before)) t)
+    let l = c .before .before .before .before .before .before in let s = l .before .before .before in
+    let q = assigns (s .args .side) (s .args .users) (s .pre) (l .before .table .result) (l .before .table .ensures) p eu in
+    let t = sym (tested (c .before) p es q) ∙ not-true (c .before .entry-fits .result) (c .if1 .taken) in
+    sym (l .loop .inv .1 p es q ∙ next-fails p (s .args .board .sessions) (l .loop .i) (inside (c .before)) t)
 
 add-i : tie.Need-add-i Inv-loop μ-loop
 add-i c = search needs
@@ -58,19 +96,20 @@ loop-less c = search needs
 
 loop-again : tie.Need-loop-again Inv-loop μ-loop
 loop-again c =
-    let l = c .before .before .before .before in (
+    let l = c .before .before .before .before .before .before in (
       omega arith,
-      λ p eu es.
-          let t = sym (c .before .entry-fits .ensures p eu es) ∙ not-false (c .before .entry-fits .result) (c .if1 .left) in
-          l .loop .inv .1 p eu es ∙ next-fits p (l .before .before .args .board .sessions) (l .loop .i) (inside (c .before)) t,
+      λ p es q.
+          let t = sym (tested (c .before) p es q) ∙ not-false (c .before .entry-fits .result) (c .if1 .left) in
+          l .loop .inv .1 p es q ∙ next-fits p (l .before .before .before .args .board .sessions) (l .loop .i) (inside (c .before)) t,
     )
 
 returns-2 : tie.Need-returns-2 Inv-loop μ-loop
 unfolding boardFits
 returns-2 c p eu es =
-    let l = c .before in
-    let h : length (l .before .before .args .board .sessions) ≤ l .loop .i = omega (arith, size (l .before .before)) in
-    sym (l .loop .inv .1 p eu es ∙ none-left p (l .before .before .args .board .sessions) (l .loop .i) h)
+    let l = c .before in let s = l .before .before .before in
+    let q = assigns (s .args .side) (s .args .users) (s .pre) (l .before .table .result) (l .before .table .ensures) p eu in
+    let h : length (s .args .board .sessions) ≤ l .loop .i = omega (arith, size s) in
+    sym (l .loop .inv .1 p es q ∙ none-left p (s .args .board .sessions) (l .loop .i) h)
 
 pub entries-fit-spec : {M : Type 1} → statement M
 entries-fit-spec =
@@ -78,9 +117,13 @@ entries-fit-spec =
     (tie.spec
     Inv-loop
     μ-loop
+    table-requires
     loop-holds
     mul-entry
     array-copy-out-entry
+    place-requires
+    mul-found
+    array-copy-out-found
     entry-fits-requires
     returns
     add-i

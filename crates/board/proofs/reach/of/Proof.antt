@@ -1,10 +1,6 @@
 -- `board::reach::of` meets its contract: the lines are in order and the set is one of the side's.
 use borrow.Author.Needs.{needs}
-use Rattle.seniority.specs.Seniority.{wordBits}
-use Rattle.seniority.proofs.Laws.{ordered-more}
-use Rattle.policy.specs.Policy.{total}
-use Rattle.policy.specs.Value.{sideOf}
-use Rattle.board.proofs.Users.{reach-found, reach-none}
+use Rattle.board.proofs.Users.{juniors-ask, reach-found, reach-none}
 use Rattle.board.proofs.reach.of.Statement.{statement}
 use Rattle.board.proofs.reach.of.Tie as tie
 
@@ -12,10 +8,7 @@ set-of-requires : tie.Need-set-of-requires
 set-of-requires c κs = search needs
 
 with-juniors-requires : tie.Need-with-juniors-requires
-unfolding sideOf
-with-juniors-requires c κs =
-    let s = c .before .before .before in
-    (s .pre .lines, ordered-more (total (sideOf (s .args .side))) wordBits (s .pre .values) (sideOf (s .args .side) .lines) (s .pre .ordered))
+with-juniors-requires c κs = let s = c .before .before .before in juniors-ask (s .args .side) (s .pre .seniority)
 
 returns : tie.Need-returns
 returns c = search reach-found
