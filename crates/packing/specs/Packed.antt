@@ -1,5 +1,5 @@
 -- Words and policy values as they cross to C and Rust: an enum cannot cross, so a word goes as its number.
-use Prim.Native.Nat.{ℕ, _+_, _*_, _/_, _%_, _^_}
+use Prim.Native.Nat.{ℕ, _+_, _-_, _*_, _/_, _%_, _^_}
 use mathlib.Core.Bool.{Bool, true, cond, _&&_}
 use mathlib.Core.List.{List, [], _∷_, map}
 use lib.Dec.{eqb, ltb}
@@ -59,6 +59,10 @@ named n = wordOf (n / 2 ^ 16) (n / bytes % bytes) (n % bytes)
 -- the word whose number it is, and else the missing word
 unfoldable pub unpackedWord : ℕ → Word
 unpackedWord n = cond (eqb (packedWord (named n)) n) (named n) missing
+
+-- the bits of the bytes that a word of a kind does not have: both, the second or none
+unfoldable pub spare : ℕ → ℕ
+spare kind = cond (ltb kind 5) (2 ^ 16 - 1) (cond (ltb kind 7) (bytes - 1) 0)
 
 -- the numbers of a word are bytes, as those of the code's words are
 unfoldable pub inBytes : Word → Bool

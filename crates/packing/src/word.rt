@@ -58,10 +58,31 @@ fn of_kind(kind: u32, first: u8, second: u8) -> Word
     }
 }
 
-// The word of a number.
+// The bits of a number's second byte, and of both its bytes.
+const SECOND: u32 = 255;
+
+const BOTH: u32 = 65535;
+
+// The bits of a number that a word of its kind leaves at 0: those of the bytes that it does not have.
+fn spare(kind: u32) -> u32
+    ensures { λ r. ⌜ r ≡ spec.spare kind ⌝ }
+{
+    if kind < 5 {
+        return BOTH;
+    }
+    if kind < 7 {
+        return SECOND;
+    }
+    0
+}
+
+// The word of a number. The spare bits are looked at in place of packing the word again: nothing jumps by the word.
 pub fn unpack(n: u32) -> Word
     ensures { λ r. ⌜ r ≡ spec.unpackedWord n ⌝ }
 {
-    let w = of_kind(n / 65536, (n / 256 % 256) as u8, (n % 256) as u8);
-    if pack(w) == n { w } else { missing() }
+    let kind = n / 65536;
+    if n & spare(kind) == 0 {
+        return of_kind(kind, (n / 256 % 256) as u8, (n % 256) as u8);
+    }
+    missing()
 }
