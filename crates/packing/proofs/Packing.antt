@@ -64,14 +64,12 @@ module _ (n : ℕ) where
       (λ h. eq-eqb b 0 (omega (arith, eqb-true a n h)))
       (λ h. eq-eqb a n (omega (arith, eqb-true b 0 h)))
 
-  unpacked-kind : (t : Bool) → ltb (n / 2 ^ 16) 9 ≡ t → unpackedWord n ≡ cond (eqb (bitAnd n (spare (n / 2 ^ 16))) 0) (named n) missing
+  -- what unpacking gives at a number of no kind, and else by a test of the spare bits
+  pub unpacked-past : 8 < n / 2 ^ 16 → unpackedWord n ≡ missing
   unfolding unpackedWord
-  unpacked-kind true e =
-      rw (rest-whole (packedWord (named n)) (bitAnd n (spare (n / 2 ^ 16))) (spare-of (n / 2 ^ 16) (ltb-true _ 9 e) refl))
-  unpacked-kind false e =
-      rw (past-kinds (n / 2 ^ 16) (n / bytes % bytes) (n % bytes) (ltb-false _ 9 e))
-      (either (eqb (packedWord missing) n) missing ∙ sym (either (eqb (bitAnd n (spare (n / 2 ^ 16))) 0) missing))
+  unpacked-past h = rw (past-kinds (n / 2 ^ 16) (n / bytes % bytes) (n % bytes) (omega arith)) (either (eqb (packedWord missing) n) missing)
 
-  -- what unpacking gives, by a test of the spare bits
-  pub unpacked-by : {s : ℕ} {t : Bool} → s ≡ spare (n / 2 ^ 16) → eqb (bitAnd n s) 0 ≡ t → unpackedWord n ≡ cond t (named n) missing
-  unpacked-by e f = unpacked-kind (ltb (n / 2 ^ 16) 9) refl ∙ rw (← e, f)
+  pub unpacked-by : {s : ℕ} {t : Bool} → n / 2 ^ 16 ≤ 8 → s ≡ spare (n / 2 ^ 16) → eqb (bitAnd n s) 0 ≡ t → unpackedWord n ≡ cond t (named n) missing
+  unfolding unpackedWord
+  unpacked-by h e f =
+      rw (rest-whole (packedWord (named n)) (bitAnd n (spare (n / 2 ^ 16))) (spare-of (n / 2 ^ 16) (omega arith) refl), ← e, f)

@@ -76,11 +76,15 @@ fn spare(kind: u32) -> u32
     0
 }
 
-// The word of a number. The spare bits are looked at in place of packing the word again: nothing jumps by the word.
+// The word of a number. Past kind 8 there is none, and the compiler is told so first: it then has a table for the kinds, and no
+// jump by the word.
 pub fn unpack(n: u32) -> Word
     ensures { λ r. ⌜ r ≡ spec.unpackedWord n ⌝ }
 {
     let kind = n / 65536;
+    if 8 < kind {
+        return missing();
+    }
     if n & spare(kind) == 0 {
         return of_kind(kind, (n / 256 % 256) as u8, (n % 256) as u8);
     }
