@@ -3,13 +3,13 @@ use Prim.Native.Nat.{ℕ, _+_, _-_, _*_, _/_, _%_, _^_}
 use mathlib.Core.Bool.{Bool, true, cond, _&&_}
 use mathlib.Core.List.{List, [], _∷_, map}
 use lib.Dec.{eqb, ltb}
-use lib.ListN.{getD}
-use Rattle.basis.specs.Lists.{all}
+use lib.ListN.{getD, replicate}
+use Rattle.basis.specs.Lists.{all, same}
 use Rattle.words.specs.declared.Word.{Word}
 use Rattle.words.specs.declared.Word.the-variants.{True, False, Holds, Compares, Not, And, Or}
 use Rattle.words.specs.declared.Holding.the-variants.{User, Object}
 use Rattle.words.specs.declared.Comparison.the-variants.{Dominates, Equals}
-use Rattle.policy.specs.Value.{slot}
+use Rattle.policy.specs.Value.{wordPlaces, slot}
 use Rattle.policy.specs.declared.value.Slot.{Slot}
 use Rattle.policy.specs.declared.value.RuleValue.{RuleValue}
 use Rattle.policy.specs.declared.value.Rules.{Rules}
@@ -99,6 +99,13 @@ packedPolicy v =
 
 unfoldable pub unpackedRule : PackedRule → RuleValue
 unpackedRule r = record { action = r .action; count = r .count; words = map (λ n. slot (unpackedWord n)) (r .words) }
+
+-- a rule with nothing in it: its value is noRule
+abbrev pub isZero : ℕ → Bool
+isZero n = eqb n 0
+
+unfoldable pub blankRule : PackedRule → Bool
+blankRule r = isZero (r .action) && isZero (r .count) && same eqb (r .words) (replicate wordPlaces 0)
 
 unfoldable pub unpackedRules : PackedRules → Rules
 unpackedRules r = record { count = r .count; entries = map unpackedRule (r .entries) }
