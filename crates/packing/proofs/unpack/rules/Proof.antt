@@ -25,14 +25,20 @@ loop-holds : tie.Need-loop-holds Inv-loop μ-loop
 unfolding noRule padded
 loop-holds c = let l : length (c .before .args .from .entries) ≡ rulePlaces = search (needs, long) in over-none rulePlaces (sym l)
 
+mul-looked : tie.Need-mul-looked Inv-loop μ-loop
+mul-looked c = search needs
+
+array-copy-out-looked : tie.Need-array-copy-out-looked Inv-loop μ-loop
+array-copy-out-looked c = search needs
+
+is-blank-requires : tie.Need-is-blank-requires Inv-loop μ-loop
+is-blank-requires c κs = search needs
+
 mul-r : tie.Need-mul-r Inv-loop μ-loop
 mul-r c = search needs
 
 array-copy-out-r : tie.Need-array-copy-out-r Inv-loop μ-loop
 array-copy-out-r c = search needs
-
-is-blank-requires : tie.Need-is-blank-requires Inv-loop μ-loop
-is-blank-requires c κs = search needs
 
 rule-requires : tie.Need-rule-requires Inv-loop μ-loop
 rule-requires c κs = search needs
@@ -52,7 +58,7 @@ loop-less c = search needs
 loop-again : tie.Need-loop-again Inv-loop μ-loop
 loop-again c =
     let m = c .before .before .before .before .loop .inv in
-    ⊎-elim (λ w. rw (w .2) (over-more m _ (search (needs, long)) (w .1 .ensures))) (λ w. rw (w .1) (over-kept m _ (search (needs, long)) (blank-rule _ (sym (c .before .is-blank .ensures) ∙ not-false _ (w .0 .left))))) (c .if1 .came)
+    ⊎-elim (λ w. rw (w .3) (over-more m _ (search (needs, long)) (w .2 .ensures))) (λ w. rw (w .1) (over-kept m _ (search (needs, long)) (blank-rule _ (sym (c .before .is-blank .ensures) ∙ not-false _ (w .0 .left))))) (c .if1 .came)
 
 returns : tie.Need-returns Inv-loop μ-loop
 unfolding unpackedRules
@@ -68,9 +74,11 @@ rules-spec =
     Inv-loop
     μ-loop
     loop-holds
+    mul-looked
+    array-copy-out-looked
+    is-blank-requires
     mul-r
     array-copy-out-r
-    is-blank-requires
     rule-requires
     mul-entries
     array-set-from-entries
