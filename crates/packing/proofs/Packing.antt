@@ -10,22 +10,25 @@ use lib.Bits.{bitAnd, and-mask, and-zero-r}
 use lib.ListN.{List·getD-eq-default}
 use Rattle.basis.proofs.Bools.{both-ways}
 use Rattle.words.specs.declared.Word.{Word}
-use Rattle.packing.specs.Packed.{bytes, number, packedWord, missing, kinds, wordOf, named, unpackedWord, spare}
-
--- a number that is no kind
-past-kinds : (k i j : ℕ) → 9 ≤ k → wordOf k i j ≡ missing
-unfolding wordOf
-past-kinds k i j h = List·getD-eq-default (kinds i j) missing h
+use Rattle.packing.specs.Packed.{bytes, number, packedWord, missing, kinds, wordOf, named, unpackedWord, second, both, spares, spare}
 
 -- a number above others
 above : {n k : ℕ} → n ≤ k → (k ≡ n → ⊥) → n + 1 ≤ k
 above l e = omega (arith, e)
 
--- the same of a number that is none of the kinds, one by one
-pub no-kind : (k i j : ℕ) → (k ≡ 0 → ⊥) → (k ≡ 1 → ⊥) → (k ≡ 2 → ⊥) → (k ≡ 3 → ⊥) → (k ≡ 4 → ⊥) → (k ≡ 5 → ⊥) → (k ≡ 6 → ⊥)
-    → (k ≡ 7 → ⊥) → (k ≡ 8 → ⊥) → wordOf k i j ≡ missing
-no-kind k i j t f n a r u o d q =
-    past-kinds k i j (above (above (above (above (above (above (above (above (above (omega arith) t) f) n) a) r) u) o) d) q)
+-- a number that is none of the kinds is past them
+pub no-kind : (k : ℕ) → (k ≡ 0 → ⊥) → (k ≡ 1 → ⊥) → (k ≡ 2 → ⊥) → (k ≡ 3 → ⊥) → (k ≡ 4 → ⊥) → (k ≡ 5 → ⊥) → (k ≡ 6 → ⊥) → (k ≡ 7 → ⊥)
+    → (k ≡ 8 → ⊥) → 8 < k
+no-kind k t f n a r u o d q = above (above (above (above (above (above (above (above (above (omega arith) t) f) n) a) r) u) o) d) q
+
+-- it has no word and no spare bits
+pub past-kinds : (k i j : ℕ) → 8 < k → wordOf k i j ≡ missing
+unfolding wordOf
+past-kinds k i j h = List·getD-eq-default (kinds i j) missing h
+
+pub past-spare : (k : ℕ) → 8 < k → spare k ≡ 0
+unfolding spare
+past-spare k h = List·getD-eq-default spares 0 h
 
 -- the word that a number names, where its number is that one
 pub is-named : (n m : ℕ) (w : Word) → w ≡ named n → m ≡ packedWord w → m ≡ n → w ≡ unpackedWord n
@@ -42,10 +45,10 @@ module _ (n : ℕ) where
   abbrev WithSpare : ℕ → Type 0
   WithSpare k = n / 2 ^ 16 ≡ k → packedWord (wordOf k (n / bytes % bytes) (n % bytes)) + bitAnd n (spare k) ≡ n
 
-  spare-both : (k : ℕ) → n / 2 ^ 16 ≡ k → number k 0 0 + bitAnd n (2 ^ 16 - 1) ≡ n
+  spare-both : (k : ℕ) → n / 2 ^ 16 ≡ k → number k 0 0 + bitAnd n both ≡ n
   spare-both k e = omega (arith, and-mask n 16)
 
-  spare-second : (k : ℕ) → n / 2 ^ 16 ≡ k → number k (n / bytes % bytes) 0 + bitAnd n (bytes - 1) ≡ n
+  spare-second : (k : ℕ) → n / 2 ^ 16 ≡ k → number k (n / bytes % bytes) 0 + bitAnd n second ≡ n
   spare-second k e = omega (arith, and-mask n 8)
 
   spare-none : (k : ℕ) → n / 2 ^ 16 ≡ k → number k (n / bytes % bytes) (n % bytes) + bitAnd n 0 ≡ n
@@ -67,7 +70,7 @@ module _ (n : ℕ) where
   -- what unpacking gives at a number of no kind, and else by a test of the spare bits
   pub unpacked-past : 8 < n / 2 ^ 16 → unpackedWord n ≡ missing
   unfolding unpackedWord
-  unpacked-past h = rw (past-kinds (n / 2 ^ 16) (n / bytes % bytes) (n % bytes) (omega arith)) (either (eqb (packedWord missing) n) missing)
+  unpacked-past h = rw (past-kinds (n / 2 ^ 16) (n / bytes % bytes) (n % bytes) h) (either (eqb (packedWord missing) n) missing)
 
   pub unpacked-by : {s : ℕ} {t : Bool} → n / 2 ^ 16 ≤ 8 → s ≡ spare (n / 2 ^ 16) → eqb (bitAnd n s) 0 ≡ t → unpackedWord n ≡ cond t (named n) missing
   unfolding unpackedWord

@@ -60,9 +60,19 @@ named n = wordOf (n / 2 ^ 16) (n / bytes % bytes) (n % bytes)
 unfoldable pub unpackedWord : ℕ → Word
 unpackedWord n = cond (eqb (packedWord (named n)) n) (named n) missing
 
--- the bits of the bytes that a word of a kind does not have: both, the second or none
+-- the bits of the second byte, and of both
+abbrev pub second : ℕ
+second = bytes - 1
+
+abbrev pub both : ℕ
+both = 2 ^ 16 - 1
+
+-- the bits of the bytes that the word of each kind, from 0 on, does not have
+abbrev pub spares : List ℕ
+spares = both ∷ both ∷ both ∷ both ∷ both ∷ second ∷ second ∷ 0 ∷ 0 ∷ []
+
 unfoldable pub spare : ℕ → ℕ
-spare kind = cond (ltb kind 5) (2 ^ 16 - 1) (cond (ltb kind 7) (bytes - 1) 0)
+spare kind = getD spares kind 0
 
 -- the numbers of a word are bytes, as those of the code's words are
 unfoldable pub inBytes : Word → Bool

@@ -63,17 +63,23 @@ const SECOND: u32 = 255;
 
 const BOTH: u32 = 65535;
 
-// The bits of a number that a word of its kind leaves at 0: those of the bytes that it does not have.
+// The bits of a number that a word of its kind leaves at 0: those of the bytes that it does not have. Each kind has an arm of its own,
+// as in of_kind, so that the compiler makes a table.
 fn spare(kind: u32) -> u32
     ensures { λ r. ⌜ r ≡ spec.spare kind ⌝ }
 {
-    if kind < 5 {
-        return BOTH;
+    match kind {
+        0 => BOTH,
+        1 => BOTH,
+        2 => BOTH,
+        3 => BOTH,
+        4 => BOTH,
+        5 => SECOND,
+        6 => SECOND,
+        7 => 0,
+        8 => 0,
+        _ => 0,
     }
-    if kind < 7 {
-        return SECOND;
-    }
-    0
 }
 
 // The word of a number. Past kind 8 there is none, and the compiler is told so first: it then has a table for the kinds, and no
