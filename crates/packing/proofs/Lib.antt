@@ -1,4 +1,5 @@
 pub mod Mapped
 pub mod Packing
+pub mod Blank
 pub mod RoundTrip
 pub mod Crossing

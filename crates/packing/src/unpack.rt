@@ -1,8 +1,10 @@
 // A packed policy unpacked: each number as its word.
 ghost use mathlib.Core.Path.{_≡_};
 ghost use mathlib.Core.List.{map};
+ghost use Rattle.basis.specs.Lists.{all};
 ghost use Rattle.policy.specs.Value.{slot};
 ghost use Rattle.packing.specs.Packed.{unpackedWord, unpackedRule, unpackedRules, unpackedPolicy};
+ghost use Rattle.packing.specs.Inner.{isZero, blankRule};
 use crate::value::PackedPolicy;
 use crate::value::PackedRule;
 use crate::value::PackedRules;
@@ -33,6 +35,33 @@ fn words(from: [u32; WORD_PLACES]) -> [Slot; WORD_PLACES]
     words
 }
 
+// Whether every number is 0. There is no way out of the loop, so that the compiler looks at several places at once.
+fn all_zero(numbers: [u32; WORD_PLACES]) -> bool
+    ensures { λ r. ⌜ r ≡ all isZero numbers ⌝ }
+{
+    let mut bits = 0;
+    let mut i = 0;
+    while i < WORD_PLACES {
+        bits |= numbers[i];
+        i += 1;
+    }
+    bits == 0
+}
+
+// Whether a rule is blank: its action, its count and its words are 0.
+fn is_blank(rule: PackedRule) -> bool
+    ensures { λ r. ⌜ r ≡ blankRule rule ⌝ }
+{
+    if rule.action != 0 {
+        return false;
+    }
+    if rule.count != 0 {
+        return false;
+    }
+    let numbers = rule.words;
+    all_zero(numbers)
+}
+
 // A rule, with its numbers as words.
 fn rule(from: PackedRule) -> RuleValue
     ensures { λ r. ⌜ r ≡ unpackedRule from ⌝ }
@@ -59,8 +88,13 @@ fn rules(from: PackedRules) -> Rules
     }; RULE_PLACES];
     let mut i = 0;
     while i < RULE_PLACES {
-        let r = packed[i];
-        entries[i] = rule(r);
+        // Most rules of a policy are blank, as the array is. The rule that is unpacked is copied anew: the compiler then need not make
+        // the copy that is only looked at.
+        let looked = packed[i];
+        if !is_blank(looked) {
+            let r = packed[i];
+            entries[i] = rule(r);
+        }
         i += 1;
     }
     Rules {

@@ -1,6 +1,7 @@
 // A word as a number, and back.
 ghost use mathlib.Core.Path.{_≡_};
 ghost use Rattle.packing.specs.Packed as spec;
+ghost use Rattle.packing.specs.Inner as inner;
 use words::Comparison;
 use words::Holding;
 use words::Word;
@@ -58,10 +59,41 @@ fn of_kind(kind: u32, first: u8, second: u8) -> Word
     }
 }
 
-// The word of a number.
+// The bits of a number's second byte, and of both its bytes.
+const SECOND: u32 = 255;
+
+const BOTH: u32 = 65535;
+
+// The bits of a number that a word of its kind leaves at 0: those of the bytes that it does not have. Each kind has an arm of its own,
+// as in of_kind, so that the compiler makes a table.
+fn spare(kind: u32) -> u32
+    ensures { λ r. ⌜ r ≡ inner.spare kind ⌝ }
+{
+    match kind {
+        0 => BOTH,
+        1 => BOTH,
+        2 => BOTH,
+        3 => BOTH,
+        4 => BOTH,
+        5 => SECOND,
+        6 => SECOND,
+        7 => 0,
+        8 => 0,
+        _ => 0,
+    }
+}
+
+// The word of a number. Past kind 8 there is none, and the compiler is told so first: it then has a table for the kinds, and no
+// jump by the word.
 pub fn unpack(n: u32) -> Word
     ensures { λ r. ⌜ r ≡ spec.unpackedWord n ⌝ }
 {
-    let w = of_kind(n / 65536, (n / 256 % 256) as u8, (n % 256) as u8);
-    if pack(w) == n { w } else { missing() }
+    let kind = n / 65536;
+    if 8 < kind {
+        return missing();
+    }
+    if n & spare(kind) == 0 {
+        return of_kind(kind, (n / 256 % 256) as u8, (n % 256) as u8);
+    }
+    missing()
 }

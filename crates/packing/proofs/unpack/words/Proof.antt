@@ -1,19 +1,15 @@
 -- `packing::unpack::words` meets its contract: the places passed hold the words of the numbers there, and the others are blank.
-use Prim.Native.Nat.{ℕ, _-_}
-use mathlib.Core.Path.{_≡_, ap}
+use Prim.Native.Nat.{_-_}
+use mathlib.Core.Path.{ap}
 use mathlib.Core.Logic.{⊎-elim}
 use borrow.Author.Needs.{needs}
 use Rattle.words.specs.declared.Word.the-variants.{True}
 use Rattle.policy.specs.Value.{wordPlaces, slot}
-use Rattle.packing.specs.Packed.{packedWord, wordOf, unpackedWord}
+use Rattle.packing.specs.Packed.{unpackedWord}
+use Rattle.packing.proofs.Blank.{zero-blank}
 use Rattle.packing.proofs.Mapped.{MappedOver, over-none, over-more, over-kept, mapped-all}
 use Rattle.packing.proofs.unpack.words.Statement.{statement}
 use Rattle.packing.proofs.unpack.words.Tie as tie
-
--- the number 0 is a blank place's
-zero-blank : (n : ℕ) → n ≡ 0 → slot True ≡ slot (unpackedWord n)
-unfolding unpackedWord packedWord wordOf
-zero-blank n e = rw e
 
 abbrev Inv-loop : tie.InvT-loop
 Inv-loop from words₀ i₀ words i = MappedOver (slot True) (λ n. slot (unpackedWord n)) i from words

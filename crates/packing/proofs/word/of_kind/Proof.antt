@@ -1,7 +1,7 @@
 -- `packing::word::of_kind` meets its contract: each arm gives the word of its kind.
 use mathlib.Core.Path.{sym, _∙_}
 use Rattle.packing.specs.Packed.{wordOf}
-use Rattle.packing.proofs.Packing.{no-kind}
+use Rattle.packing.proofs.Packing.{no-kind, past-kinds}
 use borrow.Author.Needs.{needs}
 use Rattle.packing.proofs.word.of_kind.Statement.{statement}
 use Rattle.packing.proofs.word.of_kind.Tie as tie
@@ -49,7 +49,7 @@ returns-10 : tie.Need-returns-10
 returns-10 c =
     let r = c .before .match .rest in
     c .missing .ensures
-    ∙ sym (no-kind _ _ _ (r .0 .0 .0 .0 .0 .0 .0 .0 .1) (r .0 .0 .0 .0 .0 .0 .0 .1) (r .0 .0 .0 .0 .0 .0 .1) (r .0 .0 .0 .0 .0 .1) (r .0 .0 .0 .0 .1) (r .0 .0 .0 .1) (r .0 .0 .1) (r .0 .1) (r .1))
+    ∙ sym (past-kinds _ _ _ (no-kind _ (r .0 .0 .0 .0 .0 .0 .0 .0 .1) (r .0 .0 .0 .0 .0 .0 .0 .1) (r .0 .0 .0 .0 .0 .0 .1) (r .0 .0 .0 .0 .0 .1) (r .0 .0 .0 .0 .1) (r .0 .0 .0 .1) (r .0 .0 .1) (r .0 .1) (r .1)))
 
 pub of-kind-spec : {M : Type 1} → statement M
 of-kind-spec =
