@@ -23,9 +23,10 @@ spares = both ∷ both ∷ both ∷ both ∷ both ∷ second ∷ second ∷ 0 �
 unfoldable pub spare : ℕ → ℕ
 spare kind = getD spares kind 0
 
--- a rule with nothing in it: its value is noRule
+-- the number of a blank place
 abbrev pub isZero : ℕ → Bool
 isZero n = eqb n 0
 
+-- a rule with nothing in it: its value is noRule
 unfoldable pub blankRule : PackedRule → Bool
 blankRule r = isZero (r .action) && isZero (r .count) && same eqb (r .words) (replicate wordPlaces 0)
