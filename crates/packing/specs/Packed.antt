@@ -110,10 +110,10 @@ packedPolicy v =
 unfoldable pub unpackedRule : PackedRule → RuleValue
 unpackedRule r = record { action = r .action; count = r .count; words = map (λ n. slot (unpackedWord n)) (r .words) }
 
--- a rule with nothing in it: its value is noRule
 abbrev pub isZero : ℕ → Bool
 isZero n = eqb n 0
 
+-- a rule with nothing in it: its value is noRule
 unfoldable pub blankRule : PackedRule → Bool
 blankRule r = isZero (r .action) && isZero (r .count) && same eqb (r .words) (replicate wordPlaces 0)
 
