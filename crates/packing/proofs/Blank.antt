@@ -1,7 +1,7 @@
 -- Blank places and blank rules: they are packed as 0, and unpacking leaves them blank.
 use Prim.Native.Nat.{ℕ, suc, _+_, _≤_, _<_}
 use mathlib.Core.Path.{_≡_, refl, sym, _∙_}
-use mathlib.Core.Bool.{Bool, true, _&&_, and-true, and-assoc}
+use mathlib.Core.Bool.{true, _&&_, and-true, and-assoc}
 use mathlib.Core.List.{List, [], _∷_}
 use native.Mathlib.Numerals.{add-one}
 use native.Mathlib.Omega.{arith}
@@ -21,11 +21,18 @@ use Rattle.packing.specs.Inner.{isZero, blankRule}
 
 -- ---- the numbers of a rule, looked at together
 
+-- two numbers have no bits together exactly where neither has any
 or-zero : (a b : ℕ) → isZero (bitOr a b) ≡ (isZero a && isZero b)
 or-zero a b =
+    let sum = or-add-and a b in
     both-ways (isZero (bitOr a b)) (isZero a && isZero b)
-    (λ h. let z = eqb-true (bitOr a b) 0 h in and-both (isZero a) (isZero b) (eq-eqb a 0 (omega (arith, or-add-and a b, and-le-r a b))) (eq-eqb b 0 (omega (arith, or-add-and a b, and-le-l a b))))
-    (λ h. let x = eqb-true a 0 (and-left _ _ h) in let y = eqb-true b 0 (and-right (isZero a) _ h) in eq-eqb (bitOr a b) 0 (omega (arith, or-add-and a b)))
+    (λ h.
+    let z = eqb-true (bitOr a b) 0 h in
+    and-both (isZero a) (isZero b) (eq-eqb a 0 (omega (arith, and-le-r a b))) (eq-eqb b 0 (omega (arith, and-le-l a b))))
+    (λ h.
+    let x = eqb-true a 0 (and-left _ _ h) in
+    let y = eqb-true b 0 (and-right (isZero a) _ h) in
+    eq-eqb (bitOr a b) 0 (omega arith))
 
 -- the numbers are all 0 exactly where the bits of those passed are, taken together, and those to come
 pub record Passed (bits i : ℕ) (ns : List ℕ) : Type 0 where
