@@ -120,6 +120,7 @@ pub fn compile(
     let from = rows::source_of(policy);
     let shape = from.shape;
     let view = grid::view_of(shape);
-    let entries = grid::fill(from, view);
+    let mut entries = [0u8; PLACES];
+    grid::fill(&mut entries, from, view);
     store(&entries, view, users, objects, table)
 }

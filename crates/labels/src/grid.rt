@@ -5,10 +5,11 @@ use formula::shape;
 use formula::shape::Shape;
 ghost use mathlib.Core.Path.{_≡_};
 ghost use Prim.Native.Nat.{_<_};
+ghost use lib.ListN.{length};
 ghost use Rattle.policy.specs.Policy.{Policy};
 ghost use Rattle.formula.specs.Lane.{ShapeOf};
 ghost use Rattle.labels.specs.Rows.{SourceOf};
-ghost use Rattle.labels.specs.Grid.{cell, turnedView, ViewOf, Inside, GridOf};
+ghost use Rattle.labels.specs.Grid.{gridPlaces, cell, turnedView, ViewOf, Inside, GridOf};
 
 // The places of a grid.
 pub const PLACES: usize = 16384;
@@ -51,21 +52,19 @@ pub fn turned(view: View) -> View
     }
 }
 
-// The grid of a policy.
-pub fn fill(from: Source, view: View) -> [u8; PLACES]
-    requires { ⌜ ((p : Policy) × SourceOf p from × ViewOf p view) ⌝ }
-    ensures { λ r. ⌜ ((p : Policy) → SourceOf p from → ViewOf p view → GridOf p r view) ⌝ }
+// Fills a grid, which the caller owns because it is large, with the entries of a policy.
+pub fn fill(grid: &mut [u8; PLACES], from: Source, view: View)
+    requires { ⌜ ((p : Policy) × SourceOf p from × ViewOf p view) × (length (now grid) ≡ gridPlaces) ⌝ }
+    ensures { λ _. ⌜ ((p : Policy) → SourceOf p from → ViewOf p view → GridOf p (now (grid .exit)) view) ⌝ }
 {
     let m = view.rows;
     let n = view.columns;
-    let mut grid = [0u8; PLACES];
     for u in 0..m {
         let row = rows::row(from, u as u32, n);
         for o in 0..n {
             grid[u * n + o] = row[o];
         }
     }
-    grid
 }
 
 // A set that is kept in a byte.

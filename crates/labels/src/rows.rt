@@ -9,7 +9,7 @@ use policy::value::PolicyValue;
 use policy::value::Rules;
 use policy::value::SideValue;
 ghost use mathlib.Core.Path.{_≡_};
-ghost use Prim.Native.Nat.{ℕ, _+_, _^_, _≤_, _<_};
+ghost use Prim.Native.Nat.{ℕ, _+_, _^_, _≤_, _<_, min};
 ghost use lib.ListN.{getD};
 ghost use Rattle.policy.specs.Policy.{Policy};
 ghost use Rattle.policy.specs.Value.{rulesOf, policyOf};
@@ -52,7 +52,7 @@ pub fn source_of(policy: PolicyValue) -> Source
     }
 }
 
-// A row that has the entries of the object sets before `at`, with those of the 64 from there on.
+// A row that has the entries of the object sets before `at`, with those of the next `count`, which may be fewer than the 64 of the vectors.
 fn with_block(
     row: [u8; SETS],
     s: Shape,
@@ -60,16 +60,24 @@ fn with_block(
     objects: &[u64; 2 * VALUES],
     rules: Rules,
     at: usize,
+    count: usize,
 ) -> [u8; SETS]
-    requires { ⌜ ((p : Policy) × ShapeOf p s) × RulesFit rules × (at + lanes ≤ mostSets) ⌝ }
-    ensures { λ r. ⌜ ((p : Policy) (u : ℕ) → ShapeOf p s → p .rules ≡ rulesOf rules → ((k : ℕ) → k < lanes → Pair p (now (users .entry)) (now (objects .entry)) k u (at + k)) → ((o : ℕ) → o < at → getD row o 0 ≡ entryOf p u o) → (o : ℕ) → o < at + lanes → getD r o 0 ≡ entryOf p u o) ⌝ }
+    requires { ⌜ ((p : Policy) × ShapeOf p s) × RulesFit rules × (count ≤ lanes) × (at + count ≤ mostSets) ⌝ }
+    ensures { λ r. ⌜ ((p : Policy) (u : ℕ) → ShapeOf p s → p .rules ≡ rulesOf rules → ((k : ℕ) → k < lanes → Pair p (now (users .entry)) (now (objects .entry)) k u (at + k)) → ((o : ℕ) → o < at → getD row o 0 ≡ entryOf p u o) → (o : ℕ) → o < at + count → getD r o 0 ≡ entryOf p u o) ⌝ }
 {
     let grants = entries::grants(s, users, objects, rules);
     let mut r = row;
-    for k in 0..LANES {
+    for k in 0..count {
         r[at + k] = entries::entry(&grants, k);
     }
     r
+}
+
+// How many of n object sets the first block has.
+fn in_first_block(n: usize) -> usize
+    ensures { λ r. ⌜ r ≡ min n lanes ⌝ }
+{
+    if n < LANES { n } else { LANES }
 }
 
 // The row of a user set, at the first n object sets.
@@ -83,12 +91,20 @@ pub fn row(from: Source, u: u32, n: usize) -> [u8; SETS]
     let shape = from.shape;
     let rules = from.rules;
     let low = from.low;
-    let r = with_block([0u8; SETS], shape, &users, &low, rules, 0);
+    let r = with_block(
+        [0u8; SETS],
+        shape,
+        &users,
+        &low,
+        rules,
+        0,
+        in_first_block(n),
+    );
     if n <= LANES {
         return r;
     }
     let high = from.high;
-    with_block(r, shape, &users, &high, rules, LANES)
+    with_block(r, shape, &users, &high, rules, LANES, n - LANES)
 }
 
 // The first of n columns at which two rows differ, or n where none does.

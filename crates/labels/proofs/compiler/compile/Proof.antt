@@ -1,12 +1,14 @@
 -- `labels::compiler::compile` meets its contract: check 11 gives what the grid asks, and the grid is stored.
+use Prim.Native.Nat.{ℕ}
 use mathlib.Core.Path.{_≡_, sym, _∙_}
 use mathlib.Core.Bool.{true}
+use lib.ListN.{length-replicate}
 use borrow.Author.Needs.{needs}
 use borrow.Author.Tests.{not-true, not-false}
 use Rattle.policy.specs.Value.{policyOf}
 use Rattle.policy.specs.Valid.{valid}
 use Rattle.formula.proofs.Checked.{valid-fits}
-use Rattle.labels.specs.Grid.{ViewOf}
+use Rattle.labels.specs.Grid.{gridPlaces, ViewOf}
 use Rattle.labels.proofs.Grids.{view-inside}
 use Rattle.labels.proofs.Storing.{refused-value}
 use Rattle.labels.proofs.compiler.compile.Statement.{statement}
@@ -31,10 +33,10 @@ seen : (c : tie.After-view-of) → ViewOf (policyOf (c .before .before .before .
 seen c = c .view-of .ensures _ (c .before .before .source-of .ensures .shape)
 
 fill-requires : tie.Need-fill-requires
-fill-requires c κs = (policyOf _, c .before .before .source-of .ensures, seen c)
+fill-requires c κs = ((policyOf _, c .before .before .before .source-of .ensures, seen (c .before)), length-replicate {A = ℕ} gridPlaces 0)
 
 store-requires : tie.Need-store-requires
-store-requires c κs = view-inside (seen (c .before .before .before .before .before))
+store-requires c κs = view-inside (seen (c .before .before .before .before .before .before))
 
 same-length : tie.Need-same-length
 same-length c = search needs
@@ -48,8 +50,8 @@ same-length-3 c = search needs
 returns-2 : tie.Need-returns-2
 returns-2 c =
     let f = c .before .before .before .before .before .before .before .before .before .before .before in
-    let e = f .before .before .before .before in
-    c .before .before .before .before .before .before .store .ensures _ (ok e) (f .fill .ensures _ (f .before .before .before .source-of .ensures) (seen (f .before)))
+    let e = f .before .before .before .before .before in
+    c .before .before .before .before .before .before .store .ensures _ (ok e) (f .fill .ensures _ (f .before .before .before .before .source-of .ensures) (seen (f .before .before)))
 
 pub compile-spec : {M : Type 1} → statement M
 compile-spec =

@@ -2,7 +2,6 @@
 use Prim.Native.Nat.{ℕ, _+_, _*_, _-_, _≤_, _<_}
 use mathlib.Core.Path.{_≡_, ap}
 use native.Mathlib.Omega.{arith}
-use lib.ListN.{length-replicate}
 use borrow.Author.Needs.{needs}
 use Rattle.labels.specs.Grid.{gridPlaces}
 use Rattle.labels.proofs.Grids.{place-below, Entered, entered-more, entered-count, entered-all}
@@ -10,26 +9,26 @@ use Rattle.labels.proofs.grid.fill.Statement.{statement}
 use Rattle.labels.proofs.grid.fill.Tie as tie
 
 abbrev Inv-loop2 : tie.InvT-loop2
-Inv-loop2 from m n grid₀ u row o₀ grid o = (o ≤ n) × Entered from n (u * n + o) grid
+Inv-loop2 grid₀ from m n u row o₀ grid o = (o ≤ n) × Entered from n (u * n + o) grid
 
 abbrev μ-loop2 : tie.MeasureT-loop2
-μ-loop2 from m n grid₀ u row o₀ grid o = n - o
+μ-loop2 grid₀ from m n u row o₀ grid o = n - o
 
 abbrev Inv-loop : tie.InvT-loop
-Inv-loop from m n grid₀ u₀ grid u = (u ≤ m) × Entered from n (u * n) grid
+Inv-loop grid₀ from m n u₀ grid u = (u ≤ m) × Entered from n (u * n) grid
 
 abbrev μ-loop : tie.MeasureT-loop
-μ-loop from m n grid₀ u₀ grid u = m - u
+μ-loop grid₀ from m n u₀ grid u = m - u
 
 loop-holds : tie.Need-loop-holds Inv-loop2 μ-loop2 Inv-loop μ-loop
-loop-holds c = (search needs, record { long = length-replicate {A = ℕ} gridPlaces 0; entries = λ p source i h. absurd (omega arith) })
+loop-holds c = (search needs, record { long = c .pre .1; entries = λ p source i h. absurd (omega arith) })
 
 cast-row : tie.Need-cast-row Inv-loop2 μ-loop2 Inv-loop μ-loop
 cast-row c = search needs
 
 row-requires : tie.Need-row-requires Inv-loop2 μ-loop2 Inv-loop μ-loop
 row-requires c κs =
-    let s = c .before .before .pre in
+    let s = c .before .before .pre .0 in
     ((s .0, s .1), omega (arith, s .2 .few-users, c .loop-test .taken), s .2 .few-objects)
 
 loop2-holds : tie.Need-loop2-holds Inv-loop2 μ-loop2 Inv-loop μ-loop
@@ -44,7 +43,7 @@ room : (c : tie.In-loop2 Inv-loop2 μ-loop2 Inv-loop μ-loop)
     l .loop .u * l .before .args .view .columns + c .before .loop2 .o < gridPlaces
 room c =
     let l = c .before .before .before in
-    let v = l .before .before .pre .2 in
+    let v = l .before .before .pre .0 .2 in
     place-below _ _ _ _ (v .few-users) (v .few-objects) (l .loop-test .taken) (c .loop2-test .taken)
 
 mul-grid : tie.Need-mul-grid Inv-loop2 μ-loop2 Inv-loop μ-loop
@@ -53,8 +52,8 @@ mul-grid c = omega (arith, room c)
 add-grid : tie.Need-add-grid Inv-loop2 μ-loop2 Inv-loop μ-loop
 add-grid c = omega (arith, room c)
 
-array-write-grid : tie.Need-array-write-grid Inv-loop2 μ-loop2 Inv-loop μ-loop
-array-write-grid c = room c
+element-write-grid : tie.Need-element-write-grid Inv-loop2 μ-loop2 Inv-loop μ-loop
+element-write-grid c = room c
 
 add-o : tie.Need-add-o Inv-loop2 μ-loop2 Inv-loop μ-loop
 add-o c = search needs
@@ -94,7 +93,7 @@ fill-spec =
     array-read-grid
     mul-grid
     add-grid
-    array-write-grid
+    element-write-grid
     add-o
     loop2-less
     loop2-again

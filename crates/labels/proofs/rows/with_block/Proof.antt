@@ -5,19 +5,18 @@ use native.Mathlib.Omega.{arith}
 use lib.ListN.{length, getD, length-set}
 use borrow.Author.Needs.{needs}
 use Rattle.basis.proofs.Places.{stored-next}
-use Rattle.formula.specs.Lane.{lanes}
 use Rattle.labels.specs.Rows.{mostSets, entryOf}
 use Rattle.labels.proofs.Entries.{laneEntry, lane-entry}
 use Rattle.labels.proofs.rows.with_block.Statement.{statement}
 use Rattle.labels.proofs.rows.with_block.Tie as tie
 
 abbrev Inv-loop : tie.InvT-loop
-Inv-loop users objects at grants r₀ k₀ r k =
-    (k ≤ lanes) × (length r ≡ mostSets)
-    × ((f : ℕ → ℕ) → ((o : ℕ) → o < at → getD r₀ o 0 ≡ f o) → ((i : ℕ) → i < lanes → laneEntry grants i ≡ f (at + i)) → (o : ℕ) → o < at + k → getD r o 0 ≡ f o)
+Inv-loop users objects at count grants r₀ k₀ r k =
+    (k ≤ count) × (length r ≡ mostSets)
+    × ((f : ℕ → ℕ) → ((o : ℕ) → o < at → getD r₀ o 0 ≡ f o) → ((i : ℕ) → i < count → laneEntry grants i ≡ f (at + i)) → (o : ℕ) → o < at + k → getD r o 0 ≡ f o)
 
 abbrev μ-loop : tie.MeasureT-loop
-μ-loop users objects at grants r₀ k₀ r k = lanes - k
+μ-loop users objects at count grants r₀ k₀ r k = count - k
 
 grants-requires : tie.Need-grants-requires Inv-loop μ-loop
 grants-requires c κs = search needs
@@ -55,7 +54,7 @@ returns : tie.Need-returns Inv-loop μ-loop
 returns c = λ p u shape rules pair old o h.
     let g = c .before .before .grants in
     c .before .loop .inv .2 (entryOf p u) old
-    (λ k l. lane-entry p (g .result) k u _ (λ a b. g .ensures p k u _ a shape (pair k l) rules b)) o (omega arith)
+    (λ k l. lane-entry p (g .result) k u _ (λ a b. g .ensures p k u _ a shape (pair k (omega arith)) rules b)) o (omega arith)
 
 pub with-block-spec : {M : Type 1} → statement M
 with-block-spec =
