@@ -133,11 +133,15 @@ pub fn read(text: &[u8]) -> Reading
         match k {
             Kind::Policy => form = x.first,
             Kind::Uattr => {
-                user = value::with_width(user, x.first);
+                let i = user.attributes;
+                user.widths[i] = x.first;
+                user.attributes = i + 1;
                 user_shape = value::shape(user);
             }
             Kind::Oattr => {
-                object = value::with_width(object, x.first);
+                let i = object.attributes;
+                object.widths[i] = x.first;
+                object.attributes = i + 1;
                 object_shape = value::shape(object);
             }
             Kind::Usen => {

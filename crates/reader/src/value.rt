@@ -1,4 +1,4 @@
-// The policy value before the first line, and a side with one width more.
+// The policy value before the first line.
 ghost use mathlib.Core.Path.{_≡_};
 ghost use mathlib.Core.List.{[]};
 ghost use Prim.Native.Nat.{_^_, _<_, _≤_};
@@ -6,7 +6,6 @@ ghost use lib.ListN.{take};
 ghost use Rattle.basis.specs.Lists.{sum};
 ghost use Rattle.checks.specs.Sides.{Shaped};
 ghost use Rattle.policy.specs.Policy as policy;
-ghost use Rattle.policy.specs.Checks.{withWidth};
 ghost use Rattle.policy.specs.Value.{widthPlaces, sideValue, register, rulesValue, valueOf};
 use checks::side::Shape;
 use policy::value::ENTRY_PLACES;
@@ -72,17 +71,6 @@ pub fn blank() -> PolicyValue
         objects: entries,
         rules,
     }
-}
-
-pub fn with_width(side: SideValue, w: u32) -> SideValue
-    requires { ⌜ side .attributes < widthPlaces ⌝ }
-    ensures { λ r. ⌜ ((s : policy.Side) → side ≡ sideValue s → r ≡ sideValue (withWidth w s)) ⌝ }
-{
-    let mut more = side;
-    let i = side.attributes;
-    more.widths[i] = w;
-    more.attributes = i + 1;
-    more
 }
 
 // The shape of a side.

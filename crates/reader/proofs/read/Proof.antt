@@ -5,9 +5,9 @@ use borrow.Author.Needs.{needs}
 use denote.Ref.{now}
 use lib.ListN.{length}
 use Rattle.seniority.specs.Seniority.{linePlaces}
-use Rattle.policy.specs.Value.{entryPlaces, rulePlaces}
+use Rattle.policy.specs.Value.{widthPlaces, entryPlaces, rulePlaces}
 use Rattle.reader.proofs.States.{Held, At, Step, Taken, at-sides, at-sized, blank-sized, at-start, too-long, at-open, at-ended, at-unended, at-value, step-refused, rule-counted, rule-refused}
-use Rattle.reader.proofs.Stored.{stored-line, stored-entry, stored-rule}
+use Rattle.reader.proofs.Stored.{stored-width, stored-line, stored-entry, stored-rule}
 use Rattle.reader.proofs.Turns.{at-form, uattr-room, uattr-sized, at-uattr, oattr-room, oattr-sized, at-oattr, usen-room, at-usen, osen-room, at-osen, user-room, at-user, object-room, at-object, rule-room, at-rule, at-end}
 use Rattle.reader.proofs.read.Statement.{statement}
 use Rattle.reader.proofs.read.Tie as tie
@@ -139,32 +139,50 @@ loop-again c = at-form (taken (c .before .before)) (c .enum-told2 .given .1)
 enum-told-3 : tie.Need-enum-told-3 Inv-loop μ-loop
 enum-told-3 c = search needs
 
-with-width-requires : tie.Need-with-width-requires Inv-loop μ-loop
-with-width-requires c κs = uattr-room (taken (c .before .before)) (c .enum-told3 .given .1)
+uattr-free : (c : tie.After-enum-told3 Inv-loop μ-loop) → held (c .before .before .before .before) .user .attributes < widthPlaces
+uattr-free c = uattr-room (taken (c .before .before)) (c .enum-told3 .given .1)
+
+mul-user : tie.Need-mul-user Inv-loop μ-loop
+mul-user c = let h = uattr-free c in search needs
+
+element-write-user : tie.Need-element-write-user Inv-loop μ-loop
+element-write-user c = uattr-free c
+
+add-user : tie.Need-add-user Inv-loop μ-loop
+add-user c = let h = uattr-free c in search needs
 
 shape-requires-2 : tie.Need-shape-requires-2 Inv-loop μ-loop
-shape-requires-2 c κs = uattr-sized (taken (c .before .before .before)) (c .before .enum-told3 .given .1) _ (c .with-width .ensures)
+shape-requires-2 c κs = uattr-sized (taken (c .before .before)) (c .enum-told3 .given .1) _ (λ s e. stored-width _ s e _ (uattr-free c))
 
 loop-less-2 : tie.Need-loop-less-2 Inv-loop μ-loop
 loop-less-2 c = search needs
 
 loop-again-2 : tie.Need-loop-again-2 Inv-loop μ-loop
-loop-again-2 c = at-uattr (taken (c .before .before .before .before)) (c .before .before .enum-told3 .given .1) _ (c .before .with-width .ensures) _ (c .shape2 .ensures)
+loop-again-2 c = at-uattr (taken (c .before .before .before)) (c .before .enum-told3 .given .1) _ (λ s e. stored-width _ s e _ (uattr-free (c .before))) _ (c .shape2 .ensures)
 
 enum-told-4 : tie.Need-enum-told-4 Inv-loop μ-loop
 enum-told-4 c = search needs
 
-with-width-requires-2 : tie.Need-with-width-requires-2 Inv-loop μ-loop
-with-width-requires-2 c κs = oattr-room (taken (c .before .before)) (c .enum-told4 .given .1)
+oattr-free : (c : tie.After-enum-told4 Inv-loop μ-loop) → held (c .before .before .before .before) .object .attributes < widthPlaces
+oattr-free c = oattr-room (taken (c .before .before)) (c .enum-told4 .given .1)
+
+mul-object : tie.Need-mul-object Inv-loop μ-loop
+mul-object c = let h = oattr-free c in search needs
+
+element-write-object : tie.Need-element-write-object Inv-loop μ-loop
+element-write-object c = oattr-free c
+
+add-object : tie.Need-add-object Inv-loop μ-loop
+add-object c = let h = oattr-free c in search needs
 
 shape-requires-3 : tie.Need-shape-requires-3 Inv-loop μ-loop
-shape-requires-3 c κs = oattr-sized (taken (c .before .before .before)) (c .before .enum-told4 .given .1) _ (c .with-width2 .ensures)
+shape-requires-3 c κs = oattr-sized (taken (c .before .before)) (c .enum-told4 .given .1) _ (λ s e. stored-width _ s e _ (oattr-free c))
 
 loop-less-3 : tie.Need-loop-less-3 Inv-loop μ-loop
 loop-less-3 c = search needs
 
 loop-again-3 : tie.Need-loop-again-3 Inv-loop μ-loop
-loop-again-3 c = at-oattr (taken (c .before .before .before .before)) (c .before .before .enum-told4 .given .1) _ (c .before .with-width2 .ensures) _ (c .shape3 .ensures)
+loop-again-3 c = at-oattr (taken (c .before .before .before)) (c .before .enum-told4 .given .1) _ (λ s e. stored-width _ s e _ (oattr-free (c .before))) _ (c .shape3 .ensures)
 
 enum-told-5 : tie.Need-enum-told-5 Inv-loop μ-loop
 enum-told-5 c = search needs
@@ -175,14 +193,14 @@ pair-requires c κs = search needs
 usen-free : (c : tie.After-pair Inv-loop μ-loop) → held (c .before .before .before .before .before) .user .lines < linePlaces
 usen-free c = usen-room (taken (c .before .before .before)) (c .before .enum-told5 .given .1)
 
-mul-t46 : tie.Need-mul-t46 Inv-loop μ-loop
-mul-t46 c = let h = usen-free c in search needs
+mul-t52 : tie.Need-mul-t52 Inv-loop μ-loop
+mul-t52 c = let h = usen-free c in search needs
 
 element-set-from-user : tie.Need-element-set-from-user Inv-loop μ-loop
 element-set-from-user c = usen-free c
 
-add-user : tie.Need-add-user Inv-loop μ-loop
-add-user c = let h = usen-free c in search needs
+add-user-2 : tie.Need-add-user-2 Inv-loop μ-loop
+add-user-2 c = let h = usen-free c in search needs
 
 loop-less-4 : tie.Need-loop-less-4 Inv-loop μ-loop
 loop-less-4 c = search needs
@@ -199,14 +217,14 @@ pair-requires-2 c κs = search needs
 osen-free : (c : tie.After-pair2 Inv-loop μ-loop) → held (c .before .before .before .before .before) .object .lines < linePlaces
 osen-free c = osen-room (taken (c .before .before .before)) (c .before .enum-told6 .given .1)
 
-mul-t50 : tie.Need-mul-t50 Inv-loop μ-loop
-mul-t50 c = let h = osen-free c in search needs
+mul-t56 : tie.Need-mul-t56 Inv-loop μ-loop
+mul-t56 c = let h = osen-free c in search needs
 
 element-set-from-object : tie.Need-element-set-from-object Inv-loop μ-loop
 element-set-from-object c = osen-free c
 
-add-object : tie.Need-add-object Inv-loop μ-loop
-add-object c = let h = osen-free c in search needs
+add-object-2 : tie.Need-add-object-2 Inv-loop μ-loop
+add-object-2 c = let h = osen-free c in search needs
 
 loop-less-5 : tie.Need-loop-less-5 Inv-loop μ-loop
 loop-less-5 c = search needs
@@ -223,8 +241,8 @@ entry-requires c κs = search needs
 user-free : (c : tie.After-entry Inv-loop μ-loop) → held (c .before .before .before .before .before) .users .count < entryPlaces
 user-free c = user-room (taken (c .before .before .before)) (c .before .enum-told7 .given .1)
 
-mul-t54 : tie.Need-mul-t54 Inv-loop μ-loop
-mul-t54 c = let h = user-free c in search needs
+mul-t60 : tie.Need-mul-t60 Inv-loop μ-loop
+mul-t60 c = let h = user-free c in search needs
 
 element-set-from-users : tie.Need-element-set-from-users Inv-loop μ-loop
 element-set-from-users c = user-free c
@@ -247,8 +265,8 @@ entry-requires-2 c κs = search needs
 object-free : (c : tie.After-entry2 Inv-loop μ-loop) → held (c .before .before .before .before .before) .objects .count < entryPlaces
 object-free c = object-room (taken (c .before .before .before)) (c .before .enum-told8 .given .1)
 
-mul-t58 : tie.Need-mul-t58 Inv-loop μ-loop
-mul-t58 c = let h = object-free c in search needs
+mul-t64 : tie.Need-mul-t64 Inv-loop μ-loop
+mul-t64 c = let h = object-free c in search needs
 
 element-set-from-objects : tie.Need-element-set-from-objects Inv-loop μ-loop
 element-set-from-objects c = object-free c
@@ -363,39 +381,43 @@ read-spec =
     loop-less
     loop-again
     enum-told-3
-    with-width-requires
+    mul-user
+    element-write-user
+    add-user
     shape-requires-2
     loop-less-2
     loop-again-2
     enum-told-4
-    with-width-requires-2
+    mul-object
+    element-write-object
+    add-object
     shape-requires-3
     loop-less-3
     loop-again-3
     enum-told-5
     pair-requires
-    mul-t46
+    mul-t52
     element-set-from-user
-    add-user
+    add-user-2
     loop-less-4
     loop-again-4
     enum-told-6
     pair-requires-2
-    mul-t50
+    mul-t56
     element-set-from-object
-    add-object
+    add-object-2
     loop-less-5
     loop-again-5
     enum-told-7
     entry-requires
-    mul-t54
+    mul-t60
     element-set-from-users
     add-users
     loop-less-6
     loop-again-6
     enum-told-8
     entry-requires-2
-    mul-t58
+    mul-t64
     element-set-from-objects
     add-objects
     loop-less-7
