@@ -1,7 +1,7 @@
 -- Laws of kinds: what one word more says of the kind, and a kind by its place.
 use mathlib.Core.Path.{_≡_, refl, sym, _∙_}
 use mathlib.Core.Bool.{Bool, true, false}
-use mathlib.Core.List.{List, [], _∷_, map}
+use mathlib.Core.List.{List, [], _∷_}
 use Prim.Native.Nat.{ℕ, _<_}
 use lib.Dec.{eqb, lit<}
 use lib.ListN.{getD}
@@ -53,18 +53,6 @@ kind-at User = refl
 kind-at Object = refl
 kind-at Rule = refl
 kind-at End = refl
-
--- what a test says of each kind, at the place of one
-pub row-at : (f : Kind → Bool) (k : Kind) → getD (map f kinds) (placeOf k) false ≡ f k
-row-at f Policy = refl
-row-at f Uattr = refl
-row-at f Oattr = refl
-row-at f Usen = refl
-row-at f Osen = refl
-row-at f User = refl
-row-at f Object = refl
-row-at f Rule = refl
-row-at f End = refl
 
 -- a test of kinds that passes at each of the nine
 pub each-kind : (f : Kind → Bool) → everyEntry (λ _ k. f k) 0 kinds ≡ true → (k : Kind) → f k ≡ true

@@ -1,6 +1,5 @@
 // The nine words that a line may start with, and which kind may follow which.
 ghost use mathlib.Core.Path.{_≡_};
-ghost use mathlib.Core.List.{map};
 ghost use lib.Dec.{eqb};
 ghost use lib.ListN.{drop};
 ghost use Rattle.basis.specs.Lists.{same};
@@ -117,28 +116,11 @@ const FOLLOWS: [[bool; 9]; 9] = [
     [false; 9],
 ];
 
-// The row of a kind. It is picked by a constant, so that the table is not laid out anew for each line.
-fn row_of(j: Kind) -> [bool; 9]
-    ensures { λ r. ⌜ r ≡ map (follows j) kinds ⌝ }
-{
-    match j {
-        Kind::Policy => FOLLOWS[0],
-        Kind::Uattr => FOLLOWS[1],
-        Kind::Oattr => FOLLOWS[2],
-        Kind::Usen => FOLLOWS[3],
-        Kind::Osen => FOLLOWS[4],
-        Kind::User => FOLLOWS[5],
-        Kind::Object => FOLLOWS[6],
-        Kind::Rule => FOLLOWS[7],
-        Kind::End => FOLLOWS[8],
-    }
-}
-
 // Whether a line of kind k may follow one of kind j.
 pub fn may_follow(j: Kind, k: Kind) -> bool
     ensures { λ r. ⌜ r ≡ follows j k ⌝ }
 {
-    let row = row_of(j);
+    let row = place(j);
     let column = place(k);
-    row[column]
+    FOLLOWS[row][column]
 }
