@@ -44,9 +44,7 @@ place-requires c κs = search needs
 
 -- the user's place is in the table
 placed : (c : tie.After-place Inv-loop μ-loop) → c .place .result < places
-placed c =
-    rw (c .place .ensures)
-    (place-lt (getD (c .before .before .before .before .before .before .args .board .sessions) (c .before .before .before .loop .i) closed .user))
+placed c = rw (c .place .ensures) (place-lt _)
 
 mul-found : tie.Need-mul-found Inv-loop μ-loop
 mul-found c = let h = placed c in search needs
@@ -59,8 +57,7 @@ entry-fits-requires c κs =
     let l = c .before .before .before .before in let s = l .before .before .before in (
       s .pre .seniority,
       rw (c .before .place .ensures)
-          (found-lt (s .args .side) (s .args .users) (s .pre) (l .before .table .result) (l .before .table .ensures)
-          (getD (s .args .board .sessions) (l .loop .i) closed .user)),
+          (found-lt (s .args .side) (s .args .users) (s .pre) (l .before .table .result) (l .before .table .ensures) _),
     )
 
 -- the turn's entry is in the list, and its test is the call's answer
