@@ -16,6 +16,14 @@ pub fn first(buffer: &mut [u8], n: usize) -> &mut [u8] {
     &mut buffer[..n]
 }
 
+// The same for entries of 16 bits.
+pub fn first_entries(buffer: &mut [u16], n: usize) -> &mut [u16] {
+    if buffer.len() < n {
+        return buffer;
+    }
+    &mut buffer[..n]
+}
+
 // The first place, from 1, at which a buffer is not these numbers with blanks behind them; 0 where there is none.
 pub fn unlike(due: &[u32], buffer: &[u8]) -> usize {
     let mut i = 0;

@@ -1,4 +1,5 @@
 // Decisions: by the formula and by tuples; listings; Apart.
+use crate::buffers;
 use crate::cursor;
 use crate::cursor::NUMBERS;
 use crate::found;
@@ -6,7 +7,6 @@ use crate::found::Found;
 use crate::texts::policy_of;
 use labels::Apartness;
 use labels::Witness;
-use policy::refusal::Refusal;
 use policy::refusal::number_of;
 use tuples::Listing;
 
@@ -86,18 +86,14 @@ fn unlike_runs(runs: &[u32], buffer: &[u16; PAIRS]) -> usize {
     0
 }
 
-// Lists into the first entries of a buffer.
-fn list_into(text: &[u8], action: u32, buffer: &mut [u16], room: usize) -> Listing {
-    if buffer.len() < room {
-        return Listing::Refused(Refusal::TextTooLong);
-    }
-    tuples::list(policy_of(text), action, &mut buffer[..room])
-}
-
 // `T`: a listing.
 pub fn listed(a: &[u32; NUMBERS], n: usize, text: &[u8]) -> Found {
     let mut buffer = [BLANK; PAIRS];
-    let listing = list_into(text, a[2], &mut buffer, cursor::size(a[3]));
+    let listing = tuples::list(
+        policy_of(text),
+        a[2],
+        buffers::first_entries(&mut buffer, cursor::size(a[3])),
+    );
     let place = unlike_runs(cursor::part(a, 4, n), &buffer);
     match listing {
         Listing::Stored(count) => Found {
