@@ -43,6 +43,7 @@ pub record FoundAs (o : Option ℕ) (f : Found) : Type 0 where
   pub registered : f .registered ≡ there o
   pub set : f .set ≡ given o 0 (λ s. s)
 
+-- what is found for a number that is not registered
 abbrev pub notFound : Found
 notFound = record { registered = false; set = 0 }
 

@@ -74,15 +74,19 @@ inBytes Or = true
 
 -- ---- policy values: the same, with each word as its number; of the rules, and of their words, those before each count
 
+-- a place without a rule
 unfoldable pub noPackedRule : PackedRule
 noPackedRule = record { action = 0; count = 0; words = padded wordPlaces 0 [] }
 
+-- a rule: its action, and the count and the numbers of its words, 0 behind them
 unfoldable pub packedRule : Rule → PackedRule
 packedRule r = record { action = r .action; count = length (r .words); words = padded wordPlaces 0 (map packedWord (r .words)) }
 
+-- the rules, and no rule behind them
 unfoldable pub packedRules : List Rule → PackedRules
 packedRules rs = record { count = length rs; entries = padded rulePlaces noPackedRule (map packedRule rs) }
 
+-- a policy value, valid or not: all but the rules as it is
 unfoldable pub packedPolicy : PolicyValue → PackedPolicy
 packedPolicy v =
     record {

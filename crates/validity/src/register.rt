@@ -28,7 +28,7 @@ pub fn register_valid(most: u32, total: u32, x: Register) -> bool
     if ENTRY_PLACES < n {
         return false;
     }
-    // both loops look at this one copy
+    // Both loops look at this one copy.
     let entries = x.entries;
     let mut last: u32 = 0;
     let mut i = 0;

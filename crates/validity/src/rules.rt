@@ -104,7 +104,7 @@ pub fn rules_valid(actions: u32, user: Shape, object: Shape, x: Rules) -> bool
     if RULE_PLACES < n {
         return false;
     }
-    // both loops look at this one copy
+    // Both loops look at this one copy.
     let rules = x.entries;
     let mut last: u32 = 0;
     let mut i = 0;
