@@ -23,12 +23,13 @@ use Rattle.policy.specs.declared.value.RuleValue.{RuleValue}
 use Rattle.policy.specs.declared.value.Rules.{Rules}
 use Rattle.policy.specs.declared.value.PolicyValue.{PolicyValue}
 use Rattle.policy.proofs.Parts.{actionAbove, rules-rising}
+use Rattle.policy.proofs.Rising.{rising}
 use Rattle.policy.proofs.Valid.{valid-sound}
 use Rattle.policy.proofs.Sound.{widthsSound, sideSound, entriesSound, ruleSound, listsSound, sound}
 use Rattle.checks.specs.Sides.{Shaped, wordsIn}
 use Rattle.checks.specs.declared.side.Shape.{Shape}
 use Rattle.checks.proofs.Laws.{measured-places, measured-total}
-use Rattle.validity.specs.Parts.{holds, widthsValid, linesValid, sideValid, SmallShape, registerValid, ShapedBy, ruleValid, rulesRising, rulesValid, SidesValid, listsValid}
+use Rattle.validity.specs.Parts.{holds, widthsValid, linesValid, sideValid, SmallShape, registerValid, ShapedBy, ruleValid, rulesValid, SidesValid, listsValid}
 use Rattle.validity.proofs.Rising.{rising-map, rising-all}
 use Rattle.validity.proofs.Widths.{sound-sum}
 
@@ -108,7 +109,7 @@ module _ (p : Policy) (x : Rules) (k : length (x .entries) ≡ rulePlaces) where
       )
 
   pub rules-in : x .count ≤ rulePlaces
-      → rulesValid p x ≡ (all (sameRule noRule) (drop (x .count) (x .entries)) && rulesRising p (take (x .count) (x .entries)))
+      → rulesValid p x ≡ (all (sameRule noRule) (drop (x .count) (x .entries)) && rising (ruleValid p) (λ (b y : RuleValue). ltb (b .action) (y .action)) none (take (x .count) (x .entries)))
   unfolding rulesValid rulesOf ruleOf ruleValid
   rules-in h =
       let zs = take (x .count) (x .entries) in

@@ -4,7 +4,7 @@ use mathlib.Core.Path.{_≡_}
 use mathlib.Core.Bool.{Bool, true, _&&_}
 use mathlib.Core.List.{List}
 use mathlib.Core.Option.{none}
-use lib.Dec.{eqb, leb, ltb}
+use lib.Dec.{eqb, leb}
 use lib.ListN.{length, take}
 use Rattle.basis.specs.Lists.{same, padded}
 use Rattle.sets.specs.Set.{masks}
@@ -19,7 +19,6 @@ use Rattle.policy.specs.declared.value.Register.{Register}
 use Rattle.policy.specs.declared.value.RuleValue.{RuleValue}
 use Rattle.policy.specs.declared.value.Rules.{Rules}
 use Rattle.policy.specs.declared.value.PolicyValue.{PolicyValue}
-use Rattle.policy.proofs.Rising.{rising}
 use Rattle.policy.proofs.Sound.{widthsSound, linesSound, sideSound, entriesSound, ruleSound, rulesSound}
 use Rattle.checks.specs.Sides.{Shaped}
 use Rattle.checks.specs.declared.side.Shape.{Shape}
@@ -60,13 +59,6 @@ pub record ShapedBy (n : ℕ) (u o : Shape) (p : Policy) : Type 0 where
 
 unfoldable pub ruleValid : Policy → RuleValue → Bool
 ruleValid p x = sameRule (ruleValue (ruleOf x)) x && ruleSound p (ruleOf x)
-
-abbrev pub actionRises : RuleValue → RuleValue → Bool
-actionRises b x = ltb (b .action) (x .action)
-
--- rules that are valid one by one and rise
-abbrev pub rulesRising : Policy → List RuleValue → Bool
-rulesRising p xs = rising (ruleValid p) actionRises none xs
 
 unfoldable pub rulesValid : Policy → Rules → Bool
 rulesValid p x = sameRules (rulesValue (rulesOf x)) x && rulesSound p none (rulesOf x)
