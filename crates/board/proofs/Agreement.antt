@@ -27,7 +27,8 @@ use Rattle.policy.specs.Answers.{refused, decided}
 use Rattle.policy.specs.declared.value.PolicyValue.{PolicyValue}
 use Rattle.formula.specs.Truth.{grants}
 use Rattle.board.specs.declared.Board.{Board}
-use Rattle.board.specs.Machine.{Entry, Map, empty, put, Call, opens, adds, drops, closes, requests, sessionNumbers, sessionOf, reachOf, objectSet, checks, entryAfter, heldIn, reply, step, run}
+use Rattle.policy.specs.Limits.{sessionNumbers}
+use Rattle.board.specs.Machine.{Entry, Map, empty, put, Call, opens, adds, drops, closes, requests, sessionOf, reachOf, objectSet, checks, entryAfter, heldIn, reply, step, run}
 use Rattle.board.specs.Board.{closed, entryOf, sessionFor, entryAt, store, fresh, entryFits, boardFits, fits, Labels, pastEnd, grantsByLabels, lookUp, boardReply, boardAfter, boardStep}
 use Rattle.board.proofs.Refusals.{allowed, step-is, lower-good}
 use Rattle.board.proofs.Run.{Alike, RanAlike, run-alike}

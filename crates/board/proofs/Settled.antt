@@ -14,7 +14,8 @@ use Rattle.policy.specs.Answers.{done, refused}
 use Rattle.policy.specs.declared.value.PolicyValue.{PolicyValue}
 use Rattle.board.specs.declared.Session.{Session}
 use Rattle.board.specs.declared.Board.{Board}
-use Rattle.board.specs.Machine.{Entry, Call, opens, adds, drops, closes, sessionOf, sessionNumbers, checks, entryAfter, Out}
+use Rattle.policy.specs.Limits.{sessionNumbers}
+use Rattle.board.specs.Machine.{Entry, Call, opens, adds, drops, closes, sessionOf, checks, entryAfter, Out}
 use Rattle.board.specs.Board.{closed, entryOf, entryAt, sessionFor, store, fits, Labels, lookUp, boardReply, boardAfter, boardStep}
 use Rattle.board.specs.Inner.{lower, settled}
 use Rattle.board.proofs.Refusals.{allowed, step-is}

@@ -11,10 +11,10 @@ use Rattle.basis.specs.Choice.{there}
 use Rattle.basis.proofs.Bools.{never}
 use Rattle.basis.proofs.Walk.{part-next, part-end}
 use Rattle.sets.specs.Set.{has, within}
-use Rattle.seniority.specs.Seniority.{linePlaces, Ordered, wordBits, heldOrSenior, reach}
+use Rattle.seniority.specs.Seniority.{Ordered, wordBits, heldOrSenior, reach}
 use Rattle.seniority.proofs.Laws.{ordered-more, reach-is, assigned-reached}
 use Rattle.policy.specs.Policy.{Policy, total, sets, setOfNumber}
-use Rattle.policy.specs.Value.{noEntry, sideOf, entriesOf}
+use Rattle.policy.specs.Value.{noEntry, sideOf, entriesOf, linePlaces}
 use Rattle.policy.specs.declared.value.Entry.{Entry}
 use Rattle.policy.specs.declared.value.SideValue.{SideValue}
 use Rattle.policy.specs.declared.value.Register.{Register}

@@ -19,7 +19,8 @@ use Rattle.board.specs.declared.Board.{Board}
 use Rattle.board.specs.declared.reach.Found.{Found}
 use Rattle.board.specs.declared.rulings.Ruling.{Ruling}
 use Rattle.board.specs.declared.rulings.Ruling.the-variants.{Allowed, Refused}
-use Rattle.board.specs.Machine.{Call, sessionOf, sessionNumbers, opens, adds, closes, requests, outOfReach, changeChecks, checks}
+use Rattle.policy.specs.Limits.{sessionNumbers}
+use Rattle.board.specs.Machine.{Call, sessionOf, opens, adds, closes, requests, outOfReach, changeChecks, checks}
 use Rattle.board.specs.Board.{entryOf, entryAt, fits}
 use Rattle.board.specs.Inner.{refusalOf, FoundAs, Reaches, Reachable, lower}
 use Rattle.board.proofs.Refusals.{lower-bad, lower-good}

@@ -15,7 +15,8 @@ use Rattle.policy.specs.Answers.{numberOf, Reply, done, granted, denied, refuse
 use Rattle.policy.specs.declared.value.PolicyValue.{PolicyValue}
 use Rattle.labels.specs.Compile.{Buffers}
 use Rattle.labels.specs.declared.Counts.{Counts}
-use Rattle.board.specs.Machine.{Entry, Call, opens, adds, drops, closes, requests, sessionNumbers, sessionOf, reachOf, objectSet, checks, entry, entryAfter, heldIn, Out}
+use Rattle.policy.specs.Limits.{sessionNumbers}
+use Rattle.board.specs.Machine.{Entry, Call, opens, adds, drops, closes, requests, sessionOf, reachOf, objectSet, checks, entry, entryAfter, heldIn, Out}
 use Rattle.board.specs.declared.Session.{Session}
 use Rattle.board.specs.declared.Board.{Board}
 use Rattle.board.specs.declared.Answer.{Answer}

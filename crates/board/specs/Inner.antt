@@ -7,10 +7,10 @@ use mathlib.Core.Option.{Option, none, some}
 use lib.Dec.{ltb}
 use lib.ListN.{length, getD, set}
 use Rattle.basis.specs.Choice.{given, there, check, lowest}
-use Rattle.seniority.specs.Seniority.{linePlaces, Ordered, wordBits}
+use Rattle.seniority.specs.Seniority.{Ordered, wordBits}
 use Rattle.policy.specs.Limits.{userNumbers}
 use Rattle.policy.specs.Policy.{Policy, total, sets, setOfNumber}
-use Rattle.policy.specs.Value.{entryPlaces, sideOf, entriesOf, policyOf}
+use Rattle.policy.specs.Value.{entryPlaces, sideOf, entriesOf, policyOf, linePlaces}
 use Rattle.policy.specs.Answers.{numberOf, Reply, done, refused, decided}
 use Rattle.policy.specs.declared.value.Entry.{Entry}
 use Rattle.policy.specs.declared.value.SideValue.{SideValue}

@@ -8,15 +8,12 @@ use lib.Dec.{eqb, leb}
 use Rattle.basis.specs.Choice.{given, there, Check, check, lowest}
 use Rattle.sets.specs.Set.{union, minus, within}
 use Rattle.seniority.specs.Seniority.{reach}
+use Rattle.policy.specs.Limits.{sessionNumbers}
 use Rattle.policy.specs.Policy.{Policy, blank, total, setOfNumber}
 use Rattle.policy.specs.Read.{Outcome, Accepted, Refused, readText}
 use Rattle.policy.specs.Answers.{Reply, done, refused, decided}
 use Rattle.formula.specs.Truth.{grants}
 use Rattle.formula.specs.Decide.{noAction}
-
--- "a map from session number 0 to 31"
-abbrev pub sessionNumbers : ℕ
-sessionNumbers = 32
 
 -- "(user, held set)"
 pub record Entry : Type 0 where

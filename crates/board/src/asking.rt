@@ -9,7 +9,6 @@ ghost use Rattle.board.specs.Board.{entryOf, labelsOf, replyOf, boardSte
 ghost use Rattle.board.specs.Inner.{refusalOf};
 use crate::Answer;
 use crate::Board;
-use crate::SESSION_NUMBERS;
 use crate::Session;
 use crate::buffers;
 use crate::entries;
@@ -17,6 +16,7 @@ use crate::fit;
 use crate::reach;
 use crate::rulings::Ruling;
 use labels::Counts;
+use policy::limits::SESSION_NUMBERS;
 use policy::refusal::Refusal;
 use policy::value::PolicyValue;
 
@@ -66,7 +66,7 @@ pub fn ask(
     let registered = policy.objects;
     let found = reach::object_of(registered, object);
     let entry = entries::at(board, session);
-    let actions = checks::limits::actions(policy.form);
+    let actions = policy::limits::actions(policy.form);
     let ruling = request_checks(actions, entry, found.registered, session, action);
     match ruling {
         Ruling::Allowed => buffers::look_up(

@@ -4,7 +4,7 @@ ghost use Prim.Native.Nat.{_≤_};
 ghost use Rattle.policy.specs.Value.{entryPlaces, entriesOf};
 ghost use Rattle.board.specs.Inner.{placeOf, ByNumber};
 use crate::reach::Found;
-use checks::limits::USER_NUMBERS;
+use policy::limits::USER_NUMBERS;
 use policy::value::Register;
 
 // A place for each user number, and one for all other numbers, which no user has.

@@ -3,8 +3,8 @@ ghost use mathlib.Core.Path.{_≡_};
 ghost use Prim.Native.Nat.{_<_};
 ghost use Rattle.board.specs.Board.{closed, entryOf, entryAt};
 use crate::Board;
-use crate::SESSION_NUMBERS;
 use crate::Session;
+use policy::limits::SESSION_NUMBERS;
 
 // The entry of a session that is not open.
 pub fn closed() -> Session

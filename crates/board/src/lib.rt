@@ -3,11 +3,13 @@ ghost use mathlib.Core.Path.{_≡_};
 ghost use mathlib.Core.Option.{none};
 ghost use Prim.Native.Nat.{_<_};
 ghost use Rattle.policy.specs.Answers.{replyNumber};
-ghost use Rattle.board.specs.Machine.{sessionNumbers, opens, adds, drops, closes, requests};
+ghost use Rattle.policy.specs.Limits.{sessionNumbers};
+ghost use Rattle.board.specs.Machine.{opens, adds, drops, closes, requests};
 ghost use Rattle.board.specs.Board.{Labels, labelsOf, replyOf, outOf, fresh, boardStep};
 ghost use Rattle.board.specs.Inner.{refusalOf, settled};
 use crate::rulings::Ruling;
 use labels::Counts;
+use policy::limits::SESSION_NUMBERS;
 use policy::refusal;
 use policy::refusal::Refusal;
 use policy::value::PolicyValue;
@@ -17,13 +19,12 @@ mod assigned;
 mod buffers;
 mod entries;
 mod fit;
+mod juniors;
 mod reach;
 mod rulings;
 
-// Session numbers are 0 to 31; a board has a place for each.
-const SESSION_PLACES: usize = 32;
-
-const SESSION_NUMBERS: u32 = SESSION_PLACES as u32;
+// A board has a place for each session number.
+const SESSION_PLACES: usize = SESSION_NUMBERS as usize;
 
 // The entry of a session number: while it is live, which document 01 calls open, its user and the set it holds.
 #[repr(C)]

@@ -7,6 +7,7 @@ ghost use Rattle.seniority.specs.Seniority.{reach};
 ghost use Rattle.policy.specs.Policy as policy;
 ghost use Rattle.policy.specs.Value.{entryPlaces, entriesOf, sideOf};
 ghost use Rattle.board.specs.Inner.{FoundAs, Reaches, Rising, Reachable};
+use crate::juniors;
 use policy::value::Register;
 use policy::value::SideValue;
 
@@ -56,7 +57,7 @@ pub fn of(users: Register, side: SideValue, user: u32) -> Found
     let found = set_of(users, user);
     if found.registered {
         let lines = side.seniority;
-        let set = seniority::with_juniors(lines, side.lines, found.set);
+        let set = juniors::with_juniors(lines, side.lines, found.set);
         Found {
             registered: true,
             set: set,
@@ -78,6 +79,6 @@ pub fn covers(found: Found, side: SideValue, set: u32) -> bool
         return true;
     }
     let lines = side.seniority;
-    let reach = seniority::with_juniors(lines, side.lines, found.set);
+    let reach = juniors::with_juniors(lines, side.lines, found.set);
     sets::within(set, reach)
 }

@@ -7,12 +7,12 @@ ghost use Rattle.board.specs.Machine.{opens, adds, closes, checks, chang
 ghost use Rattle.board.specs.Board.{entryOf};
 ghost use Rattle.board.specs.Inner.{refusalOf, Reaches, lower};
 use crate::Board;
-use crate::SESSION_NUMBERS;
 use crate::Session;
 use crate::entries;
 use crate::fit;
 use crate::reach;
 use crate::reach::Found;
+use policy::limits::SESSION_NUMBERS;
 use policy::refusal::Refusal;
 use policy::value::PolicyValue;
 

@@ -1,4 +1,4 @@
 // Checks 6 to 9 of a line, each on the little that it needs of the lines before it.
 pub mod formula;
-pub mod limits;
+mod mask;
 pub mod side;

@@ -3,7 +3,7 @@ ghost use mathlib.Core.Path.{_≡_};
 ghost use Prim.Native.Nat.{_^_, _<_, _≤_};
 ghost use lib.ListN.{take};
 ghost use Rattle.basis.specs.Lists.{sum};
-ghost use Rattle.sets.specs.Set.{masks};
+ghost use Rattle.policy.specs.Limits.{mostValues};
 ghost use Rattle.policy.specs.Policy as policy;
 ghost use Rattle.policy.specs.Checks.{widthFits, pairFits, pairAbove, entryFits};
 ghost use Rattle.policy.specs.Value.{widthPlaces};
@@ -106,11 +106,11 @@ pub fn pair_above(last: Direct, v: u32, j: u32) -> bool
 
 // Check 6 of a user or an object.
 pub fn entry_fits(most: u32, total: u32, n: u32, set: u32) -> bool
-    requires { ⌜ total < masks ⌝ }
+    requires { ⌜ total ≤ mostValues ⌝ }
     ensures { λ r. ⌜ ((s : policy.Side) → total ≡ policy.total s → r ≡ entryFits most s n set) ⌝ }
 {
     if n < most {
-        return set <= sets::mask(total);
+        return set <= crate::mask::first(total);
     }
     false
 }

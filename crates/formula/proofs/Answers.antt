@@ -15,7 +15,8 @@ use Rattle.policy.specs.Answers.{refused, decided}
 use Rattle.policy.specs.declared.value.PolicyValue.{PolicyValue}
 use Rattle.formula.specs.Truth.{grants}
 use Rattle.formula.specs.Decide.{lacking, decide}
-use Rattle.formula.specs.Lane.{mostValues, mostActions, ShapeOf}
+use Rattle.formula.specs.Lane.{ShapeOf}
+use Rattle.policy.specs.Limits.{mostValues, mostActions}
 use Rattle.formula.specs.declared.shape.Shape.{Shape}
 
 -- sets that their sides have are sets of at most 7 values

@@ -3,10 +3,10 @@ use mathlib.Core.Path.{_≡_, subst}
 use mathlib.Core.Bool.{true}
 use Rattle.basis.proofs.Padded.{take-padded, take-padded-map}
 use Rattle.basis.proofs.Places.{mapped-each}
-use Rattle.seniority.specs.Seniority.{linePlaces, direct}
+use Rattle.seniority.specs.Seniority.{direct}
 use Rattle.seniority.proofs.Laws.{ordered-more}
 use Rattle.policy.specs.Policy.{Side, Policy, total}
-use Rattle.policy.specs.Value.{rulePlaces, sideValue, ruleValue, rulesValue, noRule, valueOf, policyOf}
+use Rattle.policy.specs.Value.{rulePlaces, sideValue, ruleValue, rulesValue, noRule, valueOf, policyOf, linePlaces}
 use Rattle.policy.specs.Valid.{valid}
 use Rattle.policy.specs.declared.value.PolicyValue.{PolicyValue}
 use Rattle.policy.proofs.Sound.{WithinSide, sound}
@@ -14,7 +14,8 @@ use Rattle.policy.proofs.Parts.{SideParts, Parts, parts, whole}
 use Rattle.policy.proofs.Bounds.{total-most, lines-ordered, rule-bounds, parts-within}
 use Rattle.policy.proofs.Values.{side-value}
 use Rattle.policy.proofs.Valid.{valid-stored}
-use Rattle.formula.specs.Lane.{mostValues, SideFits, RuleFits, RulesFit, ValueFits}
+use Rattle.formula.specs.Lane.{SideFits, RuleFits, RulesFit, ValueFits}
+use Rattle.policy.specs.Limits.{mostValues}
 
 side-fits : (s : Side) → SideParts mostValues s → WithinSide s → SideFits (sideValue s)
 unfolding sideValue

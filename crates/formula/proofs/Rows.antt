@@ -25,7 +25,8 @@ use Rattle.policy.specs.Value.{ruleOf, rulesOf}
 use Rattle.policy.specs.declared.value.RuleValue.{RuleValue}
 use Rattle.policy.specs.declared.value.Rules.{Rules}
 use Rattle.formula.specs.Truth.{step, run, truth, grants}
-use Rattle.formula.specs.Lane.{mostActions, wordsOf, RuleFits, RulesFit}
+use Rattle.formula.specs.Lane.{wordsOf, RuleFits, RulesFit}
+use Rattle.policy.specs.Limits.{mostActions}
 
 -- ---- rules
 

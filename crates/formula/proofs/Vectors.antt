@@ -21,7 +21,8 @@ use Rattle.sets.proofs.Laws.{differs, has-xor, has-meet, has-union, has-none, h
 use Rattle.sets.proofs.Count.{has-shifted}
 use Rattle.seniority.specs.Seniority.{extended}
 use Rattle.seniority.proofs.Laws.{has-extended}
-use Rattle.formula.specs.Lane.{lanes, mostValues, Plain, Stands, extendedLanes}
+use Rattle.formula.specs.Lane.{lanes, Plain, Stands, extendedLanes}
+use Rattle.policy.specs.Limits.{mostValues}
 
 -- ---- every lane at once
 

@@ -7,10 +7,11 @@ use lib.Bits.{bitOr}
 use lib.ListN.{length, getD, take, set}
 use Rattle.basis.specs.Numbers.{agree, implies}
 use Rattle.sets.specs.Set.{has}
-use Rattle.seniority.specs.Seniority.{linePlaces, heldOrSenior, heldOrJunior, Ordered}
+use Rattle.seniority.specs.Seniority.{heldOrSenior, heldOrJunior, Ordered}
 use Rattle.words.specs.declared.Word.{Word}
+use Rattle.policy.specs.Limits.{mostValues, mostActions}
 use Rattle.policy.specs.Policy.{Side, Policy, total, start}
-use Rattle.policy.specs.Value.{wordPlaces, rulePlaces, sideOf}
+use Rattle.policy.specs.Value.{wordPlaces, rulePlaces, sideOf, linePlaces}
 use Rattle.policy.specs.declared.value.Slot.{Slot}
 use Rattle.policy.specs.declared.value.RuleValue.{RuleValue}
 use Rattle.policy.specs.declared.value.Rules.{Rules}
@@ -21,14 +22,6 @@ use Rattle.formula.specs.declared.shape.Shape.{Shape}
 -- how many pairs there are
 abbrev pub lanes : ℕ
 lanes = 64
-
--- the most values of a side that the vectors have room for
-abbrev pub mostValues : ℕ
-mostValues = 7
-
--- how many actions an entry has room for
-abbrev pub mostActions : ℕ
-mostActions = 8
 
 -- ---- attributes
 

@@ -2,7 +2,7 @@
 use crate::evaluate;
 use crate::shape::Shape;
 use crate::shape::VALUES;
-use policy::value::RULE_PLACES;
+use policy::limits::MOST_ACTIONS;
 use policy::value::Rules;
 ghost use mathlib.Core.Path.{_≡_};
 ghost use Prim.Native.Nat.{ℕ, _<_};
@@ -11,10 +11,11 @@ ghost use Rattle.sets.specs.Set.{has, setOf};
 ghost use Rattle.policy.specs.Policy.{Policy};
 ghost use Rattle.policy.specs.Value.{rulesOf};
 ghost use Rattle.formula.specs.Truth.{grants as granted};
-ghost use Rattle.formula.specs.Lane.{lanes, mostActions, ShapeOf, Pair, RulesFit};
+ghost use Rattle.formula.specs.Lane.{lanes, ShapeOf, Pair, RulesFit};
+ghost use Rattle.policy.specs.Limits.{mostActions};
 
 // How many actions there are.
-pub const ACTIONS: usize = RULE_PLACES;
+pub const ACTIONS: usize = MOST_ACTIONS;
 
 // For each action the pairs at which it is granted: none where it has no rule. The last rule comes first, so an action's first one counts.
 pub fn grants(

@@ -19,7 +19,8 @@ ghost use Rattle.policy.specs.Policy.{Policy, width};
 ghost use Rattle.policy.specs.Checks.{equalWidth};
 ghost use Rattle.policy.specs.Value.{wordPlaces};
 ghost use Rattle.formula.specs.Truth.{holds, placeHeld, compares, top, below, step, truth};
-ghost use Rattle.formula.specs.Lane.{lanes, mostValues, ShapeOf, Stands, Pair, wordsOf, passes, column};
+ghost use Rattle.formula.specs.Lane.{lanes, ShapeOf, Stands, Pair, wordsOf, passes, column};
+ghost use Rattle.policy.specs.Limits.{mostValues};
 
 // Where a set holds value v with its juniors or seniors taken in.
 fn taken(vectors: &[u64; 2 * VALUES], v: u8) -> u64

@@ -1,6 +1,6 @@
 // What formulas decide. A formula is evaluated at 64 pairs of a user set and an object set at once: bit k of a number is the truth at pair k.
 use crate::shape::Shape;
-use checks::limits;
+use policy::limits;
 use policy::refusal::Refusal;
 use policy::value::PolicyValue;
 ghost use mathlib.Core.Path.{_≡_};
@@ -11,7 +11,8 @@ ghost use Rattle.policy.specs.Valid.{valid};
 ghost use Rattle.formula.specs.Truth.{grants};
 ghost use Rattle.formula.specs.Decide as spec;
 ghost use Rattle.formula.specs.Decide.{replyOf};
-ghost use Rattle.formula.specs.Lane.{mostValues, ShapeOf, ValueFits};
+ghost use Rattle.formula.specs.Lane.{ShapeOf, ValueFits};
+ghost use Rattle.policy.specs.Limits.{mostValues};
 
 pub mod entries;
 pub mod evaluate;

@@ -1,6 +1,6 @@
 // Where the attributes of both sides lie among their values.
+use policy::limits::MOST_VALUES;
 use policy::value::SideValue;
-use policy::value::WIDTH_PLACES;
 ghost use mathlib.Core.Path.{_≡_};
 ghost use Prim.Native.Nat.{_≤_};
 ghost use lib.ListN.{take};
@@ -8,10 +8,11 @@ ghost use Rattle.basis.specs.Lists.{sum};
 ghost use Rattle.policy.specs.Policy.{Side, Policy, total as totalOf, sets as setsOf, width as widthOf, start as startOf};
 ghost use Rattle.policy.specs.Value.{sideOf};
 ghost use Rattle.formula.specs.Decide.{lacking};
-ghost use Rattle.formula.specs.Lane.{mostValues, Starts, ShapeOf, SideFits};
+ghost use Rattle.formula.specs.Lane.{Starts, ShapeOf, SideFits};
+ghost use Rattle.policy.specs.Limits.{mostValues};
 
 // The most values of a side, and so the most attributes.
-pub const VALUES: usize = WIDTH_PLACES;
+pub const VALUES: usize = MOST_VALUES;
 
 // For each side, the first value of each attribute and, past the last one, the number of values.
 pub struct Shape {

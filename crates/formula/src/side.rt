@@ -2,13 +2,15 @@
 // does with its juniors (users) or its seniors (objects) taken in.
 use crate::shape::VALUES;
 use seniority::Direct;
-use seniority::LINE_PLACES;
+use policy::value::LINE_PLACES;
 ghost use mathlib.Core.Path.{_≡_};
 ghost use Prim.Native.Nat.{ℕ, _+_, _*_, _/_, _%_, _^_, _≤_, _<_};
 ghost use lib.ListN.{take};
 ghost use Rattle.sets.specs.Set.{has};
-ghost use Rattle.seniority.specs.Seniority.{linePlaces, Ordered, heldOrSenior, heldOrJunior};
-ghost use Rattle.formula.specs.Lane.{lanes, mostValues, Plain, Stands, extendedLanes};
+ghost use Rattle.policy.specs.Value.{linePlaces};
+ghost use Rattle.seniority.specs.Seniority.{Ordered, heldOrSenior, heldOrJunior};
+ghost use Rattle.formula.specs.Lane.{lanes, Plain, Stands, extendedLanes};
+ghost use Rattle.policy.specs.Limits.{mostValues};
 
 // True in every lane.
 pub const ALL: u64 = 18446744073709551615;

@@ -14,10 +14,9 @@ use Rattle.basis.proofs.Counting.{first-least, first-is}
 use Rattle.basis.proofs.Same.{agree-eq, eq-agree}
 use Rattle.sets.specs.Set.{has, setOf}
 use Rattle.sets.proofs.Laws.{digit-eq, same-below, setOf-lt, has-setOf, setOf-same}
-use Rattle.policy.specs.Limits.{actions}
+use Rattle.policy.specs.Limits.{actions, mostActions}
 use Rattle.policy.specs.Policy.{Policy, sets}
 use Rattle.formula.specs.Truth.{grants}
-use Rattle.formula.specs.Lane.{mostActions}
 use Rattle.labels.specs.Rows.{entryOf, firstAction}
 use Rattle.labels.specs.Compile.{likeUsers}
 use Rattle.labels.specs.Apart.{Separates}

@@ -8,7 +8,8 @@ use lib.Arith.{digits-lt, digits-div, digits-mod}
 use lib.ListN.{length, getD, set, length-set}
 use Rattle.basis.proofs.Places.{stored-next}
 use Rattle.policy.specs.Policy.{Policy}
-use Rattle.labels.specs.Rows.{mostSets, entryOf, SourceOf}
+use Rattle.labels.specs.Rows.{entryOf, SourceOf}
+use Rattle.policy.specs.Limits.{mostSets}
 use Rattle.labels.specs.Grid.{gridPlaces, turnedView, Inside, ViewOf, GridOf}
 use Rattle.labels.specs.declared.rows.Source.{Source}
 use Rattle.labels.specs.declared.grid.View.{View}

@@ -6,12 +6,13 @@ use mathlib.Core.List.{List}
 use lib.ListN.{getD}
 use Rattle.policy.specs.Policy.{Policy, sets}
 use Rattle.labels.specs.Labels.{label, labelCount, leader}
-use Rattle.labels.specs.Rows.{mostSets, entryOf, rowsAlike}
+use Rattle.labels.specs.Rows.{entryOf, rowsAlike}
+use Rattle.policy.specs.Limits.{mostSets, mostPairs}
 use Rattle.labels.specs.declared.grid.View.{View}
 
 -- its places
 abbrev pub gridPlaces : ℕ
-gridPlaces = 16384
+gridPlaces = mostPairs
 
 -- what stands in row u and column o
 abbrev pub cell : List ℕ → View → ℕ → ℕ → ℕ

@@ -8,16 +8,12 @@ use lib.ListN.{getD}
 use Rattle.basis.specs.Numbers.{first, agree}
 use Rattle.sets.specs.Set.{has, setOf}
 use Rattle.seniority.specs.Seniority.{heldOrJunior}
-use Rattle.policy.specs.Limits.{actions}
+use Rattle.policy.specs.Limits.{actions, mostActions}
 use Rattle.policy.specs.Policy.{Policy}
 use Rattle.policy.specs.Value.{sideOf, rulesOf}
 use Rattle.formula.specs.Truth.{grants}
-use Rattle.formula.specs.Lane.{lanes, mostActions, ShapeOf, Stands, SideFits, RulesFit}
+use Rattle.formula.specs.Lane.{lanes, ShapeOf, Stands, SideFits, RulesFit}
 use Rattle.labels.specs.declared.rows.Source.{Source}
-
--- the most sets of a side that rows and grids have room for
-abbrev pub mostSets : ℕ
-mostSets = 128
 
 -- bit a of an entry is set exactly when action a is granted
 unfoldable pub entryOf : Policy → ℕ → ℕ → ℕ

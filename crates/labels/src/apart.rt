@@ -13,8 +13,8 @@ ghost use Prim.Native.Nat.{_^_, _≤_, _<_};
 ghost use Rattle.policy.specs.Policy.{Policy, sets};
 ghost use Rattle.policy.specs.Value.{policyOf};
 ghost use Rattle.policy.specs.declared.value.PolicyValue.{PolicyValue};
-ghost use Rattle.formula.specs.Lane.{mostValues};
-ghost use Rattle.labels.specs.Rows.{mostSets, SourceOf, firstAction};
+ghost use Rattle.policy.specs.Limits.{mostValues, mostSets};
+ghost use Rattle.labels.specs.Rows.{SourceOf, firstAction};
 ghost use Rattle.labels.specs.Apart.{apartRefusal, Tells};
 
 // How many actions an entry has room for.

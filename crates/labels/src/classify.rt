@@ -7,7 +7,7 @@ ghost use mathlib.Core.Path.{_≡_};
 ghost use Prim.Native.Nat.{ℕ, _≤_, _<_};
 ghost use lib.ListN.{getD};
 ghost use Rattle.basis.specs.Numbers.{first};
-ghost use Rattle.labels.specs.Rows.{mostSets};
+ghost use Rattle.policy.specs.Limits.{mostSets};
 ghost use Rattle.labels.specs.Grid.{likeRows, Inside, Labelled};
 
 // The label of each row, the lowest row of each label, and how many labels there are.

@@ -20,7 +20,7 @@ ghost use Rattle.basis.specs.Numbers.{upTo};
 ghost use Rattle.policy.specs.Value.{policyOf};
 ghost use Rattle.policy.specs.Valid.{valid};
 ghost use Rattle.policy.specs.declared.value.PolicyValue.{PolicyValue};
-ghost use Rattle.labels.specs.Rows.{mostSets};
+ghost use Rattle.policy.specs.Limits.{mostSets};
 ghost use Rattle.labels.specs.Grid.{cell, Inside, GridOf};
 ghost use Rattle.labels.specs.Compile.{lent, Compiles};
 

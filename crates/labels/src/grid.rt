@@ -3,6 +3,7 @@ use crate::rows;
 use crate::rows::Source;
 use formula::shape;
 use formula::shape::Shape;
+use policy::limits::MOST_PAIRS;
 ghost use mathlib.Core.Path.{_≡_};
 ghost use Prim.Native.Nat.{_<_};
 ghost use lib.ListN.{length};
@@ -12,7 +13,7 @@ ghost use Rattle.labels.specs.Rows.{SourceOf};
 ghost use Rattle.labels.specs.Grid.{gridPlaces, cell, turnedView, ViewOf, Inside, GridOf};
 
 // The places of a grid.
-pub const PLACES: usize = 16384;
+pub const PLACES: usize = MOST_PAIRS;
 
 // A grid as seen from one side: its sets are the rows and those of the other side the columns. A row starts `down` places after the one
 // before, and in it a column lies `along` places after the one before.

@@ -5,6 +5,7 @@ use formula::shape;
 use formula::shape::Shape;
 use formula::shape::VALUES;
 use formula::side;
+use policy::limits::MOST_SETS;
 use policy::value::PolicyValue;
 use policy::value::Rules;
 use policy::value::SideValue;
@@ -13,11 +14,12 @@ ghost use Prim.Native.Nat.{ℕ, _+_, _^_, _≤_, _<_, min};
 ghost use lib.ListN.{getD};
 ghost use Rattle.policy.specs.Policy.{Policy};
 ghost use Rattle.policy.specs.Value.{rulesOf, policyOf};
-ghost use Rattle.formula.specs.Lane.{lanes, mostValues, ShapeOf, Pair, RulesFit, ValueFits};
-ghost use Rattle.labels.specs.Rows.{mostSets, entryOf, SourceOf, entryAt, firstUnlike};
+ghost use Rattle.formula.specs.Lane.{lanes, ShapeOf, Pair, RulesFit, ValueFits};
+ghost use Rattle.policy.specs.Limits.{mostValues, mostSets};
+ghost use Rattle.labels.specs.Rows.{entryOf, SourceOf, entryAt, firstUnlike};
 
 // The most sets of a side.
-pub const SETS: usize = 128;
+pub const SETS: usize = MOST_SETS;
 
 // How many object sets are worked out at once.
 const LANES: usize = 64;

@@ -51,11 +51,11 @@ module _ (k : Kind) (b : Before) (form : ℕ) (u o : Shape) (m n : ℕ) (r : Fau
   module _ (most : ℕ) (f : Bool) (v : most ≡ values form) (q : r ≡ placed f true) where
     pub admits-uattr : k ≡ Uattr → ((s : Side) → u .total ≡ total s → f ≡ widthFits most s m) → r ≡ admitted k b p m n
     unfolding admitted inRange risesAfter
-    admits-uattr e h = rw e (q ∙ rw (h (p .user) (s .user .total), v))
+    admits-uattr e h = rw e (q ∙ rw (h (p .user) (s .user .total), v, s .form))
 
     pub admits-oattr : k ≡ Oattr → ((s : Side) → o .total ≡ total s → f ≡ widthFits most s m) → r ≡ admitted k b p m n
     unfolding admitted inRange risesAfter
-    admits-oattr e h = rw e (q ∙ rw (h (p .object) (s .object .total), v))
+    admits-oattr e h = rw e (q ∙ rw (h (p .object) (s .object .total), v, s .form))
 
   module _ (f g : Bool) (q : r ≡ placed f g) where
     pub admits-usen : k ≡ Usen → ((s : Side) → Shaped u s → f ≡ pairFits s m n) → g ≡ pairAfter b k m n → r ≡ admitted k b p m n

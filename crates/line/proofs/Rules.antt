@@ -133,12 +133,12 @@ module _ (y : RuleValue) (x : Rule) (e : y ≡ ruleValue x) where
           → r ≡ inRange RuleKind p (x .action) 0 (x .words)
       unfolding inRange
       range-words h r f =
-          let a = lt-ltb (x .action) (actions form) (omega (arith, value-action)) in
+          let a = lt-ltb (x .action) (actions (p .form)) (omega (arith, value-action, ap actions (s .form))) in
           f p (s .user) (s .object) ∙ (rw (value-words, a))
 
       pub range-action : most ≤ y .action → false ≡ inRange RuleKind p (x .action) 0 (x .words)
       unfolding inRange
-      range-action h = let a = le-ltb (x .action) (actions form) (omega (arith, value-action)) in rw a
+      range-action h = let a = le-ltb (x .action) (actions (p .form)) (omega (arith, value-action, ap actions (s .form))) in rw a
 
     -- refusals 8 and 9
     module _ (a : Bool) (f : (q : Policy) → Shaped u (q .user) → Shaped o (q .object) → a ≡ all (widthsEqual q) (wordsIn (y .words) (y .count))) where

@@ -5,12 +5,12 @@ use mathlib.Core.Bool.{Bool, true, cond}
 use mathlib.Core.List.{List, [], map}
 use lib.Dec.{ltb}
 use Rattle.basis.specs.Lists.{all}
-use Rattle.sets.specs.Set.{masks}
 use Rattle.seniority.specs.Seniority.{direct}
 use Rattle.text.specs.Kind.{isKind}
 use Rattle.text.specs.declared.kind.Kind.{Kind}
 use Rattle.text.specs.declared.kind.Kind.the-variants.{Policy as PolicyKind, Uattr, Oattr, Usen, Osen, User, Object, Rule as RuleKind, End}
 use Rattle.words.specs.Word.{parsed, isWord, wordIn}
+use Rattle.policy.specs.Limits.{mostValues}
 use Rattle.policy.specs.Policy.{Rule, Policy}
 use Rattle.policy.specs.Checks.{inRange, pairAbove, widthsEqual, balanced}
 use Rattle.policy.specs.Value.{widthPlaces, noRule, ruleValue}
@@ -28,7 +28,7 @@ use Rattle.line.specs.declared.rule.RuleLine.{RuleLine}
 -- a side's widths have their places, and its sum a mask
 pub record Sized (x : Shape) : Type 0 where
   pub attributes : x .attributes ≤ widthPlaces
-  pub total : x .total < masks
+  pub total : x .total ≤ mostValues
 
 -- the form and both sides of a policy
 pub record Sides (f : ℕ) (u o : Shape) (p : Policy) : Type 0 where

@@ -68,13 +68,13 @@ pub fn admit(
     ensures { λ r. ⌜ ((p : policy.Policy) → Sides form user object p → r ≡ admitted k before p m n) ⌝ }
 {
     match k {
-        Kind::Policy => place(checks::limits::is_form(m), true),
+        Kind::Policy => place(policy::limits::is_form(m), true),
         Kind::Uattr => place(
-            checks::side::width_fits(checks::limits::values(form), user.total, m),
+            checks::side::width_fits(policy::limits::values(form), user.total, m),
             true,
         ),
         Kind::Oattr => place(
-            checks::side::width_fits(checks::limits::values(form), object.total, m),
+            checks::side::width_fits(policy::limits::values(form), object.total, m),
             true,
         ),
         Kind::Usen => place(
@@ -86,11 +86,11 @@ pub fn admit(
             pair_rises(before, k, m, n),
         ),
         Kind::User => place(
-            checks::side::entry_fits(checks::limits::USER_NUMBERS, user.total, m, n),
+            checks::side::entry_fits(policy::limits::USER_NUMBERS, user.total, m, n),
             rises(before, k, m),
         ),
         Kind::Object => place(
-            checks::side::entry_fits(checks::limits::OBJECT_NUMBERS, object.total, m, n),
+            checks::side::entry_fits(policy::limits::OBJECT_NUMBERS, object.total, m, n),
             rises(before, k, m),
         ),
         Kind::Rule => Fault::None,

@@ -86,7 +86,7 @@ fn in_range(form: u32, user: Shape, object: Shape, rule: RuleValue) -> bool
 {
     let n = rule.count;
     let slots = rule.words;
-    if rule.action < checks::limits::actions(form) {
+    if rule.action < policy::limits::actions(form) {
         return checks::formula::all_fit(user, object, slots, n);
     }
     false

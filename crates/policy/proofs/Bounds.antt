@@ -21,11 +21,11 @@ use Rattle.words.specs.declared.Word.the-variants.{True, False, Holds, Compares
 use Rattle.words.specs.declared.Holding.the-variants.{User as UserValue, Object as ObjectValue}
 use Rattle.words.specs.declared.Comparison.the-variants.{Dominates, Equals}
 use Rattle.words.specs.Word.{inDigits}
-use Rattle.policy.specs.Limits.{values, actions, userNumbers, objectNumbers}
+use Rattle.policy.specs.Limits.{values, actions, mostValues, userNumbers, objectNumbers, mostLines}
 use Rattle.policy.specs.Policy.{Side, Rule, Policy, total, sets, attributeOf}
 use Rattle.policy.specs.Checks.{widthFits, pairFits, entryFits, bothThere, wordFits}
-use Rattle.policy.specs.Value.{widthPlaces}
 use Rattle.policy.specs.declared.value.Entry.{Entry}
+use Rattle.policy.proofs.Forms.{values-most, actions-most}
 use Rattle.policy.proofs.Sound.{widthsSound, ruleSound, listsSound, WithinSide, Within}
 use Rattle.policy.proofs.Rising.{rising, head, rising-at, rising-few}
 use Rattle.policy.proofs.Parts.{lineFits, lineAbove, numberFits, numberAbove, actionAbove, SideParts, RuleParts, rule-parts, Parts, parts}
@@ -184,6 +184,10 @@ module _ (most : ℕ) (s : Side) (h : SideParts most s) where
       le-trans (rising-few (lineFits s) lineAbove rank (triangle (total s)) (rank-low s) (rank-up s) (s .lines) (h .lines))
       (triangle-up (total s) most total-most)
 
+-- a side of any form
+pub total-few : (form : ℕ) (s : Side) → SideParts (values form) s → total s ≤ mostValues
+total-few form s h = le-trans (total-most (values form) s h) (values-most form)
+
 -- ---- users and objects
 
 module _ (most : ℕ) (s : Side) where
@@ -213,10 +217,10 @@ module _ (p : Policy) (rs : List Rule) (h : rising (ruleSound p) actionAbove non
 -- the numbers of a word of a rule are digits
 module _ (p : Policy) (t : Parts p) where
   digit-user : (v : ℕ) → ltb v (total (p .user)) ≡ true → ltb v 10 ≡ true
-  digit-user v e = lt-ltb v 10 (omega (arith, total-most (values (p .form)) (p .user) (t .user), ltb-true v (total (p .user)) e))
+  digit-user v e = lt-ltb v 10 (omega (arith, total-few (p .form) (p .user) (t .user), ltb-true v (total (p .user)) e))
 
   digit-object : (v : ℕ) → ltb v (total (p .object)) ≡ true → ltb v 10 ≡ true
-  digit-object v e = lt-ltb v 10 (omega (arith, total-most (values (p .form)) (p .object) (t .object), ltb-true v (total (p .object)) e))
+  digit-object v e = lt-ltb v 10 (omega (arith, total-few (p .form) (p .object) (t .object), ltb-true v (total (p .object)) e))
 
   digits-both : (i j : ℕ) → bothThere p i j ≡ true → (ltb i 10 && ltb j 10) ≡ true
   digits-both i j e =
@@ -243,19 +247,26 @@ module _ (p : Policy) (t : Parts p) where
 
 -- ---- the lists fit their arrays
 
-pub side-within : (s : Side) → SideParts widthPlaces s → WithinSide s
+-- as many pairs as there are lines at most
+triangle-most : triangle mostValues ≤ mostLines
 unfolding triangle
-side-within s h =
-    record { widths = le-trans (attributes-few widthPlaces s h) (total-most widthPlaces s h); lines = lines-few widthPlaces s h }
+triangle-most = lit≤ tt
+
+side-within : (form : ℕ) (s : Side) → SideParts (values form) s → WithinSide s
+side-within form s h =
+    record {
+      widths = le-trans (attributes-few (values form) s h) (total-few form s h);
+      lines = le-trans (lines-few (values form) s h) (le-trans (triangle-up (values form) mostValues (values-most form)) triangle-most);
+    }
 
 pub parts-within : (p : Policy) → Parts p → Within p
 parts-within p t =
     record {
-      user = side-within (p .user) (t .user);
-      object = side-within (p .object) (t .object);
+      user = side-within (p .form) (p .user) (t .user);
+      object = side-within (p .form) (p .object) (t .object);
       users = le-trans (entries-few userNumbers (p .user) (p .users) (t .users)) (lit≤ tt);
       objects = entries-few objectNumbers (p .object) (p .objects) (t .objects);
-      rules = rules-few p (p .rules) (t .rules);
+      rules = le-trans (rules-few p (p .rules) (t .rules)) (actions-most (p .form));
     }
 
 pub sound-within : (p : Policy) → listsSound p ≡ true → Within p

@@ -1,6 +1,7 @@
 pub mod Accepted
 pub mod Bounds
 pub mod Fields
+pub mod Forms
 pub mod Groups
 pub mod Growth
 pub mod Length
@@ -12,7 +13,6 @@ pub mod Passed
 pub mod ReadBack
 pub mod Reading
 pub mod Rising
-pub mod Room
 pub mod RoundTrip
 pub mod Same
 pub mod SoFar

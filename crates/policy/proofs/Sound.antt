@@ -8,12 +8,11 @@ use lib.Dec.{leb, ltb}
 use lib.ListN.{length}
 use Rattle.basis.specs.Choice.{given}
 use Rattle.basis.specs.Lists.{all}
-use Rattle.seniority.specs.Seniority.{linePlaces}
 use Rattle.seniority.specs.declared.Direct.{Direct}
 use Rattle.policy.specs.Limits.{isForm, values, actions, userNumbers, objectNumbers, mostWords}
 use Rattle.policy.specs.Policy.{Side, Rule, Policy}
 use Rattle.policy.specs.Checks.{pairFits, pairAbove, entryFits, wordFits, widthsEqual, balanced}
-use Rattle.policy.specs.Value.{widthPlaces, entryPlaces, rulePlaces}
+use Rattle.policy.specs.Value.{widthPlaces, entryPlaces, rulePlaces, linePlaces}
 use Rattle.policy.specs.declared.value.Entry.{Entry}
 
 -- widths after others that sum to n

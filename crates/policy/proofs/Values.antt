@@ -5,12 +5,12 @@ use mathlib.Core.List.{List, [], _∷_, _++_, map}
 use lib.ListN.{length, set}
 use Rattle.basis.proofs.Snoc.{length-snoc}
 use Rattle.basis.proofs.Padded.{take-padded, take-padded-map, padded-more, padded-more-map}
-use Rattle.seniority.specs.Seniority.{linePlaces, direct}
+use Rattle.seniority.specs.Seniority.{direct}
 use Rattle.words.specs.declared.Word.{Word}
 use Rattle.words.specs.declared.Word.the-variants.{True}
 use Rattle.policy.specs.Policy.{Side, Rule, Policy}
 use Rattle.policy.specs.Checks.{withWidth, withLine, withEntry}
-use Rattle.policy.specs.Value.{widthPlaces, entryPlaces, wordPlaces, rulePlaces, slot, noEntry, noRule, sideValue, register, ruleValue, rulesValue, valueOf, sideOf, entriesOf, ruleOf, rulesOf, policyOf}
+use Rattle.policy.specs.Value.{widthPlaces, entryPlaces, wordPlaces, rulePlaces, slot, noEntry, noRule, sideValue, register, ruleValue, rulesValue, valueOf, sideOf, entriesOf, ruleOf, rulesOf, policyOf, linePlaces}
 use Rattle.policy.specs.declared.value.Entry.{Entry}
 use Rattle.policy.specs.declared.value.Slot.{Slot}
 use Rattle.policy.specs.declared.value.SideValue.{SideValue}

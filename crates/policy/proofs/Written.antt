@@ -25,9 +25,10 @@ use Rattle.policy.specs.Text.{linesOf}
 use Rattle.policy.specs.Checks.{widthFits, pairFits, inRange, pairRises, entryRises, ruleRises, rises, balanced, balances, extended, withUser, withObject, withUsers, withObjects, withRules, withLineOf}
 use Rattle.policy.specs.Read.{start, ending, readLines}
 use Rattle.policy.specs.declared.value.Entry.{Entry}
+use Rattle.policy.proofs.Forms.{values-most, actions-most}
 use Rattle.policy.proofs.Sound.{widthsSound, ruleSound}
 use Rattle.policy.proofs.Parts.{lineFits, lineAbove, numberFits, numberAbove, actionAbove, SideParts, rule-parts, Parts, parts, Whole}
-use Rattle.policy.proofs.Bounds.{width-head, width-tail, pair-fits, entry-fits, total-most, rule-digits}
+use Rattle.policy.proofs.Bounds.{width-head, width-tail, pair-fits, entry-fits, total-few, rule-digits}
 use Rattle.policy.proofs.Order.{reached, May, order-allowed, cut}
 use Rattle.policy.proofs.Growth.{Fits, plain-fits, fits-same, equal-same}
 use Rattle.policy.proofs.Fields.{OneNumber, TwoNumbers, policy-one, uattr-one, oattr-one, usen-two, osen-two, user-two, object-two, Back, one-back, two-back, rule-back, end-back}
@@ -49,7 +50,7 @@ module _ (p : Policy) (t : Parts p) where
     width-good : (done : List ℕ) (w : ℕ) (rest : List ℕ) → Sums done (w ∷ rest) → Good (put done) (plain k w 0)
     unfolding widthsSound widthFits total
     width-good done w rest e =
-        record { back = one-back k o w (omega (arith, width-head (values (p .form)) (sum done) w rest e .small)); fits = fits done w (and-left _ _ e) }
+        record { back = one-back k o w (omega (arith, width-head (values (p .form)) (sum done) w rest e .small, values-most (p .form))); fits = fits done w (and-left _ _ e) }
 
     width-next : (done : List ℕ) (w : ℕ) (rest : List ℕ) → Sums done (w ∷ rest) → Sums (done ++ (w ∷ [])) rest
     width-next done w rest e = rw (sum-snoc done w) (width-tail (values (p .form)) (sum done) w rest e)
@@ -82,7 +83,7 @@ module _ (p : Policy) (t : Parts p) where
       → Back (plain k (l .senior) (l .junior))
   pair-back k o s h l f =
       let b = pair-fits s (l .senior) (l .junior) f in
-      let m = total-most (values (p .form)) s h in
+      let m = total-few (p .form) s h in
       two-back k o (l .senior) (l .junior) (omega (arith, b .value)) (omega (arith, b .value, b .above))
 
   usen-lines : From Osen → From Usen
@@ -107,7 +108,7 @@ module _ (p : Policy) (t : Parts p) where
       → Back (plain k (e .number) (e .set))
   entry-back k o most h s c e f =
       let b = entry-fits most s e f in
-      let m = pow-mono (total-most (values (p .form)) s c) in
+      let m = pow-mono (total-few (p .form) s c) in
       two-back k o (e .number) (e .set) (omega (arith, b .0)) (omega (arith, b .1))
 
   user-lines : From Object → From User
@@ -139,7 +140,7 @@ module _ (p : Policy) (t : Parts p) where
   rule-good rs r f a =
       let q = rule-parts p r f in
       record {
-        back = rule-back (r .action) (r .words) (omega (arith, q .action)) (some-words (r .words) (q .balance)) (q .few) (rule-digits p t r q);
+        back = rule-back (r .action) (r .words) (omega (arith, q .action, actions-most (p .form))) (some-words (r .words) (q .balance)) (q .few) (rule-digits p t r q);
         fits =
             record {
               range = rw (lt-ltb (r .action) (actions (p .form)) (q .action), ← fun-ext (fits-same p rs)) (q .fit);

@@ -1,5 +1,5 @@
--- The limits of document 01, each in one place.
-use Prim.Native.Nat.{ℕ}
+-- The limits of document 01, each in one place; whatever else is bounded is bounded by these, by name.
+use Prim.Native.Nat.{ℕ, _*_, _-_, _/_, _^_}
 use mathlib.Core.Bool.{Bool}
 use lib.Dec.{eqb}
 
@@ -7,17 +7,28 @@ use lib.Dec.{eqb}
 abbrev pub textBytes : ℕ
 textBytes = 8192
 
+-- ---- by form
+
 -- "`policy,1`: the form's number"
 abbrev pub isForm : ℕ → Bool
 isForm form = eqb form 1
 
 -- "Each W is 1 to 7; U, the sum of the W, is 1 to 7": the greatest width and sum of a side in a text of this form
-abbrev pub values : ℕ → ℕ
+unfoldable pub values : ℕ → ℕ
 values form = 7
 
 -- "the formula of action A, 0 to 7": how many actions a text of this form has
-abbrev pub actions : ℕ → ℕ
+unfoldable pub actions : ℕ → ℕ
 actions form = 8
+
+-- the most of any form, for which arrays have places; the laws `values-most` and `actions-most` say so
+abbrev pub mostValues : ℕ
+mostValues = 7
+
+abbrev pub mostActions : ℕ
+mostActions = 8
+
+-- ---- of every form
 
 -- "user N, 0 to 31"
 abbrev pub userNumbers : ℕ
@@ -27,6 +38,24 @@ userNumbers = 32
 abbrev pub objectNumbers : ℕ
 objectNumbers = 64
 
+-- "a map from session number 0 to 31"
+abbrev pub sessionNumbers : ℕ
+sessionNumbers = 32
+
 -- "as 1 to 32 words"
 abbrev pub mostWords : ℕ
 mostWords = 32
+
+-- ---- what follows
+
+-- the sets of a side
+abbrev pub mostSets : ℕ
+mostSets = 2 ^ mostValues
+
+-- the pairs of a user set and an object set
+abbrev pub mostPairs : ℕ
+mostPairs = mostSets * mostSets
+
+-- the seniority lines of a side: one for each two values
+abbrev pub mostLines : ℕ
+mostLines = mostValues * (mostValues - 1) / 2

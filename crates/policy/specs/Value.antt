@@ -3,9 +3,10 @@ use Prim.Native.Nat.{ℕ}
 use mathlib.Core.List.{List, [], map}
 use lib.ListN.{length, take}
 use Rattle.basis.specs.Lists.{padded}
-use Rattle.seniority.specs.Seniority.{linePlaces, direct}
+use Rattle.seniority.specs.Seniority.{direct}
 use Rattle.words.specs.declared.Word.{Word}
 use Rattle.words.specs.declared.Word.the-variants.{True}
+use Rattle.policy.specs.Limits.{mostValues, mostActions, objectNumbers, mostWords, mostLines}
 use Rattle.policy.specs.Policy.{Side, Rule, Policy}
 use Rattle.policy.specs.declared.value.Entry.{Entry}
 use Rattle.policy.specs.declared.value.Slot.{Slot}
@@ -17,16 +18,19 @@ use Rattle.policy.specs.declared.value.PolicyValue.{PolicyValue}
 
 -- the places of each array
 abbrev pub widthPlaces : ℕ
-widthPlaces = 7
+widthPlaces = mostValues
+
+abbrev pub linePlaces : ℕ
+linePlaces = mostLines
 
 abbrev pub entryPlaces : ℕ
-entryPlaces = 64
+entryPlaces = objectNumbers
 
 abbrev pub wordPlaces : ℕ
-wordPlaces = 32
+wordPlaces = mostWords
 
 abbrev pub rulePlaces : ℕ
-rulePlaces = 8
+rulePlaces = mostActions
 
 abbrev pub slot : Word → Slot
 slot w = record { word = w }

@@ -1,6 +1,4 @@
-// The policy value that every call is handed, and the refusals that calls give.
+// The policy value that every call is handed, the limits that it keeps to, and the refusals that calls give.
+pub mod limits;
 pub mod refusal;
 pub mod value;
-
-// The most bytes of a text.
-pub const TEXT_BYTES: usize = 8192;

@@ -1,16 +1,18 @@
 // The policy value: what the text says, line by line and in text order; every place past a count is blank.
+use crate::limits;
 use seniority::Direct;
-use seniority::LINE_PLACES;
 use words::Word;
 
 // The places of each array of a policy value.
-pub const WIDTH_PLACES: usize = 7;
+pub const WIDTH_PLACES: usize = limits::MOST_VALUES;
 
-pub const ENTRY_PLACES: usize = 64;
+pub const LINE_PLACES: usize = limits::MOST_LINES;
 
-pub const WORD_PLACES: usize = 32;
+pub const ENTRY_PLACES: usize = limits::OBJECT_NUMBERS as usize;
 
-pub const RULE_PLACES: usize = 8;
+pub const WORD_PLACES: usize = limits::MOST_WORDS;
+
+pub const RULE_PLACES: usize = limits::MOST_ACTIONS;
 
 // One side, users or objects: the widths of its attributes and its direct seniorities.
 #[repr(C)]

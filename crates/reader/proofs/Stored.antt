@@ -4,10 +4,9 @@ use mathlib.Core.Path.{_≡_, sym, ap, _∙_}
 use mathlib.Core.List.{List, [], _∷_, _++_}
 use native.Mathlib.Omega.{arith}
 use lib.ListN.{length, take}
-use Rattle.seniority.specs.Seniority.{linePlaces}
 use Rattle.policy.specs.Policy.{Side, Rule}
 use Rattle.policy.specs.Checks.{withWidth, withLine, withEntry}
-use Rattle.policy.specs.Value.{widthPlaces, entryPlaces, rulePlaces, sideValue, register, ruleValue, rulesValue, sideOf}
+use Rattle.policy.specs.Value.{widthPlaces, entryPlaces, rulePlaces, sideValue, register, ruleValue, rulesValue, sideOf, linePlaces}
 use Rattle.policy.specs.declared.value.Entry.{Entry}
 use Rattle.policy.specs.declared.value.SideValue.{SideValue}
 use Rattle.policy.specs.declared.value.Register.{Register}

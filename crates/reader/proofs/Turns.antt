@@ -10,7 +10,7 @@ use lib.Dec.{eqb}
 use lib.ListN.{length, take, drop}
 use Rattle.basis.specs.Lists.{sum}
 use Rattle.basis.proofs.Snoc.{length-snoc}
-use Rattle.seniority.specs.Seniority.{linePlaces, direct}
+use Rattle.seniority.specs.Seniority.{direct}
 use Rattle.text.specs.Kind.{placeOf}
 use Rattle.text.specs.Parts.{fields}
 use Rattle.text.specs.declared.kind.Kind.{Kind}
@@ -18,7 +18,7 @@ use Rattle.text.specs.declared.kind.Kind.the-variants.{Policy as PolicyKind, Ua
 use Rattle.words.specs.declared.Word.{Word}
 use Rattle.policy.specs.Policy.{Side, Rule, Policy, total}
 use Rattle.policy.specs.Checks.{withWidth, withLine, withEntry, withUser, withObject, withUsers, withObjects, withRules, withForm, extended}
-use Rattle.policy.specs.Value.{widthPlaces, entryPlaces, rulePlaces, sideValue, register, ruleValue, rulesValue}
+use Rattle.policy.specs.Value.{widthPlaces, entryPlaces, rulePlaces, sideValue, register, ruleValue, rulesValue, linePlaces}
 use Rattle.policy.specs.declared.value.Entry.{Entry}
 use Rattle.policy.specs.declared.value.SideValue.{SideValue}
 use Rattle.policy.specs.declared.value.Register.{Register}

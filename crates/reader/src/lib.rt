@@ -16,7 +16,7 @@ mod value;
 use line::fault::Fault;
 use line::numbers::Before;
 use line::numbers::Line;
-use policy::TEXT_BYTES;
+use policy::limits::TEXT_BYTES;
 use policy::refusal::Refusal;
 use policy::value::Entry;
 use policy::value::PolicyValue;

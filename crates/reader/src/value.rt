@@ -20,7 +20,7 @@ use policy::value::Slot;
 use policy::value::WIDTH_PLACES;
 use policy::value::WORD_PLACES;
 use seniority::Direct;
-use seniority::LINE_PLACES;
+use policy::value::LINE_PLACES;
 use words::Word;
 
 pub fn no_lines() -> SideValue

@@ -59,7 +59,3 @@ Ordered n (l ∷ ls) = (l .junior < l .senior) × (l .senior < n) × From (l .se
 -- s, with b where it holds a
 abbrev pub extended : ℕ → ℕ → ℕ → ℕ
 extended s a b = cond (has s a) (union s (2 ^ b)) s
-
--- the places of an array of direct lines: with seven values of a side, one for each pair
-abbrev pub linePlaces : ℕ
-linePlaces = 21

@@ -27,7 +27,3 @@ within a b = eqb (bitAnd a b) a
 -- "the masks of the first k values": the set of all values below k
 abbrev pub mask : ℕ → ℕ
 mask k = 2 ^ k - 1
-
--- how many masks the constant table has: k goes from 0 to 7
-abbrev pub masks : ℕ
-masks = 8

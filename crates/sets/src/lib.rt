@@ -1,6 +1,5 @@
 // Sets of values, each the sum of 2^k over the values k in it.
 ghost use mathlib.Core.Path.{_≡_};
-ghost use Prim.Native.Nat.{_<_};
 ghost use Rattle.sets.specs.Set as set;
 
 // Whether value v is in s.
@@ -29,15 +28,4 @@ pub fn within(a: u32, b: u32) -> bool
     ensures { λ r. ⌜ r ≡ set.within a b ⌝ }
 {
     (a & b) == a
-}
-
-// The sets of the first k values, for k from 0 to 7.
-const MASKS: [u32; 8] = [0, 1, 3, 7, 15, 31, 63, 127];
-
-// The set of all values below k.
-pub fn mask(k: u32) -> u32
-    requires { ⌜ k < set.masks ⌝ }
-    ensures { λ r. ⌜ r ≡ set.mask k ⌝ }
-{
-    MASKS[k as usize]
 }

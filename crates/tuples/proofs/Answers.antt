@@ -13,7 +13,7 @@ use Rattle.policy.specs.Valid.{valid}
 use Rattle.policy.specs.Answers.{refused, decided}
 use Rattle.policy.specs.declared.value.PolicyValue.{PolicyValue}
 use Rattle.formula.specs.Decide.{lacking}
-use Rattle.formula.specs.Lane.{mostActions}
+use Rattle.policy.specs.Limits.{mostActions}
 use Rattle.tuples.specs.Tuples.{stored, tuples, list, listBuffer, decideByTuples}
 
 -- ---- listing

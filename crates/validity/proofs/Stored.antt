@@ -13,7 +13,7 @@ use Rattle.basis.specs.Lists.{all, same}
 use Rattle.basis.proofs.Bools.{both-ways}
 use Rattle.basis.proofs.Padded.{same-padded}
 use Rattle.basis.proofs.Same.{same-self}
-use Rattle.seniority.specs.Seniority.{linePlaces, direct}
+use Rattle.seniority.specs.Seniority.{direct}
 use Rattle.seniority.specs.declared.Direct.{Direct}
 use Rattle.words.specs.Word.{written}
 use Rattle.words.specs.declared.Word.the-variants.{True, Holds, Compares}
@@ -22,7 +22,7 @@ use Rattle.words.specs.declared.Holding.the-variants.{User, Object}
 use Rattle.words.specs.declared.Comparison.{Comparison}
 use Rattle.words.specs.declared.Comparison.the-variants.{Dominates, Equals}
 use Rattle.policy.specs.Policy.{Side}
-use Rattle.policy.specs.Value.{widthPlaces, entryPlaces, wordPlaces, slot, noEntry, noRule, entriesOf, register, ruleValue, ruleOf}
+use Rattle.policy.specs.Value.{widthPlaces, entryPlaces, wordPlaces, slot, noEntry, noRule, entriesOf, register, ruleValue, ruleOf, linePlaces}
 use Rattle.policy.specs.Valid.{sameLine, sameEntry, sameSlot, sameRegister, sameRule}
 use Rattle.policy.specs.declared.value.Entry.{Entry}
 use Rattle.policy.specs.declared.value.RuleValue.{RuleValue}

@@ -12,8 +12,7 @@ use lib.Seq.{length-take-le}
 use Rattle.basis.specs.Lists.{all, sum}
 use Rattle.basis.proofs.Bools.{and-left, and-right}
 use Rattle.basis.proofs.Padded.{same-padded, same-map}
-use Rattle.sets.specs.Set.{masks}
-use Rattle.policy.specs.Limits.{isForm, values, actions, userNumbers, objectNumbers, mostWords}
+use Rattle.policy.specs.Limits.{isForm, values, actions, userNumbers, objectNumbers, mostWords, mostValues}
 use Rattle.policy.specs.Policy.{Side, Policy, total}
 use Rattle.policy.specs.Checks.{wordFits, widthsEqual, balanced}
 use Rattle.policy.specs.Value.{widthPlaces, wordPlaces, rulePlaces, noRule, register, sideOf, sideValue, entriesOf, ruleOf, ruleValue, rulesOf, rulesValue, policyOf, valueOf}
@@ -125,7 +124,7 @@ module _ (p : Policy) (x : Rules) (k : length (x .entries) ≡ rulePlaces) where
 
 -- what `measure` ensures is the shape of the side itself
 pub own-shape : (x : SideValue) (r : Shape) → ((s : Side) → s .widths ≡ take (x .attributes) (x .widths) → Shaped r s)
-    → (x .attributes ≤ widthPlaces) × (sum (take (x .attributes) (x .widths)) < masks) → SmallShape r (sideOf x)
+    → (x .attributes ≤ widthPlaces) × (sum (take (x .attributes) (x .widths)) ≤ mostValues) → SmallShape r (sideOf x)
 unfolding sideOf
 own-shape x r f h =
     record {

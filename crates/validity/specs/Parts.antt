@@ -7,12 +7,11 @@ use mathlib.Core.Option.{none}
 use lib.Dec.{eqb, leb}
 use lib.ListN.{length, take}
 use Rattle.basis.specs.Lists.{same, padded}
-use Rattle.sets.specs.Set.{masks}
-use Rattle.seniority.specs.Seniority.{linePlaces, direct}
+use Rattle.seniority.specs.Seniority.{direct}
 use Rattle.seniority.specs.declared.Direct.{Direct}
-use Rattle.policy.specs.Limits.{values, actions, userNumbers, objectNumbers}
+use Rattle.policy.specs.Limits.{values, actions, userNumbers, objectNumbers, mostValues}
 use Rattle.policy.specs.Policy.{Side, Policy}
-use Rattle.policy.specs.Value.{widthPlaces, sideValue, register, ruleValue, rulesValue, sideOf, entriesOf, ruleOf, rulesOf, policyOf}
+use Rattle.policy.specs.Value.{widthPlaces, sideValue, register, ruleValue, rulesValue, sideOf, entriesOf, ruleOf, rulesOf, policyOf, linePlaces}
 use Rattle.policy.specs.Valid.{sameLine, sameSide, sameRegister, sameRule, sameRules}
 use Rattle.policy.specs.declared.value.SideValue.{SideValue}
 use Rattle.policy.specs.declared.value.Register.{Register}
@@ -42,7 +41,7 @@ sideValid most x = sameSide (sideValue (sideOf x)) x && (leb 1 (length (sideOf x
 pub record SmallShape (x : Shape) (s : Side) : Type 0 where
   pub shape : Shaped x s
   pub places : x .attributes ≤ widthPlaces
-  pub small : x .total < masks
+  pub small : x .total ≤ mostValues
 
 -- ---- users or objects
 

@@ -9,7 +9,7 @@ mod register;
 mod rules;
 mod side;
 
-use checks::limits;
+use policy::limits;
 use policy::value::PolicyValue;
 
 // The users, the objects and the rules of a policy value with valid sides.

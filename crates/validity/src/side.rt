@@ -3,8 +3,8 @@ ghost use mathlib.Core.Path.{_≡_};
 ghost use Prim.Native.Nat.{_≤_, _<_};
 ghost use lib.ListN.{take};
 ghost use Rattle.basis.specs.Lists.{sum};
-ghost use Rattle.sets.specs.Set.{masks};
 ghost use Rattle.seniority.specs.Seniority.{direct};
+ghost use Rattle.policy.specs.Limits.{mostValues};
 ghost use Rattle.policy.specs.Policy as policy;
 ghost use Rattle.policy.specs.Value.{widthPlaces, sideOf};
 ghost use Rattle.policy.specs.Valid.{sameLine};
@@ -14,7 +14,7 @@ use checks::side::Shape;
 use policy::value::SideValue;
 use policy::value::WIDTH_PLACES;
 use seniority::Direct;
-use seniority::LINE_PLACES;
+use policy::value::LINE_PLACES;
 
 // At least one width and no more than there are places, each sound, and nothing behind the last.
 fn widths_valid(most: u32, widths: [u32; WIDTH_PLACES], n: usize) -> bool
@@ -101,7 +101,7 @@ pub fn side_valid(most: u32, x: SideValue) -> bool
 
 // The shape of a valid side.
 pub fn shape(x: SideValue) -> Shape
-    requires { ⌜ (x .attributes ≤ widthPlaces) × (sum (take (x .attributes) (x .widths)) < masks) ⌝ }
+    requires { ⌜ (x .attributes ≤ widthPlaces) × (sum (take (x .attributes) (x .widths)) ≤ mostValues) ⌝ }
     ensures { λ r. ⌜ SmallShape r (sideOf x) ⌝ }
 {
     let widths = x.widths;

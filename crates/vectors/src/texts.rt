@@ -5,7 +5,7 @@ use crate::cursor;
 use crate::cursor::NUMBERS;
 use crate::found;
 use crate::found::Found;
-use policy::TEXT_BYTES;
+use policy::limits::TEXT_BYTES;
 use policy::refusal::number_of;
 use policy::value::PolicyValue;
 use policy::value::Verdict;

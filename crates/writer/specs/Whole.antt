@@ -6,9 +6,8 @@ use mathlib.Core.List.{List, [], _∷_, _++_}
 use lib.ListN.{take}
 use Rattle.basis.specs.Bytes.{bytes}
 use Rattle.basis.specs.Lists.{all}
-use Rattle.seniority.specs.Seniority.{linePlaces}
 use Rattle.text.specs.Parts.{lineFeed}
-use Rattle.policy.specs.Value.{widthPlaces, entryPlaces, rulePlaces}
+use Rattle.policy.specs.Value.{widthPlaces, entryPlaces, rulePlaces, linePlaces}
 use Rattle.policy.specs.declared.value.SideValue.{SideValue}
 use Rattle.policy.specs.declared.value.Register.{Register}
 use Rattle.policy.specs.declared.value.Rules.{Rules}

@@ -4,8 +4,7 @@ ghost use mathlib.Core.Bool.{true};
 ghost use Prim.Native.Nat.{_≤_};
 ghost use lib.ListN.{take};
 ghost use Rattle.basis.specs.Lists.{all};
-ghost use Rattle.seniority.specs.Seniority.{linePlaces};
-ghost use Rattle.policy.specs.Value.{widthPlaces, entryPlaces, rulePlaces};
+ghost use Rattle.policy.specs.Value.{widthPlaces, entryPlaces, rulePlaces, linePlaces};
 ghost use Rattle.writer.specs.Put.{Room, Put, each, oneLine, pairLine, entryLine, ruleLine, ruleWritable};
 use crate::line;
 use policy::value::ENTRY_PLACES;
@@ -14,7 +13,7 @@ use policy::value::RULE_PLACES;
 use policy::value::RuleValue;
 use policy::value::WIDTH_PLACES;
 use seniority::Direct;
-use seniority::LINE_PLACES;
+use policy::value::LINE_PLACES;
 
 // The first n widths of a side.
 pub fn put_widths(word: &[u8], widths: [u32; WIDTH_PLACES], n: usize, buf: &mut [u8]) -> usize

@@ -11,7 +11,7 @@ ghost use Rattle.writer.specs.Whole.{SideWithin, RegisterWithin, RulesWi
 use crate::bytes;
 use crate::line;
 use crate::lines;
-use policy::TEXT_BYTES;
+use policy::limits::TEXT_BYTES;
 use policy::value::PolicyValue;
 use policy::value::Register;
 use policy::value::Rules;

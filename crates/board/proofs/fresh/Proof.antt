@@ -4,7 +4,7 @@ use mathlib.Core.Path.{ap}
 use lib.ListN.{replicate}
 use Rattle.board.specs.declared.Session.{Session}
 use Rattle.board.specs.declared.Board.{Board}
-use Rattle.board.specs.Machine.{sessionNumbers}
+use Rattle.policy.specs.Limits.{sessionNumbers}
 use Rattle.board.specs.Board.{fresh}
 use Rattle.board.proofs.fresh.Statement.{statement}
 use Rattle.board.proofs.fresh.Tie as tie

@@ -4,8 +4,7 @@ use native.Mathlib.Omega.{arith}
 use borrow.Author.Needs.{needs}
 use denote.Ref.{now}
 use lib.ListN.{length}
-use Rattle.seniority.specs.Seniority.{linePlaces}
-use Rattle.policy.specs.Value.{widthPlaces, entryPlaces, rulePlaces}
+use Rattle.policy.specs.Value.{widthPlaces, entryPlaces, rulePlaces, linePlaces}
 use Rattle.reader.proofs.States.{Held, At, Step, Taken, at-sides, at-sized, blank-sized, at-start, too-long, at-open, at-ended, at-unended, at-value, step-refused, rule-counted, rule-refused}
 use Rattle.reader.proofs.Stored.{stored-width, stored-line, stored-entry, stored-rule}
 use Rattle.reader.proofs.Turns.{at-form, uattr-room, uattr-sized, at-uattr, oattr-room, oattr-sized, at-oattr, usen-room, at-usen, osen-room, at-osen, user-room, at-user, object-room, at-object, rule-room, at-rule, at-end}

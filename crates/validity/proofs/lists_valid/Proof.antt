@@ -2,6 +2,7 @@
 use native.Mathlib.Omega.{arith}
 use borrow.Author.Needs.{needs}
 use Rattle.policy.specs.Limits.{values}
+use Rattle.policy.proofs.Forms.{values-most}
 use Rattle.validity.proofs.Whole.{Small, side-small, users-not, objects-not, rules-left}
 use Rattle.validity.proofs.lists_valid.Statement.{statement}
 use Rattle.validity.proofs.lists_valid.Tie as tie
@@ -13,10 +14,10 @@ object : (c : tie.Start) → Small (values (c .args .v .form)) (c .args .v .obje
 object c = side-small _ _ (search needs) (c .pre .object)
 
 shape-requires : tie.Need-shape-requires
-shape-requires c κs = let s = user (c .before) in (s .places, omega arith)
+shape-requires c κs = let s = user (c .before) in (s .places, omega (arith, values-most (c .before .args .v .form)))
 
 shape-requires-2 : tie.Need-shape-requires-2
-shape-requires-2 c κs = let s = object (c .before .before .before) in (s .places, omega arith)
+shape-requires-2 c κs = let s = object (c .before .before .before) in (s .places, omega (arith, values-most (c .before .before .before .args .v .form)))
 
 register-valid-requires : tie.Need-register-valid-requires
 register-valid-requires c κs = search needs

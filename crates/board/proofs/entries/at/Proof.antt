@@ -5,7 +5,7 @@ use native.Mathlib.Omega.{arith}
 use lib.ListN.{length, List·getD-eq-default}
 use borrow.Author.Needs.{needs}
 use Rattle.basis.proofs.Lists.{long}
-use Rattle.board.specs.Machine.{sessionNumbers}
+use Rattle.policy.specs.Limits.{sessionNumbers}
 use Rattle.board.specs.Board.{closed, entryOf, entryAt}
 use Rattle.board.proofs.entries.at.Statement.{statement}
 use Rattle.board.proofs.entries.at.Tie as tie

@@ -9,7 +9,7 @@ use Rattle.basis.specs.Lists.{all}
 use Rattle.basis.proofs.Lists.{long}
 use Rattle.policy.specs.Policy.{Policy}
 use Rattle.policy.specs.Value.{sideOf}
-use Rattle.board.specs.Machine.{sessionNumbers}
+use Rattle.policy.specs.Limits.{sessionNumbers}
 use Rattle.board.specs.Board.{closed, boardFits}
 use Rattle.board.proofs.ByNumber.{places, Assigns, assigns, place-lt, found-lt}
 use Rattle.board.proofs.Fitting.{fitsIn, next-fails, next-fits, none-left}

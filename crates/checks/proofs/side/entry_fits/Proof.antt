@@ -4,8 +4,8 @@ use Rattle.checks.proofs.Laws.{entry-set, entry-out}
 use Rattle.checks.proofs.side.entry_fits.Statement.{statement}
 use Rattle.checks.proofs.side.entry_fits.Tie as tie
 
-mask-requires : tie.Need-mask-requires
-mask-requires c κs = search needs
+first-requires : tie.Need-first-requires
+first-requires c κs = search needs
 
 returns : tie.Need-returns
 returns c = search entry-set
@@ -14,4 +14,4 @@ returns-2 : tie.Need-returns-2
 returns-2 c = search entry-out
 
 pub entry-fits-spec : {M : Type 1} → statement M
-entry-fits-spec = tie.close (tie.spec mask-requires returns returns-2)
+entry-fits-spec = tie.close (tie.spec first-requires returns returns-2)

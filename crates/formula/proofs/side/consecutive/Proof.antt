@@ -4,7 +4,8 @@ use mathlib.Core.Path.{_≡_}
 use native.Mathlib.Nat.{div-one, mod-eq-of-lt}
 use native.Mathlib.Omega.{arith}
 use borrow.Author.Needs.{needs}
-use Rattle.formula.specs.Lane.{lanes, mostValues}
+use Rattle.formula.specs.Lane.{lanes}
+use Rattle.policy.specs.Limits.{mostValues}
 use Rattle.formula.proofs.side.consecutive.Statement.{statement}
 use Rattle.formula.proofs.side.consecutive.Tie as tie
 

@@ -8,7 +8,7 @@ use borrow.Author.Needs.{needs}
 use Rattle.basis.proofs.Lists.{long}
 use Rattle.seniority.specs.Seniority.{direct, heldOrSenior}
 use Rattle.seniority.proofs.Laws.{lowered, has-lowered, heldOrSenior-none, line-bounds, lower-line}
-use Rattle.formula.specs.Lane.{mostValues}
+use Rattle.policy.specs.Limits.{mostValues}
 use Rattle.formula.proofs.Vectors.{Grown, grown-none, grown-line, grown-stands}
 use Rattle.formula.proofs.side.with_juniors.Statement.{statement}
 use Rattle.formula.proofs.side.with_juniors.Tie as tie

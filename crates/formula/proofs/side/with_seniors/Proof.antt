@@ -8,7 +8,7 @@ use borrow.Author.Needs.{needs}
 use Rattle.basis.proofs.Lists.{long}
 use Rattle.seniority.specs.Seniority.{direct, heldOrJunior, extended}
 use Rattle.seniority.proofs.Laws.{raised, has-raised, heldOrJunior-none, line-bounds, raise-line}
-use Rattle.formula.specs.Lane.{mostValues}
+use Rattle.policy.specs.Limits.{mostValues}
 use Rattle.formula.proofs.Vectors.{Grown, grown-none, grown-line, grown-stands}
 use Rattle.formula.proofs.side.with_seniors.Statement.{statement}
 use Rattle.formula.proofs.side.with_seniors.Tie as tie

@@ -4,7 +4,7 @@ use mathlib.Core.Path.{_≡_}
 use native.Mathlib.Omega.{arith}
 use borrow.Author.Count.{below-none, below-more}
 use borrow.Author.Needs.{needs}
-use Rattle.formula.specs.Lane.{mostActions}
+use Rattle.policy.specs.Limits.{mostActions}
 use Rattle.labels.proofs.Entries.{action-is}
 use Rattle.labels.proofs.apart.first_action.Statement.{statement}
 use Rattle.labels.proofs.apart.first_action.Tie as tie

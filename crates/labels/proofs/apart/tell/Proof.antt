@@ -4,7 +4,7 @@ use native.Mathlib.Nat.{lt-of-lt-of-le}
 use native.Mathlib.Omega.{arith}
 use borrow.Author.Needs.{needs}
 use Rattle.policy.specs.Value.{policyOf}
-use Rattle.labels.specs.Rows.{mostSets}
+use Rattle.policy.specs.Limits.{mostSets}
 use Rattle.labels.proofs.Alike.{unlike-below}
 use Rattle.labels.proofs.Telling.{rows-tell-alike, rows-tell-apart}
 use Rattle.labels.proofs.apart.tell.Statement.{statement}

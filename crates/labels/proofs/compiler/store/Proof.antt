@@ -5,7 +5,7 @@ use denote.Ref.{now}
 use native.Mathlib.Nat.{le-trans, mul-le-mul}
 use native.Mathlib.Omega.{arith}
 use borrow.Author.Needs.{needs}
-use Rattle.labels.specs.Rows.{mostSets}
+use Rattle.policy.specs.Limits.{mostSets}
 use Rattle.labels.specs.Grid.{turnedView, likeRows, Labelled}
 use Rattle.labels.proofs.Alike.{rows-equivalence}
 use Rattle.labels.proofs.Grids.{turned-inside}

@@ -5,7 +5,8 @@ use native.Mathlib.Omega.{arith}
 use lib.ListN.{length, getD, length-set}
 use borrow.Author.Needs.{needs}
 use Rattle.basis.proofs.Places.{stored-next}
-use Rattle.labels.specs.Rows.{mostSets, entryOf}
+use Rattle.labels.specs.Rows.{entryOf}
+use Rattle.policy.specs.Limits.{mostSets}
 use Rattle.labels.proofs.Entries.{laneEntry, lane-entry}
 use Rattle.labels.proofs.rows.with_block.Statement.{statement}
 use Rattle.labels.proofs.rows.with_block.Tie as tie

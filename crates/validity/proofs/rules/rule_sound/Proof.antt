@@ -2,6 +2,7 @@
 use native.Mathlib.Omega.{arith}
 use borrow.Author.Tests.{not-true, not-false, lt-ltb, le-ltb}
 use borrow.Author.Needs.{needs}
+use Rattle.policy.specs.Limits.{actions}
 use Rattle.validity.proofs.Whole.{rule-is}
 use Rattle.validity.proofs.rules.rule_sound.Statement.{statement}
 use Rattle.validity.proofs.rules.rule_sound.Tie as tie
@@ -9,7 +10,7 @@ use Rattle.validity.proofs.rules.rule_sound.Tie as tie
 returns : tie.Need-returns
 returns c = λ p q.
     let x = c .before .before .args .x in
-    rw (rule-is p x (search needs), le-ltb (x .action) 8 (omega arith))
+    rw (rule-is p x (search needs), le-ltb (x .action) (actions (p .form)) (omega (arith, q .actions)))
 
 all-fit-requires : tie.Need-all-fit-requires
 all-fit-requires c κs = search needs
@@ -18,7 +19,7 @@ returns-2 : tie.Need-returns-2
 returns-2 c = λ p q.
     let x = c .before .before .before .before .before .args .x in
     let f = c .before .all-fit in
-    rw (rule-is p x (search needs), lt-ltb (x .action) 8 (omega arith), ← f .ensures p (q .user) (q .object), not-true (f .result) (c .if2 .taken))
+    rw (rule-is p x (search needs), lt-ltb (x .action) (actions (p .form)) (omega (arith, q .actions)), ← f .ensures p (q .user) (q .object), not-true (f .result) (c .if2 .taken))
 
 all-equal-requires : tie.Need-all-equal-requires
 all-equal-requires c κs = search needs
@@ -30,7 +31,7 @@ returns-3 c = λ p q.
     let e = c .before .all-equal in
     rw (
       rule-is p x (search needs),
-      lt-ltb (x .action) 8 (omega arith),
+      lt-ltb (x .action) (actions (p .form)) (omega (arith, q .actions)),
       ← f .ensures p (q .user) (q .object),
       not-false (f .result) (c .before .before .if2 .left),
       ← e .ensures p (q .user) (q .object),
@@ -47,7 +48,7 @@ returns-4 c = λ p q.
     let e = c .before .before .all-equal in
     rw (
       rule-is p x (search needs),
-      lt-ltb (x .action) 8 (omega arith),
+      lt-ltb (x .action) (actions (p .form)) (omega (arith, q .actions)),
       ← f .ensures p (q .user) (q .object),
       not-false (f .result) (c .before .before .before .if2 .left),
       ← e .ensures p (q .user) (q .object),

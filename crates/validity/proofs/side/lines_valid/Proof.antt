@@ -6,7 +6,8 @@ use borrow.Author.Needs.{needs}
 use lib.ListN.{drop}
 use Rattle.basis.specs.Lists.{all}
 use Rattle.basis.proofs.Lists.{long}
-use Rattle.seniority.specs.Seniority.{linePlaces, direct}
+use Rattle.policy.specs.Value.{linePlaces}
+use Rattle.seniority.specs.Seniority.{direct}
 use Rattle.policy.specs.Valid.{sameLine}
 use Rattle.policy.proofs.Parts.{lineFits, lineAbove}
 use Rattle.checks.specs.Sides.{Shaped}

@@ -1,4 +1,4 @@
--- `seniority::with_juniors` meets its contract: r is what the lines from i on make of s.
+-- `board::juniors::with_juniors` meets its contract: r is what the lines from i on make of s.
 use mathlib.Core.Path.{_≡_, _∙_}
 use Prim.Native.Nat.{_≤_, _<_, _-_}
 use native.Mathlib.Omega.{arith}
@@ -6,10 +6,10 @@ use lib.ListN.{length, take, drop, drop-of-length-le}
 use lib.Seq.{length-take-le}
 use borrow.Author.Needs.{needs}
 use Rattle.basis.proofs.Lists.{long}
 use Rattle.seniority.specs.Seniority.{wordBits}
 use Rattle.seniority.proofs.Laws.{lowered, has-lowered, line-bounds, lower-line}
-use Rattle.seniority.proofs.with_juniors.Statement.{statement}
-use Rattle.seniority.proofs.with_juniors.Tie as tie
+use Rattle.board.proofs.juniors.with_juniors.Statement.{statement}
+use Rattle.board.proofs.juniors.with_juniors.Tie as tie
 
 abbrev Inv-loop : tie.InvT-loop
 Inv-loop n s lines r₀ i₀ r i = (i ≤ n) × (n ≤ length lines) × (r ≡ lowered (drop i (take n lines)) s)

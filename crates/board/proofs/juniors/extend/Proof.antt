@@ -1,4 +1,4 @@
--- `seniority::extend` meets its contract: 1 << b is 2^b, since b is below the number's bits.
+-- `board::juniors::extend` meets its contract: 1 << b is 2^b, since b is below the number's bits.
 use mathlib.Core.Path.{ap, sym, _∙_}
 use Prim.Native.Nat.{_^_}
 use native.Mathlib.Nat.{one-mul}
@@ -7,8 +7,8 @@ use lib.Bits.{bitOr}
 use lib.Dec.{lit<}
 use lib.Pow.{shl-exact}
 use borrow.Author.Needs.{needs}
-use Rattle.seniority.proofs.extend.Statement.{statement}
-use Rattle.seniority.proofs.extend.Tie as tie
+use Rattle.board.proofs.juniors.extend.Statement.{statement}
+use Rattle.board.proofs.juniors.extend.Tie as tie
 
 holds-requires : tie.Need-holds-requires
 holds-requires c κs = search needs
