@@ -1,4 +1,1 @@
 pub mod Fields
-pub mod Admitted
-pub mod Rules
-pub mod Faults
