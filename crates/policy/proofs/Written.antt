@@ -1,6 +1,6 @@
 -- The lines of a sound policy are read back as the policy: list by list, from the end line to the first.
 use Prim.Native.Nat.{ℕ, suc, _≤_, _<_}
-use mathlib.Core.Path.{_≡_, refl, fun-ext}
+use mathlib.Core.Path.{_≡_, refl}
 use mathlib.Core.Bool.{true, false≢true}
 use mathlib.Core.List.{List, [], _∷_, _++_, map}
 use mathlib.Core.Option.{Option, none, some}
@@ -31,7 +31,7 @@ use Rattle.policy.proofs.Sound.{widthsSound, ruleSound}
 use Rattle.policy.proofs.Parts.{lineFits, lineAbove, numberFits, numberAbove, actionAbove, SideParts, rule-parts, Parts, parts, Whole}
 use Rattle.policy.proofs.Bounds.{width-head, width-tail, pair-fits, entry-fits, total-few, rule-digits}
 use Rattle.policy.proofs.Order.{reached, May, order-allowed, cut}
-use Rattle.policy.proofs.Growth.{Fits, plain-fits, fits-same, equal-same}
+use Rattle.policy.proofs.Growth.{Fits, plain-fits}
 use Rattle.policy.proofs.Fields.{Back, line-back, one-back, two-back}
 use Rattle.policy.proofs.Groups.{groups, linesFrom, lines-from}
 use Rattle.policy.proofs.ReadBack.{state, Leads, Good, leads-line, kind-lines, rising-lines}
@@ -44,12 +44,12 @@ module _ (p : Policy) (t : Parts p) where
   -- ---- widths
 
   module _ (k : Kind) (o : layoutOf k ≡ One) (put : List ℕ → Policy)
-      (fits : (ws : List ℕ) (w : ℕ) → widthFits (values (p .form)) (record { widths = ws; lines = [] }) w ≡ true → Fits k (put ws) (oneNumber w) []) where
+      (fits : (ws : List ℕ) (w : ℕ) → widthFits (values (p .form)) (sum ws) w ≡ true → Fits k (put ws) (oneNumber w) []) where
     abbrev Sums : List ℕ → List ℕ → Type 0
     Sums done rest = widthsSound (values (p .form)) (sum done) rest ≡ true
 
     width-good : (done : List ℕ) (w : ℕ) (rest : List ℕ) → Sums done (w ∷ rest) → Good (put done) (plain k (oneNumber w))
-    unfolding widthsSound widthFits total
+    unfolding widthsSound
     width-good done w rest e =
         record { back = one-back k o w (omega (arith, width-head (values (p .form)) (sum done) w rest e .small, values-most (p .form))); fits = fits done w (and-left _ _ e) }
 
@@ -65,14 +65,14 @@ module _ (p : Policy) (t : Parts p) where
         kind-lines k h g (λ w. plain k (oneNumber w)) (λ w. refl) put grow Sums width-good width-next ws more p then b m (λ z. omega arith) e
 
   oattr-lines : 1 ≤ length (p .object .widths) → From Usen → From Oattr
-  unfolding linesFrom groups cut extended inRange rises balances
+  unfolding linesFrom groups cut extended inRange rises balances total
   oattr-lines l =
       width-lines Oattr refl (λ ws. withObject (record { widths = ws; lines = [] }) (cut (placeOf Oattr) p))
       (λ ws w f. plain-fits Oattr _ _ f refl refl) (lit≤ tt) (lit< tt) (λ ws w. refl)
       (p .object .widths) l (t .object .widths) (linesFrom Usen p)
 
   uattr-lines : 1 ≤ length (p .user .widths) → From Oattr → From Uattr
-  unfolding linesFrom groups cut extended inRange rises balances
+  unfolding linesFrom groups cut extended inRange rises balances total
   uattr-lines l =
       width-lines Uattr refl (λ ws. withUser (record { widths = ws; lines = [] }) (cut (placeOf Uattr) p))
       (λ ws w f. plain-fits Uattr _ _ f refl refl) (lit≤ tt) (lit< tt) (λ ws w. refl)
@@ -152,9 +152,9 @@ module _ (p : Policy) (t : Parts p) where
             });
         fits =
             record {
-              range = rw (lt-ltb (r .action) (actions (p .form)) (q .action), ← fun-ext (fits-same p rs)) (q .fit);
+              range = rw (lt-ltb (r .action) (actions (p .form)) (q .action)) (q .fit);
               rise = a;
-              equal = rw (← fun-ext (equal-same p rs)) (q .equal);
+              equal = q .equal;
               balance = q .balance;
               few = q .few;
             };
