@@ -1,2 +1,3 @@
-// A line of a policy text taken apart, and the words of a rule: refusals 3 to 5, and for a rule 5 to 9.
+// A line of a policy text taken apart: its kind and its numbers, and the rule that its words are.
 pub mod head;
+pub mod rule;
