@@ -1,5 +1,5 @@
-pub mod Stored
 pub mod Places
-pub mod Rising
-pub mod States
-pub mod Turns
+pub mod Cursors
+pub mod Runs
+pub mod FormLine
+pub mod WidthLines
