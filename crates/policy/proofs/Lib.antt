@@ -15,6 +15,7 @@ pub mod Reading
 pub mod Rising
 pub mod RoundTrip
 pub mod Same
+pub mod Shorts
 pub mod SoFar
 pub mod Sound
 pub mod Valid

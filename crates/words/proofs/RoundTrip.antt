@@ -138,7 +138,11 @@ written-parsed (c ∷ i ∷ j ∷ x ∷ xs) w e = none (c ∷ i ∷ j ∷ x ∷ 
 
 -- ---- a word is short, and its bytes are letters and digits
 
-pub written-short : (w : Word) → length (written w) ≤ 3
+-- the most bytes of a word
+abbrev pub mostLetters : ℕ
+mostLetters = 3
+
+pub written-short : (w : Word) → length (written w) ≤ mostLetters
 unfolding written
 written-short True = lit≤ tt
 written-short False = lit≤ tt
