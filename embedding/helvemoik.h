@@ -115,8 +115,8 @@ struct helvemoik_register {
 
 /*
  * `rule,A,w,w,..`. A word is kind * 65536 + first * 256 + second, where the kind of t is 0, f 1, n 2, a 3, r 4, u 5,
- * o 6, d 7, q 8; first is the value or the user attribute, second the object attribute, each 0 where the word has none. Any
- * other number stands for a word that no policy has: check 11 refuses the policy.
+ * o 6, d 7, q 8; first is the value or the user attribute, second the object attribute, each 0 where the word has none.
+ * Any other number stands for a word that no policy has: check 11 refuses the policy.
  */
 struct helvemoik_rule {
     uint32_t action;
