@@ -16,7 +16,8 @@ use Rattle.text.specs.declared.kind.Layout.{Layout}
 use Rattle.text.specs.declared.kind.Layout.the-variants.{Bare, One, Two, Three, Formula}
 use Rattle.text.specs.declared.number.Numbers.{Numbers}
 use Rattle.text.proofs.RoundTrip.{decimal-number, decimal-value, value-decimal}
-use Rattle.words.specs.Word.{parsed, isWord, wordIn, written, inDigits}
+use Rattle.words.specs.Word.{parsed, isWord, wordIn, written}
+use Rattle.words.specs.Inner.{inDigits}
 use Rattle.words.specs.declared.Word.{Word}
 use Rattle.words.specs.declared.Parsed.{Parsed}
 use Rattle.words.specs.declared.Parsed.the-variants.{Is, Malformed}

@@ -10,8 +10,8 @@ use lib.Dec.{eqb}
 use borrow.Author.Tests.{eqb-true}
 use Rattle.words.specs.declared.Word.{Word}
 use Rattle.policy.specs.Policy.{Side, Rule, Policy, sets, setOfNumber, formulaIn}
+use Rattle.policy.specs.Inner.Sound.{ruleSound}
 use Rattle.policy.specs.declared.value.Entry.{Entry}
-use Rattle.policy.proofs.Sound.{ruleSound}
 use Rattle.policy.proofs.Rising.{rising}
 use Rattle.policy.proofs.Parts.{numberFits, numberAbove, actionAbove, RuleParts}
 use Rattle.policy.proofs.Bounds.{entry-bounds, rule-bounds}

@@ -24,9 +24,9 @@ use Rattle.policy.specs.Line.{Line, noNumbers, oneNumber, twoNumbers, pl
 use Rattle.policy.specs.Text.{linesOf}
 use Rattle.policy.specs.Checks.{widthFits, pairFits, inRange, pairRises, entryRises, ruleRises, rises, balanced, balances, extended, withUser, withObject, withUsers, withObjects, withRules, withLineOf}
 use Rattle.policy.specs.Read.{start, ending, readLines}
+use Rattle.policy.specs.Inner.Sound.{widthsSound, ruleSound}
 use Rattle.policy.specs.declared.value.Entry.{Entry}
 use Rattle.policy.proofs.Forms.{form-few}
-use Rattle.policy.proofs.Sound.{widthsSound, ruleSound}
 use Rattle.policy.proofs.Parts.{lineFits, lineAbove, numberFits, numberAbove, actionAbove, SideParts, rule-parts, Parts, parts, Whole}
 use Rattle.policy.proofs.Bounds.{width-head, width-tail, rule-digits}
 use Rattle.policy.proofs.Shorts.{no-short, one-short, width-short, action-short, pair-short, entry-short}
