@@ -169,9 +169,6 @@ module _ (most : ℕ) (s : Side) (h : SideParts most s) where
   pub width-bounds : (w : ℕ) → List·Memᴰ w (s .widths) → (1 ≤ w) × (w ≤ most)
   width-bounds = widths-at most 0 (s .widths) (h .widths)
 
-  pub line-bounds : (l : Direct) → List·Memᴰ l (s .lines) → Pair s (l .senior) (l .junior)
-  line-bounds l m = pair-fits s (l .senior) (l .junior) (rising-at (lineFits s) lineAbove none (s .lines) (h .lines) l m)
-
   pub lines-ordered : Ordered (total s) (s .lines)
   lines-ordered = ordered s none (s .lines) (h .lines)
 

@@ -1,7 +1,7 @@
 -- Seniority. "Senior means a chain of one or more direct lines; junior is the converse."
 use Prim.Native.Nat.{ℕ, zero, suc}
 use mathlib.Core.Bool.{Bool, false, _&&_, _||_}
-use mathlib.Core.List.{List, [], _∷_, List·Memᴰ}
+use mathlib.Core.List.{List, List·Memᴰ}
 use lib.Dec.{eqb}
 use Rattle.basis.specs.Lists.{any}
 use Rattle.sets.specs.Set.{has, setOf}
