@@ -11,7 +11,8 @@ use lib.ListN.{length, drop}
 use Rattle.basis.specs.Choice.{lowest}
 use Rattle.basis.specs.Lists.{all}
 use Rattle.text.specs.Kind.{layoutOf, placeOf, isKind}
-use Rattle.text.specs.Parts.{TextLine, lineFeed, fields, lines, Found}
+use Rattle.text.specs.Inner.{Found}
+use Rattle.text.specs.Parts.{TextLine, lineFeed, fields, lines}
 use Rattle.text.specs.declared.kind.Kind.{Kind}
 use Rattle.text.specs.declared.kind.Kind.the-variants.{End}
 use Rattle.text.specs.declared.kind.Named.{Named}

@@ -6,7 +6,8 @@ use mathlib.Core.List.{List, [], _∷_}
 use native.Mathlib.Omega.{arith}
 use lib.ListN.{length, drop, drop-of-length-le}
 use lib.Seq.{drop-cons}
-use Rattle.text.specs.Parts.{lineFeed, split, linesOf, lines, Found}
+use Rattle.text.specs.Inner.{Found}
+use Rattle.text.specs.Parts.{lineFeed, split, linesOf, lines}
 use Rattle.text.proofs.Split.{split-pos, part-next, part-last}
 use Rattle.text.proofs.RoundTrip.{endedLine, lines-cons}
 use Rattle.line.specs.Inner.Head.{between}

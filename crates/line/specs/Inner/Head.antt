@@ -6,7 +6,8 @@ use mathlib.Core.List.{List}
 use mathlib.Core.Option.{Option, none, some}
 use lib.ListN.{length, take, drop}
 use Rattle.text.specs.Number.{isNumber, numeral}
-use Rattle.text.specs.Parts.{comma, Found}
+use Rattle.text.specs.Inner.{Found}
+use Rattle.text.specs.Parts.{comma}
 use Rattle.text.specs.Kind.{layoutOf}
 use Rattle.text.specs.declared.kind.Kind.{Kind}
 use Rattle.text.specs.declared.kind.Layout.{Layout}
