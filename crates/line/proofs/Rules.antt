@@ -1,12 +1,14 @@
 -- A rule line: its fields behind the action as words, one after the other, and one law for each answer about the rule.
 use Prim.Native.Nat.{ℕ, _+_, _≤_, _<_}
 use mathlib.Core.Path.{_≡_, refl, sym, ap, _∙_}
-use mathlib.Core.Bool.{Bool, true, false, cond}
+use mathlib.Core.Bool.{Bool, true, false, cond, not}
 use mathlib.Core.List.{List, [], _∷_, _++_, map, append-assoc}
+use mathlib.Core.Option.{Option, none, some}
 use native.Mathlib.Omega.{arith}
-use borrow.Author.Tests.{lt-ltb, le-ltb, lt-leb, le-leb, leb-true}
+use borrow.Author.Tests.{lt-ltb, le-ltb, lt-leb, le-leb, leb-true, ltb-true}
 use lib.Dec.{leb}
 use lib.ListN.{length, drop, set, length-append, length-map, length-drop}
+use Rattle.basis.specs.Choice.{check, lowest}
 use Rattle.basis.specs.Lists.{all, padded}
 use Rattle.basis.proofs.Bools.{and-left, and-right}
 use Rattle.basis.proofs.Padded.{padded-more-map}
@@ -20,6 +22,7 @@ use Rattle.words.specs.declared.Word.{Word}
 use Rattle.words.specs.declared.Word.the-variants.{True}
 use Rattle.words.specs.declared.Parsed.{Parsed}
 use Rattle.words.specs.declared.Parsed.the-variants.{Is as IsWord, Malformed}
+use Rattle.policy.specs.Answers.{numberOf}
 use Rattle.policy.specs.Limits.{actions, mostWords}
 use Rattle.policy.specs.Policy.{Rule}
 use Rattle.policy.specs.Line.{oneNumber, countFits}
@@ -199,3 +202,54 @@ pub rule-stored : (least form : ℕ) (s : Sizes) (a : ℕ) (fs : List (List ℕ)
 unfolding admittedRule
 rule-stored least form s a fs y e h =
     ap (λ (z : RuleLine). z .rule) e ∙ rule-held a fs (ruleIn a (drop 2 fs)) refl (first-none _ _ (sym (ap (λ (z : RuleLine). z .fault) e) ∙ h))
+
+-- ---- the lowest refusal of a rule's line
+
+abbrev pub numberIn : Fault → Option ℕ
+numberIn None = none
+numberIn (Is r) = some (numberOf r)
+
+module _ (x : Rule) where
+  abbrev tested : (w i s e b : Bool) → Fault
+  tested w i s e b =
+      orElse (cond w (heldRule x) (faultyRule MalformedField) .fault)
+      (cond i (cond s (cond e (cond b None (Is UnbalancedFormula)) (Is UnequalWidths)) (Is NotRising)) (Is OutOfRange))
+
+  tested-lowest : (w i s e b : Bool)
+      → numberIn (tested w i s e b) ≡ lowest (check 5 (not w) ∷ check 6 (not i) ∷ check 7 (not s) ∷ check 8 (not e) ∷ check 9 (not b) ∷ [])
+  unfolding lowest
+  tested-lowest false i s e b = refl
+  tested-lowest true false s e b = refl
+  tested-lowest true true false e b = refl
+  tested-lowest true true true false b = refl
+  tested-lowest true true true true false = refl
+  tested-lowest true true true true true = refl
+
+  faulty : (r : Refusal) (A : Type 0) → Is r ≡ None → A
+  faulty r A e = let c : _≡_ {A = ℕ} 0 1 = cc in absurd (omega arith)
+
+  tested-none : (w i s e b : Bool) → tested w i s e b ≡ None → (i ≡ true) × (s ≡ true)
+  tested-none false i s e b h = faulty _ _ h
+  tested-none true false s e b h = faulty _ _ h
+  tested-none true true false e b h = faulty _ _ h
+  tested-none true true true e b h = (refl, refl)
+
+module _ (least form : ℕ) (s : Sizes) (a : ℕ) (fs : List (List ℕ)) (y : RuleLine) (q : y ≡ admittedRule least form s a fs) where
+  abbrev from : Rule
+  from = ruleFrom a (drop 2 fs)
+
+  pub rule-lowest : numberIn (y .fault)
+      ≡ lowest (check 5 (not (areWords (drop 2 fs))) ∷ check 6 (not (inRange RuleKind form s (oneNumber a) (from .words))) ∷ check 7 (not (leb least a))
+      ∷ check 8 (not (all (widthsEqual s) (from .words))) ∷ check 9 (not (balanced 0 (from .words))) ∷ [])
+  unfolding admittedRule ruleIn ruleFault
+  rule-lowest =
+      ap (λ (z : RuleLine). numberIn (z .fault)) q
+      ∙ tested-lowest from (areWords (drop 2 fs)) (inRange RuleKind form s (oneNumber a) (from .words)) (leb least a) (all (widthsEqual s) (from .words)) (balanced 0 (from .words))
+
+  -- a rule in which nothing is broken rises, to an action that the form has
+  pub rule-taken : y .fault ≡ None → (least ≤ a) × (a < actions form)
+  unfolding admittedRule ruleIn ruleFault inRange
+  rule-taken h =
+      let z = tested-none from (areWords (drop 2 fs)) (inRange RuleKind form s (oneNumber a) (from .words)) (leb least a) (all (widthsEqual s) (from .words)) (balanced 0 (from .words))
+          (sym (ap (λ (z : RuleLine). z .fault) q) ∙ h) in
+      (leb-true least a (z .1), ltb-true a (actions form) (and-left _ _ (z .0)))

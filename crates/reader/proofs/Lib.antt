@@ -1,5 +1,11 @@
 pub mod Places
 pub mod Cursors
+pub mod Rising
 pub mod Runs
 pub mod FormLine
 pub mod WidthLines
+pub mod PairLines
+pub mod EntryLines
+pub mod RuleLines
+pub mod Sections
+pub mod Answers

@@ -1,8 +1,9 @@
+use native.Mathlib.Omega.{arith}
+use Rattle.reader.proofs.Cursors.{ahead-there, toRead, next-less, stop-less}
+use Rattle.reader.proofs.EntryLines.{EntriesHeld, no-entries-held, entries-read, entry-small, entry-room, entry-more, entry-level, entry-out}
 use borrow.Author.Needs.{needs}
 use Rattle.reader.proofs.entries.read.Statement.{statement}
 use Rattle.reader.proofs.entries.read.Tie as tie
-use Rattle.reader.proofs.entries.read.Reads as reads
-use Rattle.reader.proofs.entries.read.Lts as lts
 use Rattle.checks.proofs.side.entry_fits.Reads as entry-fits-reads
 use Rattle.reader.proofs.cursor.is_at.Reads as is-at-reads
 use Rattle.reader.proofs.cursor.next.Reads as next-reads
@@ -10,82 +11,64 @@ use Rattle.reader.proofs.cursor.stop.Reads as stop-reads
 use Rattle.reader.proofs.value.no_entries.Reads as no-entries-reads
 
 abbrev Inv-loop : tie.InvT-loop
-Inv-loop text kind most total register₀ least₀ c₀ register least c = ?
+Inv-loop text kind most total register₀ least₀ c₀ register least c = EntriesHeld text kind most total c₀ register least c
 
 abbrev μ-loop : tie.MeasureT-loop
-μ-loop text kind most total register₀ least₀ c₀ register least c = ?
+μ-loop text kind most total register₀ least₀ c₀ register least c = toRead text c
 
--- src/entries.rt:23:24
 no-entries-requires : tie.Need-no-entries-requires Inv-loop μ-loop
 no-entries-requires c κs = search needs
 
--- src/entries.rt:27:5
 loop-holds : tie.Need-loop-holds Inv-loop μ-loop
-loop-holds c = search needs
+loop-holds c = no-entries-held _ _ _ _ _ _ (c .no-entries .ensures) (c .before .before .pre .0)
 
--- src/entries.rt:27:11
 is-at-requires : tie.Need-is-at-requires Inv-loop μ-loop
 is-at-requires c κs = search needs
 
--- src/entries.rt:30:12
 entry-fits-requires : tie.Need-entry-fits-requires Inv-loop μ-loop
-entry-fits-requires c κs = search needs
+entry-fits-requires c κs = c .before .before .before .before .before .pre .2
 
--- src/entries.rt:33:17
 mul-t17 : tie.Need-mul-t17 Inv-loop μ-loop
-mul-t17 c = search needs
+mul-t17 c = let h = entry-room (c .before .before .before .before .before .loop .inv) _ _ _ (c .before .before .entry-fits .ensures) (c .before .if2 .taken) (c .if3 .taken) (c .before .before .before .before .before .before .before .before .pre .1) in search needs
 
--- src/entries.rt:33:17
 element-set-from-register : tie.Need-element-set-from-register Inv-loop μ-loop
-element-set-from-register c = search needs
+element-set-from-register c = entry-room (c .before .before .before .before .before .loop .inv) _ _ _ (c .before .before .entry-fits .ensures) (c .before .if2 .taken) (c .if3 .taken) (c .before .before .before .before .before .before .before .before .pre .1)
 
--- src/entries.rt:34:34
 add-register : tie.Need-add-register Inv-loop μ-loop
-add-register c = search needs
+add-register c = let h = entry-room (c .before .before .before .before .before .loop .inv) _ _ _ (c .before .before .entry-fits .ensures) (c .before .if2 .taken) (c .if3 .taken) (c .before .before .before .before .before .before .before .before .pre .1) in search needs
 
--- src/entries.rt:35:25
 add-least : tie.Need-add-least Inv-loop μ-loop
-add-least c = search needs
+add-least c = let h = entry-small (c .before .before .before .before .before .loop .inv) _ _ _ (c .before .before .entry-fits .ensures) (c .before .if2 .taken) in omega (arith, h, c .before .before .before .before .before .before .before .before .pre .1)
 
--- src/entries.rt:36:17
 next-requires : tie.Need-next-requires Inv-loop μ-loop
-next-requires c κs = search needs
+next-requires c κs = (c .before .before .before .before .before .loop .inv .lines .stands, search ahead-there)
 
--- src/entries.rt:27:5
 loop-less : tie.Need-loop-less Inv-loop μ-loop
-loop-less c = search needs
+loop-less c = let s = c .before .before .before .before .before .before .loop .inv .lines .stands in search next-less
 
--- src/entries.rt:27:5
 loop-again : tie.Need-loop-again Inv-loop μ-loop
-loop-again c = search needs
+loop-again c = search entry-more
 
--- src/entries.rt:38:17
 stop-requires : tie.Need-stop-requires Inv-loop μ-loop
 stop-requires c κs = search needs
 
--- src/entries.rt:27:5
 loop-less-2 : tie.Need-loop-less-2 Inv-loop μ-loop
-loop-less-2 c = search needs
+loop-less-2 c = search stop-less
 
--- src/entries.rt:27:5
 loop-again-2 : tie.Need-loop-again-2 Inv-loop μ-loop
-loop-again-2 c = search needs
+loop-again-2 c = search entry-level
 
--- src/entries.rt:41:13
 stop-requires-2 : tie.Need-stop-requires-2 Inv-loop μ-loop
 stop-requires-2 c κs = search needs
 
--- src/entries.rt:27:5
 loop-less-3 : tie.Need-loop-less-3 Inv-loop μ-loop
-loop-less-3 c = search needs
+loop-less-3 c = search stop-less
 
--- src/entries.rt:27:5
 loop-again-3 : tie.Need-loop-again-3 Inv-loop μ-loop
-loop-again-3 c = search needs
+loop-again-3 c = search entry-out
 
--- src/entries.rt:19:1
 returns : tie.Need-returns Inv-loop μ-loop
-returns c = search needs
+returns c = search entries-read
 
 pub read-spec : {M : Type 1} → statement M
 read-spec =

@@ -1,8 +1,9 @@
+use Rattle.basis.specs.Lists.{padded}
+use Rattle.reader.proofs.Cursors.{ahead-there, toRead, next-less, stop-less}
+use Rattle.reader.proofs.PairLines.{PairsHeld, no-pairs, pairs-read, pair-room, pair-more, pair-level, pair-out}
 use borrow.Author.Needs.{needs}
 use Rattle.reader.proofs.seniorities.read.Statement.{statement}
 use Rattle.reader.proofs.seniorities.read.Tie as tie
-use Rattle.reader.proofs.seniorities.read.Reads as reads
-use Rattle.reader.proofs.seniorities.read.Lts as lts
 use Rattle.checks.proofs.side.pair_above.Reads as pair-above-reads
 use Rattle.checks.proofs.side.pair_fits.Reads as pair-fits-reads
 use Rattle.reader.proofs.cursor.is_at.Reads as is-at-reads
@@ -10,78 +11,62 @@ use Rattle.reader.proofs.cursor.next.Reads as next-reads
 use Rattle.reader.proofs.cursor.stop.Reads as stop-reads
 
 abbrev Inv-loop : tie.InvT-loop
-Inv-loop text kind shape last₀ seniority₀ lines₀ c₀ last seniority lines c = ?
+Inv-loop text kind shape last₀ seniority₀ lines₀ c₀ last seniority lines c = PairsHeld text kind shape c₀ last seniority lines c
 
 abbrev μ-loop : tie.MeasureT-loop
-μ-loop text kind shape last₀ seniority₀ lines₀ c₀ last seniority lines c = ?
+μ-loop text kind shape last₀ seniority₀ lines₀ c₀ last seniority lines c = toRead text c
 
--- src/seniorities.rt:33:5
 loop-holds : tie.Need-loop-holds Inv-loop μ-loop
-loop-holds c = search needs
+unfolding padded
+loop-holds c = no-pairs _ _ _ _ (c .before .pre .0)
 
--- src/seniorities.rt:33:11
 is-at-requires : tie.Need-is-at-requires Inv-loop μ-loop
 is-at-requires c κs = search needs
 
--- src/seniorities.rt:36:12
 pair-fits-requires : tie.Need-pair-fits-requires Inv-loop μ-loop
-pair-fits-requires c κs = search needs
+pair-fits-requires c κs = c .before .before .before .before .pre .1
 
--- src/seniorities.rt:37:16
 pair-above-requires : tie.Need-pair-above-requires Inv-loop μ-loop
 pair-above-requires c κs = search needs
 
--- src/seniorities.rt:42:17
 mul-seniority : tie.Need-mul-seniority Inv-loop μ-loop
-mul-seniority c = search needs
+mul-seniority c = let h = pair-room (c .before .before .before .before .before .before .loop .inv) _ _ _ (c .before .before .before .pair-fits .ensures) (c .before .before .if2 .taken) _ (c .before .pair-above .ensures) (c .if3 .taken) (c .before .before .before .before .before .before .before .before .pre .2) in search needs
 
--- src/seniorities.rt:42:17
 array-set-from-seniority : tie.Need-array-set-from-seniority Inv-loop μ-loop
-array-set-from-seniority c = search needs
+array-set-from-seniority c = pair-room (c .before .before .before .before .before .before .loop .inv) _ _ _ (c .before .before .before .pair-fits .ensures) (c .before .before .if2 .taken) _ (c .before .pair-above .ensures) (c .if3 .taken) (c .before .before .before .before .before .before .before .before .pre .2)
 
--- src/seniorities.rt:43:17
 add-lines : tie.Need-add-lines Inv-loop μ-loop
-add-lines c = search needs
+add-lines c = let h = pair-room (c .before .before .before .before .before .before .loop .inv) _ _ _ (c .before .before .before .pair-fits .ensures) (c .before .before .if2 .taken) _ (c .before .pair-above .ensures) (c .if3 .taken) (c .before .before .before .before .before .before .before .before .pre .2) in search needs
 
--- src/seniorities.rt:44:17
 next-requires : tie.Need-next-requires Inv-loop μ-loop
-next-requires c κs = search needs
+next-requires c κs = (c .before .before .before .before .before .before .loop .inv .lines .stands, search ahead-there)
 
--- src/seniorities.rt:33:5
 loop-less : tie.Need-loop-less Inv-loop μ-loop
-loop-less c = search needs
+loop-less c = let s = c .before .before .before .before .before .before .before .loop .inv .lines .stands in search next-less
 
--- src/seniorities.rt:33:5
 loop-again : tie.Need-loop-again Inv-loop μ-loop
-loop-again c = search needs
+loop-again c = search pair-more
 
--- src/seniorities.rt:46:17
 stop-requires : tie.Need-stop-requires Inv-loop μ-loop
 stop-requires c κs = search needs
 
--- src/seniorities.rt:33:5
 loop-less-2 : tie.Need-loop-less-2 Inv-loop μ-loop
-loop-less-2 c = search needs
+loop-less-2 c = search stop-less
 
--- src/seniorities.rt:33:5
 loop-again-2 : tie.Need-loop-again-2 Inv-loop μ-loop
-loop-again-2 c = search needs
+loop-again-2 c = search pair-level
 
--- src/seniorities.rt:49:13
 stop-requires-2 : tie.Need-stop-requires-2 Inv-loop μ-loop
 stop-requires-2 c κs = search needs
 
--- src/seniorities.rt:33:5
 loop-less-3 : tie.Need-loop-less-3 Inv-loop μ-loop
-loop-less-3 c = search needs
+loop-less-3 c = search stop-less
 
--- src/seniorities.rt:33:5
 loop-again-3 : tie.Need-loop-again-3 Inv-loop μ-loop
-loop-again-3 c = search needs
+loop-again-3 c = search pair-out
 
--- src/seniorities.rt:21:1
 returns : tie.Need-returns Inv-loop μ-loop
-returns c = search needs
+returns c = search pairs-read
 
 pub read-spec : {M : Type 1} → statement M
 read-spec =
