@@ -9,3 +9,4 @@ pub mod EntryLines
 pub mod RuleLines
 pub mod Sections
 pub mod Answers
+pub mod Whole

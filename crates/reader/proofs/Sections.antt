@@ -74,11 +74,11 @@ object-pairs =
       same = λ p. refl;
     }
 
-pub usen : PairKind Usen user-pairs
+unfoldable pub usen : PairKind Usen user-pairs
 unfolding user-pairs inRange rises pairRises total
 usen = record { side = λ p. sideSizes (p .user); layout = refl; said = λ n ws. refl; range = λ p n ws. refl; rise = λ p n. refl; kept = λ ls p. refl }
 
-pub osen : PairKind Osen object-pairs
+unfoldable pub osen : PairKind Osen object-pairs
 unfolding object-pairs inRange rises pairRises total
 osen = record { side = λ p. sideSizes (p .object); layout = refl; said = λ n ws. refl; range = λ p n ws. refl; rise = λ p n. refl; kept = λ ls p. refl }
 
@@ -113,11 +113,11 @@ objects =
       same = λ p. refl;
     }
 
-pub user : EntryKind User userNumbers users
+unfoldable pub user : EntryKind User userNumbers users
 unfolding users inRange rises entryRises
 user = record { total = λ p. total (p .user); layout = refl; said = λ n ws. refl; range = λ p n ws. refl; rise = λ p n. refl; kept = λ es p. refl }
 
-pub object : EntryKind Object objectNumbers objects
+unfoldable pub object : EntryKind Object objectNumbers objects
 unfolding objects inRange rises entryRises
 object = record { total = λ p. total (p .object); layout = refl; said = λ n ws. refl; range = λ p n ws. refl; rise = λ p n. refl; kept = λ es p. refl }
 

@@ -14,12 +14,12 @@ mod entries;
 mod form;
 mod rules;
 mod seniorities;
+mod sides;
 mod value;
 mod widths;
 
 use crate::cursor::Ahead;
 use crate::cursor::Cursor;
-use line::head::Before;
 use policy::limits::OBJECT_NUMBERS;
 use policy::limits::TEXT_BYTES;
 use policy::limits::USER_NUMBERS;
@@ -72,33 +72,25 @@ fn finish(text: &[u8], c: Cursor, policy: PolicyValue) -> Reading
 fn read_lists(text: &[u8]) -> Reading
     ensures { λ r. ⌜ ReadAs (readLines start 0 (lines (now (text .entry)))) r ⌝ }
 {
-    let c = cursor::look(text, 0, 0, Before::Start);
-    let f = form::read(text, c);
-    let most = policy::limits::values(f.form);
-    let c = f.cursor;
-    let u = widths::read(text, c, Kind::Uattr, most);
-    let c = u.cursor;
+    let s = sides::read(text);
+    let u = s.user;
     let us = u.shape;
-    let o = widths::read(text, c, Kind::Oattr, most);
-    let c = o.cursor;
+    let o = s.object;
     let os = o.shape;
-    let u = seniorities::read(text, c, Kind::Usen, us);
-    let c = u.cursor;
-    let user = u.side;
-    let o = seniorities::read(text, c, Kind::Osen, os);
-    let c = o.cursor;
-    let object = o.side;
+    let c = s.cursor;
     let e = entries::read(text, c, Kind::User, USER_NUMBERS, us.total);
-    let c = e.cursor;
     let users = e.register;
-    let e = entries::read(text, c, Kind::Object, OBJECT_NUMBERS, os.total);
     let c = e.cursor;
+    let e = entries::read(text, c, Kind::Object, OBJECT_NUMBERS, os.total);
     let objects = e.register;
-    let r = rules::read(text, c, f.form, us, os);
-    let c = r.cursor;
+    let c = e.cursor;
+    let r = rules::read(text, c, s.form, us, os);
     let rules = r.rules;
+    let c = r.cursor;
+    let user = u.value;
+    let object = o.value;
     let policy = PolicyValue {
-        form: f.form,
+        form: s.form,
         user,
         object,
         users,

@@ -10,15 +10,17 @@ use Rattle.basis.specs.Lists.{last, sum, padded}
 use Rattle.seniority.specs.Seniority.{direct}
 use Rattle.seniority.specs.declared.Direct.{Direct}
 use Rattle.text.specs.Kind.{layoutOf, placeOf}
+use Rattle.text.specs.Parts.{lines}
 use Rattle.text.specs.declared.kind.Kind.{Kind}
-use Rattle.text.specs.declared.kind.Kind.the-variants.{Policy as PolicyKind, Rule as RuleKind}
+use Rattle.text.specs.declared.kind.Kind.the-variants.{Policy as PolicyKind, Osen, Rule as RuleKind}
 use Rattle.text.specs.declared.kind.Layout.the-variants.{One, Two}
 use Rattle.text.specs.declared.number.Numbers.{Numbers}
 use Rattle.words.specs.declared.Word.{Word}
 use Rattle.policy.specs.Checks.{SideSizes, Sizes, sizes, widthFits, pairFits, pairAbove, entryFits, inRange, rises, withForm, extended}
-use Rattle.policy.specs.Limits.{values}
-use Rattle.policy.specs.Policy.{Rule, Policy}
-use Rattle.policy.specs.Value.{widthPlaces, linePlaces, register, rulesValue}
+use Rattle.policy.specs.Limits.{mostValues, values}
+use Rattle.policy.specs.Policy.{Side, Rule, Policy}
+use Rattle.policy.specs.Read.{start, readLines}
+use Rattle.policy.specs.Value.{widthPlaces, linePlaces, sideValue, register, rulesValue}
 use Rattle.policy.specs.declared.value.Entry.{Entry}
 use Rattle.checks.specs.Inner.{sizesIn, bothIn}
 use Rattle.checks.specs.declared.side.Shape.{Shape}
@@ -28,6 +30,7 @@ use Rattle.reader.specs.declared.entries.EntriesRead.{EntriesRead}
 use Rattle.reader.specs.declared.form.FormRead.{FormRead}
 use Rattle.reader.specs.declared.rules.RulesRead.{RulesRead}
 use Rattle.reader.specs.declared.seniorities.SenioritiesRead.{SenioritiesRead}
+use Rattle.reader.specs.declared.sides.SidesRead.{SidesRead}
 use Rattle.reader.specs.declared.widths.WidthsRead.{WidthsRead}
 
 -- ---- a list of a policy
@@ -70,6 +73,11 @@ pub record WidthsFrom (t : List ℕ) (k : Kind) (most : ℕ) (c : Cursor) (r : W
   pub few : length widths ≤ sum widths
   pub small : sum widths ≤ most
   pub lines : ReadBy t k (WidthsFit k most) (suc (placeOf k)) c (r .cursor) widths
+
+-- a side's attributes have their places, and its values are few enough
+pub record Sized (x : Shape) : Type 0 where
+  pub attributes : x .attributes ≤ widthPlaces
+  pub total : x .total ≤ mostValues
 
 -- ---- seniorities
 
@@ -133,3 +141,21 @@ pub record FormFrom (t : List ℕ) (c : Cursor) (r : FormRead) : Type 0 where
   pub stands : Stands t (r .cursor)
   pub past : Past (suc (placeOf PolicyKind)) (r .cursor)
   pub left : (p : Policy) → p .form ≡ 0 → left t c p ≡ left t (r .cursor) (withForm (r .form) p)
+
+-- ---- the form and both sides
+
+abbrev pub withSides : ℕ → Side → Side → Policy
+withSides form user object = record { form = form; user = user; object = object; users = []; objects = []; rules = [] }
+
+pub record SidesFrom (t : List ℕ) (r : SidesRead) : Type 0 where
+  pub user : Side
+  pub object : Side
+  pub user-value : r .user .value ≡ sideValue user
+  pub object-value : r .object .value ≡ sideValue object
+  pub user-shape : r .user .shape ≡ shapeWith (user .widths)
+  pub object-shape : r .object .shape ≡ shapeWith (object .widths)
+  pub user-sized : Sized (r .user .shape)
+  pub object-sized : Sized (r .object .shape)
+  pub stands : Stands t (r .cursor)
+  pub past : Past (suc (placeOf Osen)) (r .cursor)
+  pub left : readLines start 0 (lines t) ≡ left t (r .cursor) (withSides (r .form) user object)
