@@ -4,15 +4,13 @@ use mathlib.Core.Path.{_≡_}
 use mathlib.Core.Bool.{Bool}
 use mathlib.Core.List.{List}
 use lib.ListN.{getD}
-use Rattle.policy.specs.Policy.{Policy, sets}
-use Rattle.labels.specs.Labels.{label, labelCount, leader}
-use Rattle.labels.specs.Rows.{entryOf, rowsAlike}
 use Rattle.policy.specs.Limits.{mostSets, mostPairs}
+use Rattle.policy.specs.Policy.{Policy, sets}
+use Rattle.formula.specs.Truth.{at}
+use Rattle.labels.specs.Labels.{label, labelCount, leader}
+use Rattle.labels.specs.Rows.{rowsAlike}
+use Rattle.labels.specs.Compile.{entryOf}
 use Rattle.labels.specs.declared.grid.View.{View}
-
--- its places
-abbrev pub gridPlaces : ℕ
-gridPlaces = mostPairs
 
 -- what stands in row u and column o
 abbrev pub cell : List ℕ → View → ℕ → ℕ → ℕ
@@ -30,7 +28,7 @@ turnedView view = record { rows = view .columns; columns = view .rows; down = vi
 pub record Inside (view : View) : Type 0 where
   pub few-rows : view .rows ≤ mostSets
   pub few-columns : view .columns ≤ mostSets
-  pub inside : (u o : ℕ) → u < view .rows → o < view .columns → u * view .down + o * view .along < gridPlaces
+  pub inside : (u o : ℕ) → u < view .rows → o < view .columns → u * view .down + o * view .along < mostPairs
 
 -- the user sets of a policy are the rows
 pub record ViewOf (p : Policy) (view : View) : Type 0 where
@@ -45,7 +43,7 @@ pub record ViewOf (p : Policy) (view : View) : Type 0 where
 pub record GridOf (p : Policy) (grid : List ℕ) (view : View) : Type 0 where
   pub users : view .rows ≡ sets (p .user)
   pub objects : view .columns ≡ sets (p .object)
-  pub entries : (u o : ℕ) → u < view .rows → o < view .columns → cell grid view u o ≡ entryOf p u o
+  pub entries : (u o : ℕ) → u < view .rows → o < view .columns → cell grid view u o ≡ entryOf p (at u o)
 
 -- two arrays have the labels of m sets and the lowest set of each label, and there are so many labels
 pub record Labelled (like : ℕ → ℕ → Bool) (m : ℕ) (labels leaders : List ℕ) (count : ℕ) : Type 0 where

@@ -1,4 +1,4 @@
--- `labels::compiler::store` meets its contract: rows and columns are labelled, a buffer that is too short is refused before any is written,
+-- `labels::buffers::store` meets its contract: rows and columns are labelled, a buffer that is too short is refused before any is written,
 -- and the three writers leave the labels and the table.
 use Prim.Native.Nat.{_≤_}
 use denote.Ref.{now}
@@ -6,13 +6,13 @@ use native.Mathlib.Nat.{le-trans, mul-le-mul}
 use native.Mathlib.Omega.{arith}
 use borrow.Author.Needs.{needs}
 use Rattle.policy.specs.Limits.{mostSets}
-use Rattle.labels.specs.Grid.{turnedView, likeRows, Labelled}
+use Rattle.labels.specs.Inner.Grid.{turnedView, likeRows, Labelled}
 use Rattle.labels.proofs.Alike.{rows-equivalence}
 use Rattle.labels.proofs.Grids.{turned-inside}
 use Rattle.labels.proofs.Storing.{short-users, short-objects, short-table, stored-all}
 use Rattle.labels.proofs.Turn.{labelled-few, labelled-leader}
-use Rattle.labels.proofs.compiler.store.Statement.{statement}
-use Rattle.labels.proofs.compiler.store.Tie as tie
+use Rattle.labels.proofs.buffers.store.Statement.{statement}
+use Rattle.labels.proofs.buffers.store.Tie as tie
 
 classify-requires : tie.Need-classify-requires
 classify-requires c κs = search needs

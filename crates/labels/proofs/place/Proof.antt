@@ -1,10 +1,10 @@
--- `labels::compiler::place` meets its contract: a label is below 2^8 and a count below 2^32, so nothing wraps.
+-- `labels::place` meets its contract: a label is below 2^8 and a count below 2^32, so nothing wraps.
 use Prim.Native.Nat.{_*_, _≤_}
 use native.Mathlib.Nat.{mul-le-mul}
 use native.Mathlib.Omega.{arith}
 use borrow.Author.Needs.{needs}
-use Rattle.labels.proofs.compiler.place.Statement.{statement}
-use Rattle.labels.proofs.compiler.place.Tie as tie
+use Rattle.labels.proofs.place.Statement.{statement}
+use Rattle.labels.proofs.place.Tie as tie
 
 small : (c : tie.After-struct-known) → c .before .args .user .0 * c .before .args .objects ≤ 255 * 4294967295
 small c =

@@ -1,4 +1,4 @@
--- `labels::compiler::put_table` meets its contract: a turn of the inner loop fills one place, one of the outer a row.
+-- `labels::buffers::put_table` meets its contract: a turn of the inner loop fills one place, one of the outer a row.
 use Prim.Native.Nat.{ℕ, _+_, _*_, _-_, _/_, _%_, _≤_, _<_}
 use mathlib.Core.Path.{_≡_, sym, ap, ap₂, _∙_}
 use mathlib.Core.List.{List}
@@ -8,10 +8,10 @@ use lib.Arith.{digits-lt, digits-div, digits-mod}
 use lib.ListN.{length, getD}
 use borrow.Author.Needs.{needs}
 use Rattle.basis.proofs.Filled.{Filled, filled-none, filled-count, filled-same, filled-over, in-row, Further, further-none, further-more, further-count}
-use Rattle.labels.specs.Grid.{cell}
+use Rattle.labels.specs.Inner.Grid.{cell}
 use Rattle.labels.specs.declared.grid.View.{View}
-use Rattle.labels.proofs.compiler.put_table.Statement.{statement}
-use Rattle.labels.proofs.compiler.put_table.Tie as tie
+use Rattle.labels.proofs.buffers.put_table.Statement.{statement}
+use Rattle.labels.proofs.buffers.put_table.Tie as tie
 
 -- the entry at a place of the table
 abbrev atPlace : List ℕ → View → List ℕ → List ℕ → ℕ → ℕ → ℕ

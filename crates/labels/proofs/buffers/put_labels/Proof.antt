@@ -1,12 +1,12 @@
--- `labels::compiler::put_labels` meets its contract: each turn fills one place.
+-- `labels::buffers::put_labels` meets its contract: each turn fills one place.
 use Prim.Native.Nat.{_-_, _≤_}
 use mathlib.Core.Path.{refl}
 use native.Mathlib.Omega.{arith}
 use lib.ListN.{getD}
 use borrow.Author.Needs.{needs}
 use Rattle.basis.proofs.Filled.{Filled, filled-none, filled-more, filled-count, filled-same, filled-over}
-use Rattle.labels.proofs.compiler.put_labels.Statement.{statement}
-use Rattle.labels.proofs.compiler.put_labels.Tie as tie
+use Rattle.labels.proofs.buffers.put_labels.Statement.{statement}
+use Rattle.labels.proofs.buffers.put_labels.Tie as tie
 
 abbrev Inv-loop : tie.InvT-loop
 Inv-loop buffer₀ labels n i₀ buffer i = (i ≤ n) × Filled (λ j. getD labels j 0) i buffer₀ buffer

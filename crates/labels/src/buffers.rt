@@ -1,38 +1,30 @@
-// Compiling: the labels of both sides and their table, into lent buffers.
+// The lent buffers: the labels of both sides and their table, written once all of them are known.
+ghost use mathlib.Core.Path.{_≡_};
+ghost use mathlib.Core.Bool.{true};
+ghost use Prim.Native.Nat.{ℕ, _*_, _/_, _%_, _≤_, _<_};
+ghost use lib.ListN.{length, getD};
+ghost use Rattle.basis.specs.Lists.{over};
+ghost use Rattle.basis.specs.Numbers.{upTo};
+ghost use Rattle.policy.specs.Limits.{mostSets};
+ghost use Rattle.policy.specs.Value.{policyOf};
+ghost use Rattle.policy.specs.Valid.{valid};
+ghost use Rattle.policy.specs.declared.value.PolicyValue.{PolicyValue};
+ghost use Rattle.labels.specs.Compile.{lent, Compiles};
+ghost use Rattle.labels.specs.Inner.Grid.{cell, Inside, GridOf};
+
 use crate::Compiled;
 use crate::Counts;
 use crate::ObjectLabel;
 use crate::UserLabel;
 use crate::classify::classify;
 use crate::grid;
-use crate::grid::PLACES;
 use crate::grid::View;
-use crate::rows;
-use crate::rows::SETS;
+use policy::limits::MOST_PAIRS;
+use policy::limits::MOST_SETS;
 use policy::refusal::Refusal;
-use policy::value::PolicyValue;
-ghost use mathlib.Core.Path.{_≡_};
-ghost use mathlib.Core.Bool.{true};
-ghost use Prim.Native.Nat.{ℕ, _+_, _*_, _/_, _%_, _≤_, _<_};
-ghost use lib.ListN.{length, getD};
-ghost use Rattle.basis.specs.Lists.{over};
-ghost use Rattle.basis.specs.Numbers.{upTo};
-ghost use Rattle.policy.specs.Value.{policyOf};
-ghost use Rattle.policy.specs.Valid.{valid};
-ghost use Rattle.policy.specs.declared.value.PolicyValue.{PolicyValue};
-ghost use Rattle.policy.specs.Limits.{mostSets};
-ghost use Rattle.labels.specs.Grid.{cell, Inside, GridOf};
-ghost use Rattle.labels.specs.Compile.{lent, Compiles};
-
-// Where the table has the entry of two labels, with `objects` object labels to a row; any numbers will do.
-pub fn place(user: UserLabel, object: ObjectLabel, objects: u32) -> usize
-    ensures { λ r. ⌜ r ≡ user .0 * objects + object .0 ⌝ }
-{
-    user.0 as usize * objects as usize + object.0 as usize
-}
 
 // Puts the first n of some labels at the start of a lent buffer.
-fn put_labels(buffer: &mut [u8], labels: &[u8; SETS], n: usize)
+fn put_labels(buffer: &mut [u8], labels: &[u8; MOST_SETS], n: usize)
     requires { ⌜ (n ≤ mostSets) × (n ≤ length (now buffer)) ⌝ }
     ensures { λ _. ⌜ ((f : ℕ → ℕ) → ((i : ℕ) → i < n → getD (now (labels .entry)) i 0 ≡ f i) → now (buffer .exit) ≡ over (upTo f n) (now (buffer .entry))) ⌝ }
 {
@@ -44,10 +36,10 @@ fn put_labels(buffer: &mut [u8], labels: &[u8; SETS], n: usize)
 // Puts the table at the start of a lent buffer: at two labels, the entry of their leaders.
 fn put_table(
     buffer: &mut [u8],
-    grid: &[u8; PLACES],
+    grid: &[u8; MOST_PAIRS],
     view: View,
-    users: &[u8; SETS],
-    objects: &[u8; SETS],
+    users: &[u8; MOST_SETS],
+    objects: &[u8; MOST_SETS],
     counts: Counts,
 )
     requires { ⌜ Inside view × (counts .users ≤ mostSets) × (counts .objects ≤ mostSets) × (counts .users * counts .objects ≤ length (now buffer)) ⌝ }
@@ -60,15 +52,15 @@ fn put_table(
         let u = grid::wide(users[ul as usize]);
         for ol in 0..no {
             let o = grid::wide(objects[ol as usize]);
-            let at = place(UserLabel(ul as u8), ObjectLabel(ol as u8), no);
+            let at = crate::place(UserLabel(ul as u8), ObjectLabel(ol as u8), no);
             buffer[at] = grid::entry(grid, view, u, o);
         }
     }
 }
 
 // The labels of a valid policy's grid and their table, into the three buffers if these are long enough.
-fn store(
-    grid: &[u8; PLACES],
+pub fn store(
+    grid: &[u8; MOST_PAIRS],
     view: View,
     users: &mut [u8],
     objects: &mut [u8],
@@ -103,24 +95,4 @@ fn store(
     let object_leaders = object.leaders;
     put_table(table, grid, view, &user_leaders, &object_leaders, counts);
     Compiled::Stored(counts)
-}
-
-// Fills the three lent buffers with the user labels, the object labels and the table of a policy.
-pub fn compile(
-    policy: PolicyValue,
-    users: &mut [u8],
-    objects: &mut [u8],
-    table: &mut [u8],
-) -> Compiled
-    ensures { λ r. ⌜ Compiles policy (lent (now (users .entry)) (now (objects .entry)) (now (table .entry))) r (lent (now (users .exit)) (now (objects .exit)) (now (table .exit))) ⌝ }
-{
-    if !validity::check(policy) {
-        return Compiled::Refused(Refusal::InvalidState);
-    }
-    let from = rows::source_of(policy);
-    let shape = from.shape;
-    let view = grid::view_of(shape);
-    let mut entries = [0u8; PLACES];
-    grid::fill(&mut entries, from, view);
-    store(&entries, view, users, objects, table)
 }

@@ -1,4 +1,4 @@
--- `labels::apart::first_action` meets its contract: the actions passed are in both entries or in neither.
+-- `labels::telling::first_action` meets its contract: the actions passed are in both entries or in neither.
 use Prim.Native.Nat.{ℕ, _-_, _/_, _%_, _^_, _≤_, _<_}
 use mathlib.Core.Path.{_≡_}
 use native.Mathlib.Omega.{arith}
@@ -6,8 +6,8 @@ use borrow.Author.Count.{below-none, below-more}
 use borrow.Author.Needs.{needs}
 use Rattle.policy.specs.Limits.{mostActions}
 use Rattle.labels.proofs.Entries.{action-is}
-use Rattle.labels.proofs.apart.first_action.Statement.{statement}
-use Rattle.labels.proofs.apart.first_action.Tie as tie
+use Rattle.labels.proofs.telling.first_action.Statement.{statement}
+use Rattle.labels.proofs.telling.first_action.Tie as tie
 
 abbrev Inv-loop : tie.InvT-loop
 Inv-loop x y a₀ a = (a ≤ mostActions) × ((i : ℕ) → i < a → x / 2 ^ i % 2 ≡ y / 2 ^ i % 2)

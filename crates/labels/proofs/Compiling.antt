@@ -12,10 +12,10 @@ use Rattle.sets.specs.Set.{has}
 use Rattle.sets.proofs.Laws.{has-setOf}
 use Rattle.policy.specs.Limits.{actions}
 use Rattle.policy.specs.Policy.{Policy, total, sets}
-use Rattle.formula.specs.Truth.{grants}
+use Rattle.formula.specs.Truth.{at, grants}
 use Rattle.labels.specs.Labels.{leader}
 use Rattle.labels.specs.Labelling.{Labelling, userLabels, objectLabels, GrantsAlike}
-use Rattle.labels.specs.Compile.{likeUsers, likeObjects, userLabel, objectLabel, NU, NO, entry, userResult, objectResult, tableResult, compiled}
+use Rattle.labels.specs.Compile.{likeUsers, likeObjects, userLabel, objectLabel, NU, NO, entryOf, entry, userResult, objectResult, tableResult, compiled}
 use Rattle.labels.proofs.Labels.{Equivalence, labelCount-le, labelCount-positive, label-below, label-different, leader-like, leader-is, different-same}
 use Rattle.labels.proofs.Labelling.{UsersSame, ObjectsSame, usersAlike-iff, objectsAlike-iff, users-equivalence, objects-equivalence, user-label-iff, object-label-iff, users-fewest, objects-fewest}
 
@@ -75,13 +75,13 @@ module _ (p : Policy) where
 
   -- at the labels of two sets an entry has the actions that are granted
   pub has-entry : (a u o : ℕ) → a < actions (p .form) → u < sets (p .user) → o < sets (p .object)
-      → has (entry p (userLabel p u) (objectLabel p o)) a ≡ grants p a u o
-  unfolding entry
+      → has (entry p (userLabel p u) (objectLabel p o)) a ≡ grants p a (at u o)
+  unfolding entry entryOf
   has-entry a u o ha hu ho =
       let ul : ℕ = leader (likeUsers p) (sets (p .user)) (userLabel p u) in
       let ol : ℕ = leader (likeObjects p) (sets (p .object)) (objectLabel p o) in
       let b : ol < sets (p .object) = leader-is (likeObjects-equivalence _) _ (label-below (likeObjects-equivalence _) o ho) .below in
-      has-setOf (λ i. grants p i ul ol) (actions (p .form)) a ha
+      has-setOf (λ i. grants p i (at ul ol)) (actions (p .form)) a ha
       ∙ likeUsers-iff ul u .0 (leader-like (likeUsers-equivalence _) u hu) a ol ha b
       ∙ likeObjects-iff ol o .0 (leader-like (likeObjects-equivalence _) o ho) a u ha hu
 

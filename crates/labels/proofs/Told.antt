@@ -14,8 +14,10 @@ use Rattle.policy.specs.Policy.{Policy, sets}
 use Rattle.policy.specs.Value.{policyOf}
 use Rattle.policy.specs.Valid.{valid}
 use Rattle.policy.specs.declared.value.PolicyValue.{PolicyValue}
-use Rattle.labels.specs.Rows.{entryOf, entryAt, firstUnlike, firstAction}
-use Rattle.labels.specs.Compile.{likeUsers}
+use Rattle.formula.specs.Truth.{at}
+use Rattle.labels.specs.Rows.{firstUnlike}
+use Rattle.labels.specs.Inner.Rows.{entryAt, firstAction}
+use Rattle.labels.specs.Compile.{entryOf, likeUsers}
 use Rattle.labels.specs.Apart.{Separates, apartRefusal}
 use Rattle.labels.proofs.Alike.{unlike-before, unlike-at, unlike-below}
 use Rattle.labels.proofs.Entries.{entries-alike, entries-separate}
@@ -44,7 +46,7 @@ module _ (v : PolicyValue) (u w : ℕ) where
 -- ---- the rows of two user sets
 
 module _ (p : Policy) (u w n : ℕ) (xs ys : List ℕ) (objects : n ≡ sets (p .object))
-    (first-row : (o : ℕ) → o < n → getD xs o 0 ≡ entryOf p u o) (second-row : (o : ℕ) → o < n → getD ys o 0 ≡ entryOf p w o)
+    (first-row : (o : ℕ) → o < n → getD xs o 0 ≡ entryOf p (at u o)) (second-row : (o : ℕ) → o < n → getD ys o 0 ≡ entryOf p (at w o))
     (r : ℕ) (found : r ≡ firstUnlike (entryAt xs) (entryAt ys) n) where
   pub rows-tell-alike : r ≡ n → likeUsers p u w ≡ true
   rows-tell-alike e =
