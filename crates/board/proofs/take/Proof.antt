@@ -1,7 +1,7 @@
--- `runner::take` meets its contract: each case is the board's call of that name.
+-- `board::take` meets its contract: each case is the call of that name.
 use borrow.Author.Needs.{needs}
-use Rattle.runner.proofs.take.Statement.{statement}
-use Rattle.runner.proofs.take.Tie as tie
+use Rattle.board.proofs.take.Statement.{statement}
+use Rattle.board.proofs.take.Tie as tie
 
 enum-known-call : tie.Need-enum-known-call
 enum-known-call c = search needs

@@ -1,9 +1,9 @@
--- `board::settle` meets its contract, by the ruling's cases.
+-- `board::steps::settle` meets its contract, by the ruling's cases.
 use mathlib.Core.Path.{ap}
 use borrow.Author.Needs.{needs}
 use Rattle.board.specs.Inner.{refusalOf, settled}
-use Rattle.board.proofs.settle.Statement.{statement}
-use Rattle.board.proofs.settle.Tie as tie
+use Rattle.board.proofs.steps.settle.Statement.{statement}
+use Rattle.board.proofs.steps.settle.Tie as tie
 
 enum-told : tie.Need-enum-told
 enum-told c = search needs
