@@ -14,19 +14,20 @@ use borrow.Author.Tests.{leb-true, ltb-true, eqb-true, lt-ltb}
 use Rattle.basis.specs.Lists.{all, sum}
 use Rattle.basis.proofs.Bools.{and-left, and-right, or-cases}
 use Rattle.basis.proofs.Lists.{all-at, all-of}
-use Rattle.seniority.specs.Seniority.{From, Ordered}
+use Rattle.seniority.specs.Inner.{From, Ordered}
 use Rattle.seniority.specs.declared.Direct.{Direct}
 use Rattle.words.specs.declared.Word.{Word}
 use Rattle.words.specs.declared.Word.the-variants.{True, False, Holds, Compares, Not, And, Or}
 use Rattle.words.specs.declared.Holding.the-variants.{User as UserValue, Object as ObjectValue}
 use Rattle.words.specs.declared.Comparison.the-variants.{Dominates, Equals}
-use Rattle.words.specs.Word.{inDigits}
+use Rattle.words.specs.Inner.{inDigits}
 use Rattle.policy.specs.Limits.{values, actions, mostValues, userNumbers, objectNumbers, mostLines}
 use Rattle.policy.specs.Policy.{Side, Rule, Policy, total, sets, attributeOf}
 use Rattle.policy.specs.Checks.{sideSizes, sizes, widthFits, pairFits, entryFits, bothThere, wordFits}
+use Rattle.policy.specs.Value.{widthPlaces, entryPlaces, rulePlaces, linePlaces}
+use Rattle.policy.specs.Inner.Sound.{widthsSound, ruleSound, listsSound}
 use Rattle.policy.specs.declared.value.Entry.{Entry}
 use Rattle.policy.proofs.Forms.{values-most, actions-most}
-use Rattle.policy.proofs.Sound.{widthsSound, ruleSound, listsSound, WithinSide, Within}
 use Rattle.policy.proofs.Rising.{rising, head, rising-at, rising-few}
 use Rattle.policy.proofs.Parts.{lineFits, lineAbove, numberFits, numberAbove, actionAbove, SideParts, RuleParts, rule-parts, Parts, parts}
 
@@ -168,9 +169,6 @@ module _ (most : ℕ) (s : Side) (h : SideParts most s) where
   pub width-bounds : (w : ℕ) → List·Memᴰ w (s .widths) → (1 ≤ w) × (w ≤ most)
   width-bounds = widths-at most 0 (s .widths) (h .widths)
 
-  pub line-bounds : (l : Direct) → List·Memᴰ l (s .lines) → Pair s (l .senior) (l .junior)
-  line-bounds l m = pair-fits s (l .senior) (l .junior) (rising-at (lineFits s) lineAbove none (s .lines) (h .lines) l m)
-
   pub lines-ordered : Ordered (total s) (s .lines)
   lines-ordered = ordered s none (s .lines) (h .lines)
 
@@ -242,6 +240,17 @@ module _ (p : Policy) (t : Parts p) where
   rule-digits r q = all-of inDigits (r .words) (λ w m. word-digits w (all-at (wordFits (sizes p)) (r .words) (q .fit) w m))
 
 -- ---- the lists fit their arrays
+
+pub record WithinSide (s : Side) : Type 0 where
+  pub widths : length (s .widths) ≤ widthPlaces
+  pub lines : length (s .lines) ≤ linePlaces
+
+pub record Within (p : Policy) : Type 0 where
+  pub user : WithinSide (p .user)
+  pub object : WithinSide (p .object)
+  pub users : length (p .users) ≤ entryPlaces
+  pub objects : length (p .objects) ≤ entryPlaces
+  pub rules : length (p .rules) ≤ rulePlaces
 
 -- as many pairs as there are lines at most
 triangle-most : triangle mostValues ≤ mostLines

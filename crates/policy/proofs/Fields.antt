@@ -9,14 +9,15 @@ use lib.Seq.{drop-cons}
 use borrow.Author.Tests.{eqb-true, leb-true, le-leb}
 use Rattle.basis.specs.Lists.{all}
 use Rattle.basis.proofs.Bools.{and-left, and-right}
-use Rattle.text.specs.Number.{isNumber, valueOf, decimal}
+use Rattle.text.specs.Number.{isNumber, decimal}
 use Rattle.text.specs.Kind.{wordOf, layoutOf}
 use Rattle.text.specs.declared.kind.Kind.{Kind}
 use Rattle.text.specs.declared.kind.Layout.{Layout}
 use Rattle.text.specs.declared.kind.Layout.the-variants.{Bare, One, Two, Three, Formula}
 use Rattle.text.specs.declared.number.Numbers.{Numbers}
 use Rattle.text.proofs.RoundTrip.{decimal-number, decimal-value, value-decimal}
-use Rattle.words.specs.Word.{parsed, isWord, wordIn, written, inDigits}
+use Rattle.words.specs.Word.{parsed, isWord, wordIn, written}
+use Rattle.words.specs.Inner.{inDigits}
 use Rattle.words.specs.declared.Word.{Word}
 use Rattle.words.specs.declared.Parsed.{Parsed}
 use Rattle.words.specs.declared.Parsed.the-variants.{Is, Malformed}

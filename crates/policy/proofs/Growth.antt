@@ -19,8 +19,8 @@ use Rattle.words.specs.declared.Word.{Word}
 use Rattle.policy.specs.Limits.{values, actions, userNumbers, objectNumbers, mostWords}
 use Rattle.policy.specs.Policy.{Side, Rule, Policy, total}
 use Rattle.policy.specs.Checks.{sideSizes, sizes, widthFits, pairFits, entryFits, inRange, pairRises, entryRises, ruleRises, rises, widthsEqual, balances, withWidth, withLine, withEntry, withRules, extended}
+use Rattle.policy.specs.Inner.Sound.{widthsSound, ruleSound}
 use Rattle.policy.specs.declared.value.Entry.{Entry}
-use Rattle.policy.proofs.Sound.{widthsSound, ruleSound}
 use Rattle.policy.proofs.Rising.{rising, rising-more, rising-same}
 use Rattle.policy.proofs.Parts.{lineFits, lineAbove, numberFits, numberAbove, actionAbove, SideParts, Parts}
 use Rattle.policy.proofs.Bounds.{widths-more}

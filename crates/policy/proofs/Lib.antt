@@ -17,7 +17,6 @@ pub mod RoundTrip
 pub mod Same
 pub mod Shorts
 pub mod SoFar
-pub mod Sound
 pub mod Valid
 pub mod Values
 pub mod Written

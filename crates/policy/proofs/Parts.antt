@@ -13,8 +13,8 @@ use Rattle.seniority.specs.declared.Direct.{Direct}
 use Rattle.policy.specs.Limits.{isForm, values, actions, userNumbers, objectNumbers, mostWords}
 use Rattle.policy.specs.Policy.{Side, Rule, Policy, total}
 use Rattle.policy.specs.Checks.{sideSizes, sizes, pairFits, pairAbove, entryFits, wordFits, widthsEqual, balanced}
+use Rattle.policy.specs.Inner.Sound.{widthsSound, linesSound, entriesSound, ruleSound, rulesSound, sideSound, listsSound, sound}
 use Rattle.policy.specs.declared.value.Entry.{Entry}
-use Rattle.policy.proofs.Sound.{widthsSound, linesSound, entriesSound, ruleSound, rulesSound, sideSound, listsSound, sound}
 use Rattle.policy.proofs.Rising.{rising}
 
 -- ---- lists that rise

@@ -24,9 +24,9 @@ use Rattle.policy.specs.Policy.{Policy, blank}
 use Rattle.policy.specs.Line.{allowed, countFits, wordsOf, lineOf}
 use Rattle.policy.specs.Checks.{sizes, inRange, extended}
 use Rattle.policy.specs.Read.{State, start, after, lineRefusal, lineAfter}
-use Rattle.policy.proofs.Sound.{widthsSound, linesSound, entriesSound, rulesSound, sideSound, listsSound, sound, Within}
+use Rattle.policy.specs.Inner.Sound.{widthsSound, linesSound, entriesSound, rulesSound, sideSound, listsSound, sound}
 use Rattle.policy.proofs.Parts.{Parts, parts, lists-sound, is-sound}
-use Rattle.policy.proofs.Bounds.{sound-within}
+use Rattle.policy.proofs.Bounds.{Within, sound-within}
 use Rattle.policy.proofs.Order.{reached, required, May, allowed-order, cut, cut-more}
 use Rattle.policy.proofs.Growth.{Fits, parts-more}
 use Rattle.policy.proofs.Passed.{Passed, taken}

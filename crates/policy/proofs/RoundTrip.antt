@@ -13,7 +13,7 @@ use Rattle.policy.specs.Policy.{Policy}
 use Rattle.policy.specs.Line.{Line}
 use Rattle.policy.specs.Read.{Accepted, readText}
 use Rattle.policy.specs.Text.{linesOf, lineText, textOf}
-use Rattle.policy.proofs.Sound.{sound}
+use Rattle.policy.specs.Inner.Sound.{sound}
 use Rattle.policy.proofs.Parts.{parts, whole}
 use Rattle.policy.proofs.LineText.{text-lacks-feed}
 use Rattle.policy.proofs.SoFar.{soFar}

@@ -16,18 +16,18 @@ use Rattle.seniority.specs.declared.Direct.{Direct}
 use Rattle.text.specs.Kind.{layoutOf, placeOf}
 use Rattle.text.specs.declared.kind.Kind.{Kind}
 use Rattle.text.specs.declared.kind.Kind.the-variants.{Policy as PolicyKind, Uattr, Oattr, Usen, Osen, User, Object, Rule as RuleKind, End}
-use Rattle.text.specs.declared.kind.Layout.the-variants.{One, Two}
+use Rattle.text.specs.declared.kind.Layout.the-variants.{One}
 use Rattle.words.specs.declared.Word.{Word}
 use Rattle.policy.specs.Limits.{isForm, values, actions, userNumbers, objectNumbers}
-use Rattle.policy.specs.Policy.{Side, Rule, Policy, blank, total}
+use Rattle.policy.specs.Policy.{Rule, Policy, blank, total}
 use Rattle.policy.specs.Line.{Line, noNumbers, oneNumber, twoNumbers, plain, ruleLine}
 use Rattle.policy.specs.Text.{linesOf}
 use Rattle.policy.specs.Checks.{widthFits, pairFits, inRange, pairRises, entryRises, ruleRises, rises, balanced, balances, extended, withUser, withObject, withUsers, withObjects, withRules, withLineOf}
 use Rattle.policy.specs.Read.{start, ending, readLines}
+use Rattle.policy.specs.Inner.Sound.{widthsSound, ruleSound}
 use Rattle.policy.specs.declared.value.Entry.{Entry}
 use Rattle.policy.proofs.Forms.{form-few}
-use Rattle.policy.proofs.Sound.{widthsSound, ruleSound}
-use Rattle.policy.proofs.Parts.{lineFits, lineAbove, numberFits, numberAbove, actionAbove, SideParts, rule-parts, Parts, parts, Whole}
+use Rattle.policy.proofs.Parts.{lineFits, lineAbove, numberFits, numberAbove, actionAbove, rule-parts, Parts, parts, Whole}
 use Rattle.policy.proofs.Bounds.{width-head, width-tail, rule-digits}
 use Rattle.policy.proofs.Shorts.{no-short, one-short, width-short, action-short, pair-short, entry-short}
 use Rattle.policy.proofs.Order.{reached, May, order-allowed, cut}

@@ -4,7 +4,7 @@ use mathlib.Core.Path.{_≡_, refl, sym, ap, _∙_, subst}
 use mathlib.Core.Bool.{Bool, true, false, cond, not, _&&_, _||_, or-true, false≢true}
 use mathlib.Core.Logic.{_⊎_, inl, inr, ⊎-elim}
 use mathlib.Core.List.{List, [], _∷_, _++_, map, append-nil}
-use native.Mathlib.Nat.{pow-suc, pow-le-pow-right, zero-lt-suc}
+use native.Mathlib.Nat.{pow-suc}
 use native.Mathlib.Decide.{decLt}
 use native.Mathlib.Omega.{arith}
 use borrow.Author.Tests.{lt-ltb, le-ltb, le-leb, eq-eqb, ne-eqb, leb-true, eqb-true, eqb-false, not-true}
@@ -171,11 +171,7 @@ decimal-number n h =
     let l : 1 ≤ length (decimal n) = omega (arith, w .some) in
     rw (le-leb 1 (length (decimal n)) l, le-leb (length (decimal n)) mostDigits (decimal-short mostDigits n (lit< tt) h), decimal-digits n, no-lead n (decimal n) w)
 
-pub numeral-decimal : (n : ℕ) → n < 10 ^ mostDigits → numeral (decimal n) ≡ Value n
-unfolding numeral
-numeral-decimal n h = rw (decimal-number n h, decimal-value n)
-
--- what a number field says is below 10 ^ 5, and the number's digits are the field
+-- the digits of what a number field says are the field
 
 pub digit-bounds : (d : ℕ) → isDigit d ≡ true → (byte "0" ≤ d) × (d ≤ byte "9")
 digit-bounds d e =
@@ -262,13 +258,6 @@ value-decimal (d ∷ ds) e =
     let t = and-right (isDigit d) (all isDigit ds) (n .digits) in
     digits-of d ds h t
     (λ h. ⊎-elim (λ p. absurd (omega arith)) (λ p. p) (n .lead))
-
-pub value-small : (f : List ℕ) → isNumber f ≡ true → valueOf f < 10 ^ mostDigits
-value-small f e =
-    let n = number-is f e in
-    let l : 0 + length f ≤ mostDigits = omega (arith, n .most) in
-    let p : 10 ^ (0 + length f) ≤ 10 ^ mostDigits = pow-le-pow-right (zero-lt-suc 9) l in
-    omega (arith, value-lt 0 0 f (n .digits) (lit< tt))
 
 said : (b : Bool) (v n : ℕ) → cond b (Value v) Malformed ≡ Value n → (b ≡ true) × (v ≡ n)
 said true v n e = (refl, cc)

@@ -1,6 +1,6 @@
 -- Policies whose lines pass checks 6 to 9 one after the other, by a test for each list. Reading yields exactly these, and check 11 tests for
 -- them; nothing here is needed to say what reading or check 11 means.
-use Prim.Native.Nat.{ℕ, _+_, _≤_}
+use Prim.Native.Nat.{ℕ, _+_}
 use mathlib.Core.Bool.{Bool, true, _&&_}
 use mathlib.Core.List.{List, [], _∷_}
 use mathlib.Core.Option.{Option, none, some}
@@ -12,7 +12,6 @@ use Rattle.seniority.specs.declared.Direct.{Direct}
 use Rattle.policy.specs.Limits.{isForm, values, actions, userNumbers, objectNumbers, mostWords}
 use Rattle.policy.specs.Policy.{Side, Rule, Policy, total}
 use Rattle.policy.specs.Checks.{sideSizes, sizes, widthFits, pairFits, pairAbove, entryFits, wordFits, widthsEqual, balanced}
-use Rattle.policy.specs.Value.{widthPlaces, entryPlaces, rulePlaces, linePlaces}
 use Rattle.policy.specs.declared.value.Entry.{Entry}
 
 -- widths after others that sum to n
@@ -58,15 +57,3 @@ listsSound p =
 unfoldable pub sound : Policy → Bool
 sound p =
     isForm (p .form) && (leb 1 (length (p .user .widths)) && (leb 1 (length (p .object .widths)) && listsSound p))
-
--- the lists fit their arrays
-pub record WithinSide (s : Side) : Type 0 where
-  pub widths : length (s .widths) ≤ widthPlaces
-  pub lines : length (s .lines) ≤ linePlaces
-
-pub record Within (p : Policy) : Type 0 where
-  pub user : WithinSide (p .user)
-  pub object : WithinSide (p .object)
-  pub users : length (p .users) ≤ entryPlaces
-  pub objects : length (p .objects) ≤ entryPlaces
-  pub rules : length (p .rules) ≤ rulePlaces
