@@ -1,11 +1,10 @@
 -- What a function that writes at the start of a lent buffer does, and the texts that the parts of a line are.
-use Prim.Native.Nat.{ℕ, _+_, _/_, _%_, _≤_}
+use Prim.Native.Nat.{ℕ, _≤_}
 use mathlib.Core.Path.{_≡_}
 use mathlib.Core.Bool.{Bool, _&&_}
 use mathlib.Core.List.{List, [], _∷_, _++_}
 use lib.Dec.{leb}
 use lib.ListN.{length, take}
-use Rattle.basis.specs.Bytes.{byte}
 use Rattle.basis.specs.Lists.{all, over}
 use Rattle.seniority.specs.declared.Direct.{Direct}
 use Rattle.text.specs.Number.{decimal}
@@ -30,11 +29,6 @@ pub record Put (t entry exit : List ℕ) (r : ℕ) : Type 0 where
 -- a field after the first
 abbrev pub field : List ℕ → List ℕ
 field f = comma ∷ f
-
--- the last five digits of a number
-abbrev pub fiveDigits : ℕ → List ℕ
-fiveDigits n =
-    (byte "0" + n / 10000 % 10) ∷ (byte "0" + n / 1000 % 10) ∷ (byte "0" + n / 100 % 10) ∷ (byte "0" + n / 10 % 10) ∷ (byte "0" + n % 10) ∷ []
 
 -- a word's bytes
 pub record Spelt (t : List ℕ) (s : Spelling) : Type 0 where
