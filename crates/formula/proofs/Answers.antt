@@ -16,10 +16,10 @@ use Rattle.policy.specs.declared.value.PolicyValue.{PolicyValue}
 use Rattle.formula.specs.Truth.{grants}
 use Rattle.formula.specs.Decide.{lacking, decide}
 use Rattle.formula.specs.Lane.{ShapeOf}
-use Rattle.policy.specs.Limits.{mostValues, mostActions}
+use Rattle.policy.specs.Limits.{actions, mostValues}
 use Rattle.formula.specs.declared.shape.Shape.{Shape}
 
--- sets that their sides have are sets of at most 7 values
+-- sets that their sides have are sets of the most values
 pub sets-fit : (p : Policy) (s : Shape) → ShapeOf p s → (u o : ℕ) → lacking p u o ≡ false → (u < 2 ^ mostValues) × (o < 2 ^ mostValues)
 sets-fit p s x u o e =
     let h = or-neither (leb (sets (p .user)) u) (leb (sets (p .object)) o) e in (
@@ -33,15 +33,15 @@ module _ (v : PolicyValue) (a u o : ℕ) where
   invalid e = rw e
 
   module _ (e : valid v ≡ true) where
-    pub no-action : mostActions ≤ a → refused 12 ≡ decide v a u o
-    unfolding decide lowest
-    no-action h = rw (e, le-leb mostActions a h)
+    pub no-action : actions (v .form) ≤ a → refused 12 ≡ decide v a u o
+    unfolding decide lowest policyOf
+    no-action h = rw (e, le-leb (actions (v .form)) a h)
 
-    pub no-set : a < mostActions → lacking (policyOf v) u o ≡ true → refused 19 ≡ decide v a u o
-    unfolding decide lowest
-    no-set h l = rw (e, lt-leb mostActions a h, l)
+    pub no-set : a < actions (v .form) → lacking (policyOf v) u o ≡ true → refused 19 ≡ decide v a u o
+    unfolding decide lowest policyOf
+    no-set h l = rw (e, lt-leb (actions (v .form)) a h, l)
 
-    pub by-formula : a < mostActions → lacking (policyOf v) u o ≡ false
+    pub by-formula : a < actions (v .form) → lacking (policyOf v) u o ≡ false
         → (r b : Bool) → r ≡ grants (policyOf v) a u o → r ≡ b → decided b ≡ decide v a u o
-    unfolding decide lowest
-    by-formula h l r b g q = rw (e, lt-leb mostActions a h, l, ← g, q)
+    unfolding decide lowest policyOf
+    by-formula h l r b g q = rw (e, lt-leb (actions (v .form)) a h, l, ← g, q)

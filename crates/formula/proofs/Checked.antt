@@ -1,29 +1,32 @@
 -- What check 11 gives the evaluator: few values, ordered lines, and rules whose actions and words fit.
+use Prim.Native.Nat.{ℕ}
 use mathlib.Core.Path.{_≡_, subst}
 use mathlib.Core.Bool.{true}
+use native.Mathlib.Nat.{lt-of-lt-of-le}
 use Rattle.basis.proofs.Padded.{take-padded, take-padded-map}
 use Rattle.basis.proofs.Places.{mapped-each}
 use Rattle.seniority.specs.Seniority.{direct}
 use Rattle.seniority.proofs.Laws.{ordered-more}
+use Rattle.policy.specs.Limits.{values, mostValues}
 use Rattle.policy.specs.Policy.{Side, Policy, total}
 use Rattle.policy.specs.Value.{rulePlaces, sideValue, ruleValue, rulesValue, noRule, valueOf, policyOf, linePlaces}
 use Rattle.policy.specs.Valid.{valid}
 use Rattle.policy.specs.declared.value.PolicyValue.{PolicyValue}
+use Rattle.policy.proofs.Forms.{actions-most}
 use Rattle.policy.proofs.Sound.{WithinSide, sound}
 use Rattle.policy.proofs.Parts.{SideParts, Parts, parts, whole}
-use Rattle.policy.proofs.Bounds.{total-most, lines-ordered, rule-bounds, parts-within}
+use Rattle.policy.proofs.Bounds.{total-few, lines-ordered, rule-bounds, parts-within}
 use Rattle.policy.proofs.Values.{side-value}
 use Rattle.policy.proofs.Valid.{valid-stored}
 use Rattle.formula.specs.Lane.{SideFits, RuleFits, RulesFit, ValueFits}
-use Rattle.policy.specs.Limits.{mostValues}
 
-side-fits : (s : Side) → SideParts mostValues s → WithinSide s → SideFits (sideValue s)
+side-fits : (form : ℕ) (s : Side) → SideParts (values form) s → WithinSide s → SideFits (sideValue s)
 unfolding sideValue
-side-fits s h w =
+side-fits form s h w =
     record {
-      most = rw (side-value s) (total-most mostValues s h);
+      most = rw (side-value s) (total-few form s h);
       lines = w .lines;
-      ordered = rw (take-padded linePlaces (direct 0 0) (s .lines)) (ordered-more (total s) mostValues (total-most mostValues s h) (s .lines) (lines-ordered mostValues s h));
+      ordered = rw (take-padded linePlaces (direct 0 0) (s .lines)) (ordered-more (total s) mostValues (total-few form s h) (s .lines) (lines-ordered (values form) s h));
     }
 
 rules-fit : (p : Policy) → Parts p → RulesFit (rulesValue (p .rules))
@@ -32,14 +35,14 @@ rules-fit p h =
     record {
       count = parts-within p h .rules;
       each = rw (take-padded-map ruleValue rulePlaces noRule (p .rules))
-          (mapped-each ruleValue RuleFits (p .rules) (λ r m. let b = rule-bounds p (p .rules) (h .rules) r m in record { action = b .action; words = b .few }));
+          (mapped-each ruleValue RuleFits (p .rules) (λ r m. let b = rule-bounds p (p .rules) (h .rules) r m in record { action = lt-of-lt-of-le (b .action) (actions-most (p .form)); words = b .few }));
     }
 
 value-fits : (p : Policy) → sound p ≡ true → ValueFits (valueOf p)
 unfolding valueOf
 value-fits p e =
     let h = parts p (whole p e .lists) in let w = parts-within p h in
-    record { user = side-fits (p .user) (h .user) (w .user); object = side-fits (p .object) (h .object) (w .object); rules = rules-fit p h }
+    record { user = side-fits (p .form) (p .user) (h .user) (w .user); object = side-fits (p .form) (p .object) (h .object) (w .object); rules = rules-fit p h }
 
 pub valid-fits : (v : PolicyValue) → valid v ≡ true → ValueFits v
 valid-fits v e = let s = valid-stored v e in subst ValueFits (s .0) (value-fits (policyOf v) (s .1))

@@ -28,7 +28,7 @@ laneEntry vectors k = setOf (λ a. has (getD vectors a 0) k) mostActions
 
 pub lane-entry : (p : Policy) (vectors : List ℕ) (k u o : ℕ) → ((a : ℕ) → a < mostActions → has (getD vectors a 0) k ≡ grants p a u o)
     → laneEntry vectors k ≡ entryOf p u o
-unfolding entryOf
+unfolding entryOf actions
 lane-entry p vectors k u o h = setOf-same _ _ mostActions h
 
 -- ---- the first action at which two entries differ
@@ -70,7 +70,7 @@ module _ (p : Policy) (u w : ℕ) where
 
   pub entries-separate : (o : ℕ) → o < sets (p .object) → (entryOf p u o ≡ entryOf p w o → ⊥)
       → Separates p u w (firstAction (entryOf p u o) (entryOf p w o)) o
-  unfolding entryOf
+  unfolding entryOf actions
   entries-separate o h n =
       let a = firstAction (entryOf p u o) (entryOf p w o) in
       let l = differs (entryOf p u o) (entryOf p w o) (setOf-lt _ mostActions) (setOf-lt _ mostActions) n in

@@ -7,6 +7,7 @@ use Rattle.basis.specs.Numbers.{every, first, count, upTo}
 use Rattle.seniority.specs.Seniority.{heldOrSenior, heldOrJunior}
 use Rattle.words.specs.declared.Word.the-variants.{Holds, And}
 use Rattle.words.specs.declared.Holding.the-variants.{User, Object}
+use Rattle.policy.specs.Limits.{actions}
 use Rattle.policy.specs.Policy.{Side, Policy, total, formulaIn}
 use Rattle.formula.specs.Truth.{step, run, truth, grants}
 use Rattle.labels.specs.Labels.{lowestLike, leads, labelCount, label}
@@ -29,5 +30,5 @@ policy =
     }
 
 pub told-apart : userResult policy ≡ 0 ∷ 1 ∷ []
-unfolding any sum every first count upTo heldOrSenior heldOrJunior total formulaIn step run truth grants lowestLike leads labelCount label usersAlike likeUsers userResult
+unfolding actions any sum every first count upTo heldOrSenior heldOrJunior total formulaIn step run truth grants lowestLike leads labelCount label usersAlike likeUsers userResult
 told-apart = refl

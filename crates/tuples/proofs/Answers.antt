@@ -13,7 +13,7 @@ use Rattle.policy.specs.Valid.{valid}
 use Rattle.policy.specs.Answers.{refused, decided}
 use Rattle.policy.specs.declared.value.PolicyValue.{PolicyValue}
 use Rattle.formula.specs.Decide.{lacking}
-use Rattle.policy.specs.Limits.{mostActions}
+use Rattle.policy.specs.Limits.{actions}
 use Rattle.tuples.specs.Tuples.{stored, tuples, list, listBuffer, decideByTuples}
 
 -- ---- listing
@@ -28,18 +28,18 @@ module _ (v : PolicyValue) (a : ℕ) (buffer : List ℕ) where
   list-invalid e = rw e (refl, refl)
 
   module _ (e : valid v ≡ true) where
-    pub list-no-action : mostActions ≤ a → Listed v a buffer (refuses 12) buffer
-    unfolding list listBuffer lowest
-    list-no-action h = rw (e, le-leb mostActions a h) (refl, refl)
+    pub list-no-action : actions (v .form) ≤ a → Listed v a buffer (refuses 12) buffer
+    unfolding list listBuffer lowest policyOf
+    list-no-action h = rw (e, le-leb (actions (v .form)) a h) (refl, refl)
 
-    pub list-no-room : a < mostActions → length buffer < length (tuples (policyOf v) a) → Listed v a buffer (refuses 20) buffer
-    unfolding list listBuffer lowest
-    list-no-room h l = rw (e, lt-leb mostActions a h, lt-ltb (length buffer) (length (tuples (policyOf v) a)) l) (refl, refl)
+    pub list-no-room : a < actions (v .form) → length buffer < length (tuples (policyOf v) a) → Listed v a buffer (refuses 20) buffer
+    unfolding list listBuffer lowest policyOf
+    list-no-room h l = rw (e, lt-leb (actions (v .form)) a h, lt-ltb (length buffer) (length (tuples (policyOf v) a)) l) (refl, refl)
 
-    pub list-stored : a < mostActions → length (tuples (policyOf v) a) ≤ length buffer
+    pub list-stored : a < actions (v .form) → length (tuples (policyOf v) a) ≤ length buffer
         → Listed v a buffer (gives (length (tuples (policyOf v) a))) (over (tuples (policyOf v) a) buffer)
-    unfolding list listBuffer lowest
-    list-stored h l = rw (e, lt-leb mostActions a h, le-ltb (length buffer) (length (tuples (policyOf v) a)) l) (refl, refl)
+    unfolding list listBuffer lowest policyOf
+    list-stored h l = rw (e, lt-leb (actions (v .form)) a h, le-ltb (length buffer) (length (tuples (policyOf v) a)) l) (refl, refl)
 
 -- ---- deciding
 
