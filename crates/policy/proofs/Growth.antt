@@ -4,15 +4,17 @@ use mathlib.Core.Path.{_≡_, refl, fun-ext}
 use mathlib.Core.Bool.{true}
 use mathlib.Core.List.{List, [], _∷_, _++_}
 use mathlib.Core.Option.{none}
-use lib.Dec.{ltb, lit≤}
+use native.Mathlib.Omega.{arith}
+use lib.Dec.{ltb}
 use lib.ListN.{length}
 use borrow.Author.Tests.{le-leb}
 use Rattle.basis.specs.Lists.{all}
 use Rattle.basis.proofs.Bools.{and-left, and-right}
 use Rattle.seniority.specs.Seniority.{direct}
-use Rattle.text.specs.Kind.{placeOf}
+use Rattle.text.specs.Kind.{layoutOf, placeOf}
 use Rattle.text.specs.declared.kind.Kind.{Kind}
 use Rattle.text.specs.declared.kind.Kind.the-variants.{Policy as PolicyKind, Uattr, Oattr, Usen, Osen, User, Object, Rule as RuleKind, End}
+use Rattle.text.specs.declared.number.Numbers.{Numbers}
 use Rattle.words.specs.declared.Word.{Word}
 use Rattle.words.specs.declared.Word.the-variants.{True, False, Holds, Compares, Not, And, Or}
 use Rattle.words.specs.declared.Holding.the-variants.{User as UserValue, Object as ObjectValue}
@@ -74,47 +76,48 @@ module _ (p : Policy) (rs : List Rule) where
 
 -- ---- one line
 
--- checks 6 to 9 of a line pass, and it has no more words than a rule may have
-pub record Fits (k : Kind) (p : Policy) (n m : ℕ) (ws : List Word) : Type 0 where
-  pub range : inRange k p n m ws ≡ true
-  pub rise : rises k p n m ≡ true
+-- checks 6 to 9 of a line pass, and it has no more words than a formula may have
+pub record Fits (k : Kind) (p : Policy) (n : Numbers) (ws : List Word) : Type 0 where
+  pub range : inRange k p n ws ≡ true
+  pub rise : rises k p n ≡ true
   pub equal : all (widthsEqual p) ws ≡ true
-  pub balance : balances k ws ≡ true
+  pub balance : balances (layoutOf k) ws ≡ true
   pub few : length ws ≤ mostWords
 
 -- a line with no words
-pub plain-fits : (k : Kind) (p : Policy) (n m : ℕ) → inRange k p n m [] ≡ true → rises k p n m ≡ true → balances k [] ≡ true → Fits k p n m []
+pub plain-fits : (k : Kind) (p : Policy) (n : Numbers) → inRange k p n [] ≡ true → rises k p n ≡ true → balances (layoutOf k) [] ≡ true → Fits k p n []
 unfolding all
-plain-fits k p n m f a b = record { range = f; rise = a; equal = refl; balance = b; few = lit≤ tt }
+plain-fits k p n f a b = record { range = f; rise = a; equal = refl; balance = b; few = omega arith }
 
-pub more-rules : (p : Policy) (a m : ℕ) (ws : List Word) → let r : Rule = record { action = a; words = ws } in
-    rising (ruleSound p) actionAbove none (p .rules) ≡ true → Fits RuleKind p a m ws
+pub more-rules : (p : Policy) (n : Numbers) (ws : List Word) → let r : Rule = record { action = n .first; words = ws } in
+    rising (ruleSound p) actionAbove none (p .rules) ≡ true → Fits RuleKind p n ws
     → rising (ruleSound (withRules (p .rules ++ (r ∷ [])) p)) actionAbove none (p .rules ++ (r ∷ [])) ≡ true
 unfolding ruleSound inRange rises ruleRises balances
-more-rules p a m ws h f =
+more-rules p n ws h f =
+    let a = n .first in
     let r : Rule = record { action = a; words = ws } in
     let rs = p .rules ++ (r ∷ []) in
     let c : ruleSound p r ≡ true = rw (le-leb (length ws) mostWords (f .few), and-left (ltb a (actions (p .form))) _ (f .range), and-right (ltb a (actions (p .form))) _ (f .range), f .equal, f .balance) in
     rw (rising-same (ruleSound (withRules rs p)) (ruleSound p) actionAbove (rule-same p rs) none rs)
     (rising-more (ruleSound p) actionAbove (p .rules) r h c (f .rise))
 
-pub parts-more : (k : Kind) (n m : ℕ) (ws : List Word) (p : Policy) → let q = cut (suc (placeOf k)) p in
-    Parts q → Fits k q n m ws → Parts (extended k n m ws q)
+pub parts-more : (k : Kind) (n : Numbers) (ws : List Word) (p : Policy) → let q = cut (suc (placeOf k)) p in
+    Parts q → Fits k q n ws → Parts (extended k n ws q)
 unfolding extended inRange rises cut rising widthsSound
-parts-more PolicyKind n m ws p t f =
+parts-more PolicyKind n ws p t f =
     record { user = record { widths = refl; lines = refl }; object = record { widths = refl; lines = refl }; users = refl; objects = refl; rules = refl }
-parts-more Uattr n m ws p t f =
-    record { user = more-widths (values (p .form)) (p .user .widths) n (t .user) (f .range); object = t .object; users = refl; objects = refl; rules = refl }
-parts-more Oattr n m ws p t f =
-    record { user = t .user; object = more-widths (values (p .form)) (p .object .widths) n (t .object) (f .range); users = refl; objects = refl; rules = refl }
-parts-more Usen n m ws p t f =
-    record { user = more-lines (values (p .form)) _ n m (t .user) (f .range) (f .rise); object = t .object; users = refl; objects = refl; rules = refl }
-parts-more Osen n m ws p t f =
-    record { user = t .user; object = more-lines (values (p .form)) _ n m (t .object) (f .range) (f .rise); users = refl; objects = refl; rules = refl }
-parts-more User n m ws p t f =
-    record { user = t .user; object = t .object; users = more-entries userNumbers _ (p .users) n m (t .users) (f .range) (f .rise); objects = refl; rules = refl }
-parts-more Object n m ws p t f =
-    record { user = t .user; object = t .object; users = t .users; objects = more-entries objectNumbers _ (p .objects) n m (t .objects) (f .range) (f .rise); rules = refl }
-parts-more RuleKind n m ws p t f =
-    record { user = t .user; object = t .object; users = t .users; objects = t .objects; rules = more-rules (cut (suc (placeOf RuleKind)) p) n m ws (t .rules) f }
-parts-more End n m ws p t f = t
+parts-more Uattr n ws p t f =
+    record { user = more-widths (values (p .form)) (p .user .widths) (n .first) (t .user) (f .range); object = t .object; users = refl; objects = refl; rules = refl }
+parts-more Oattr n ws p t f =
+    record { user = t .user; object = more-widths (values (p .form)) (p .object .widths) (n .first) (t .object) (f .range); users = refl; objects = refl; rules = refl }
+parts-more Usen n ws p t f =
+    record { user = more-lines (values (p .form)) _ (n .first) (n .second) (t .user) (f .range) (f .rise); object = t .object; users = refl; objects = refl; rules = refl }
+parts-more Osen n ws p t f =
+    record { user = t .user; object = more-lines (values (p .form)) _ (n .first) (n .second) (t .object) (f .range) (f .rise); users = refl; objects = refl; rules = refl }
+parts-more User n ws p t f =
+    record { user = t .user; object = t .object; users = more-entries userNumbers _ (p .users) (n .first) (n .second) (t .users) (f .range) (f .rise); objects = refl; rules = refl }
+parts-more Object n ws p t f =
+    record { user = t .user; object = t .object; users = t .users; objects = more-entries objectNumbers _ (p .objects) (n .first) (n .second) (t .objects) (f .range) (f .rise); rules = refl }
+parts-more RuleKind n ws p t f =
+    record { user = t .user; object = t .object; users = t .users; objects = t .objects; rules = more-rules (cut (suc (placeOf RuleKind)) p) n ws (t .rules) f }
+parts-more End n ws p t f = t

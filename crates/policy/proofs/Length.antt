@@ -10,13 +10,12 @@ use Rattle.text.specs.declared.kind.Kind.the-variants.{Policy as PolicyKind, Ua
 use Rattle.words.specs.Word.{written}
 use Rattle.policy.specs.Limits.{textBytes}
 use Rattle.policy.specs.Policy.{Rule, Policy}
-use Rattle.policy.specs.Line.{Line, plain, ruleLine}
-use Rattle.policy.specs.Text.{laterFields, lineText, textOf}
+use Rattle.policy.specs.Line.{Line, noNumbers, oneNumber, twoNumbers, plain, ruleLine}
+use Rattle.policy.specs.Text.{laterFields, fieldsOf, lineText, textOf}
 use Rattle.policy.specs.declared.value.Entry.{Entry}
 use Rattle.policy.proofs.Parts.{Parts}
 use Rattle.policy.proofs.Bounds.{parts-within, rule-bounds}
 use Rattle.policy.proofs.Groups.{groups, linesFrom, lines-from}
-use Rattle.policy.proofs.Fields.{fieldsOf}
 use Rattle.policy.proofs.LineText.{line-short}
 
 -- the bytes of some lines, each with its line feed
@@ -44,13 +43,13 @@ module _ (p : Policy) (t : Parts p) where
   unfolding size textOf laterFields linesFrom groups linesText
   parts-short =
       let w = parts-within p t in
-      let s₈ : size (linesFrom End p) ≤ 22 = omega (arith, size-cons (plain End 0 0) []) in
+      let s₈ : size (linesFrom End p) ≤ 22 = omega (arith, size-cons (plain End noNumbers) []) in
       let s₇ = size-lines (λ (r : Rule). ruleLine (r .action) (r .words)) 34 (p .rules) (linesFrom End p) rule-fields in
-      let s₆ = size-lines (λ (e : Entry). plain Object (e .number) (e .set)) 3 (p .objects) (linesFrom RuleKind p) (λ e m. omega arith) in
-      let s₅ = size-lines (λ (e : Entry). plain User (e .number) (e .set)) 3 (p .users) (linesFrom Object p) (λ e m. omega arith) in
-      let s₄ = size-lines (λ (l : Direct). plain Osen (l .senior) (l .junior)) 3 (p .object .lines) (linesFrom User p) (λ l m. omega arith) in
-      let s₃ = size-lines (λ (l : Direct). plain Usen (l .senior) (l .junior)) 3 (p .user .lines) (linesFrom Osen p) (λ l m. omega arith) in
-      let s₂ = size-lines (λ (n : ℕ). plain Oattr n 0) 2 (p .object .widths) (linesFrom Usen p) (λ n m. omega arith) in
-      let s₁ = size-lines (λ (n : ℕ). plain Uattr n 0) 2 (p .user .widths) (linesFrom Oattr p) (λ n m. omega arith) in
-      let s₀ = size-cons (plain PolicyKind (p .form) 0) (linesFrom Uattr p) in
+      let s₆ = size-lines (λ (e : Entry). plain Object (twoNumbers (e .number) (e .set))) 3 (p .objects) (linesFrom RuleKind p) (λ e m. omega arith) in
+      let s₅ = size-lines (λ (e : Entry). plain User (twoNumbers (e .number) (e .set))) 3 (p .users) (linesFrom Object p) (λ e m. omega arith) in
+      let s₄ = size-lines (λ (l : Direct). plain Osen (twoNumbers (l .senior) (l .junior))) 3 (p .object .lines) (linesFrom User p) (λ l m. omega arith) in
+      let s₃ = size-lines (λ (l : Direct). plain Usen (twoNumbers (l .senior) (l .junior))) 3 (p .user .lines) (linesFrom Osen p) (λ l m. omega arith) in
+      let s₂ = size-lines (λ (n : ℕ). plain Oattr (oneNumber n)) 2 (p .object .widths) (linesFrom Usen p) (λ n m. omega arith) in
+      let s₁ = size-lines (λ (n : ℕ). plain Uattr (oneNumber n)) 2 (p .user .widths) (linesFrom Oattr p) (λ n m. omega arith) in
+      let s₀ = size-cons (plain PolicyKind (oneNumber (p .form))) (linesFrom Uattr p) in
       rw (lines-from p) (omega arith)

@@ -11,16 +11,17 @@ use Rattle.basis.specs.Lists.{all}
 use Rattle.basis.proofs.Bools.{and-left, and-right}
 use Rattle.text.specs.Number.{decimal}
 use Rattle.text.specs.Parts.{comma, lineFeed, join, fields}
-use Rattle.text.specs.Kind.{wordOf}
+use Rattle.text.specs.Kind.{wordOf, layoutOf}
 use Rattle.text.specs.declared.kind.Kind.{Kind}
-use Rattle.text.specs.declared.kind.Kind.the-variants.{Policy as PolicyKind, Uattr, Oattr, Usen, Osen, User, Object, Rule as RuleKind, End}
+use Rattle.text.specs.declared.kind.Layout.{Layout}
+use Rattle.text.specs.declared.kind.Layout.the-variants.{Bare, One, Two, Three, Formula}
+use Rattle.text.specs.declared.number.Numbers.{Numbers}
 use Rattle.text.proofs.RoundTrip.{decimal-short, decimal-lacks-comma, decimal-lacks-feed, lacks, split-join, word-lacks-comma, word-lacks-feed, word-short}
 use Rattle.words.specs.Word.{written}
 use Rattle.words.specs.declared.Word.{Word}
 use Rattle.words.proofs.RoundTrip.{written-short, written-lacks-comma, written-lacks-feed}
 use Rattle.policy.specs.Line.{Line}
-use Rattle.policy.specs.Text.{laterFields, lineText}
-use Rattle.policy.proofs.Fields.{fieldsOf}
+use Rattle.policy.specs.Text.{laterFields, fieldsOf, lineText}
 
 -- a test that kind words, numbers and words pass is passed by each field
 module _ (f : List ℕ → Bool) (hk : (k : Kind) → f (wordOf k) ≡ true) (hn : (n : ℕ) → f (decimal n) ≡ true) (hw : (w : Word) → f (written w) ≡ true) where
@@ -29,21 +30,17 @@ module _ (f : List ℕ → Bool) (hk : (k : Kind) → f (wordOf k) ≡ true) (hn
   each-word [] = refl
   each-word (w ∷ ws) = rw (hw w) (each-word ws)
 
-  each-later : (k : Kind) (l : Line) → all f (laterFields k l) ≡ true
+  each-later : (x : Layout) (n : Numbers) (ws : List Word) → all f (laterFields x n ws) ≡ true
   unfolding all laterFields
-  each-later PolicyKind l = rw (hn (l .first))
-  each-later Uattr l = rw (hn (l .first))
-  each-later Oattr l = rw (hn (l .first))
-  each-later Usen l = rw (hn (l .first), hn (l .second))
-  each-later Osen l = rw (hn (l .first), hn (l .second))
-  each-later User l = rw (hn (l .first), hn (l .second))
-  each-later Object l = rw (hn (l .first), hn (l .second))
-  each-later RuleKind l = rw (hn (l .first)) (each-word (l .words))
-  each-later End l = refl
+  each-later Bare n ws = refl
+  each-later One n ws = rw (hn (n .first))
+  each-later Two n ws = rw (hn (n .first), hn (n .second))
+  each-later Three n ws = rw (hn (n .first), hn (n .second), hn (n .third))
+  each-later Formula n ws = rw (hn (n .first)) (each-word ws)
 
   each-field : (l : Line) → all f (fieldsOf l) ≡ true
   unfolding all
-  each-field l = rw (hk (l .kind)) (each-later (l .kind) l)
+  each-field l = rw (hk (l .kind)) (each-later (layoutOf (l .kind)) (l .numbers) (l .words))
 
 -- the text is parted into the fields
 pub fields-text : (l : Line) → fields (lineText l) ≡ fieldsOf l

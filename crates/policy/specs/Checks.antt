@@ -8,8 +8,12 @@ use Rattle.basis.specs.Choice.{given}
 use Rattle.basis.specs.Lists.{all, last}
 use Rattle.seniority.specs.Seniority.{direct}
 use Rattle.seniority.specs.declared.Direct.{Direct}
+use Rattle.text.specs.Kind.{layoutOf}
 use Rattle.text.specs.declared.kind.Kind.{Kind}
 use Rattle.text.specs.declared.kind.Kind.the-variants.{Policy as PolicyKind, Uattr, Oattr, Usen, Osen, User, Object, Rule as RuleKind, End}
+use Rattle.text.specs.declared.kind.Layout.{Layout}
+use Rattle.text.specs.declared.kind.Layout.the-variants.{Bare, One, Two, Three, Formula}
+use Rattle.text.specs.declared.number.Numbers.{Numbers}
 use Rattle.words.specs.declared.Word.{Word}
 use Rattle.words.specs.declared.Word.the-variants.{True, False, Holds, Compares, Not, And, Or}
 use Rattle.words.specs.declared.Holding.the-variants.{User as UserValue, Object as ObjectValue}
@@ -49,16 +53,16 @@ wordFits p Not = true
 wordFits p And = true
 wordFits p Or = true
 
-unfoldable pub inRange : Kind → Policy → ℕ → ℕ → List Word → Bool
-inRange PolicyKind p form m ws = isForm form
-inRange Uattr p w m ws = widthFits (values (p .form)) (p .user) w
-inRange Oattr p w m ws = widthFits (values (p .form)) (p .object) w
-inRange Usen p v j ws = pairFits (p .user) v j
-inRange Osen p v j ws = pairFits (p .object) v j
-inRange User p n s ws = entryFits userNumbers (p .user) n s
-inRange Object p n s ws = entryFits objectNumbers (p .object) n s
-inRange RuleKind p a m ws = ltb a (actions (p .form)) && all (wordFits p) ws
-inRange End p n m ws = true
+unfoldable pub inRange : Kind → Policy → Numbers → List Word → Bool
+inRange PolicyKind p n ws = isForm (n .first)
+inRange Uattr p n ws = widthFits (values (p .form)) (p .user) (n .first)
+inRange Oattr p n ws = widthFits (values (p .form)) (p .object) (n .first)
+inRange Usen p n ws = pairFits (p .user) (n .first) (n .second)
+inRange Osen p n ws = pairFits (p .object) (n .first) (n .second)
+inRange User p n ws = entryFits userNumbers (p .user) (n .first) (n .second)
+inRange Object p n ws = entryFits objectNumbers (p .object) (n .first) (n .second)
+inRange RuleKind p n ws = ltb (n .first) (actions (p .form)) && all (wordFits p) ws
+inRange End p n ws = true
 
 -- ---- 7: "The line does not rise above the last of its kind."
 
@@ -76,16 +80,16 @@ entryRises es n = given (last es) true (λ e. ltb (e .number) n)
 unfoldable pub ruleRises : List Rule → ℕ → Bool
 ruleRises rs a = given (last rs) true (λ r. ltb (r .action) a)
 
-unfoldable pub rises : Kind → Policy → ℕ → ℕ → Bool
-rises PolicyKind p n m = true
-rises Uattr p n m = true
-rises Oattr p n m = true
-rises Usen p v j = pairRises (p .user) v j
-rises Osen p v j = pairRises (p .object) v j
-rises User p n m = entryRises (p .users) n
-rises Object p n m = entryRises (p .objects) n
-rises RuleKind p a m = ruleRises (p .rules) a
-rises End p n m = true
+unfoldable pub rises : Kind → Policy → Numbers → Bool
+rises PolicyKind p n = true
+rises Uattr p n = true
+rises Oattr p n = true
+rises Usen p n = pairRises (p .user) (n .first) (n .second)
+rises Osen p n = pairRises (p .object) (n .first) (n .second)
+rises User p n = entryRises (p .users) (n .first)
+rises Object p n = entryRises (p .objects) (n .first)
+rises RuleKind p n = ruleRises (p .rules) (n .first)
+rises End p n = true
 
 -- ---- 8: "A comparison names attributes of unequal width."
 
@@ -119,17 +123,13 @@ unfoldable pub balanced : ℕ → List Word → Bool
 balanced d [] = eqb d 1
 balanced d (w ∷ ws) = leb (takes w) d && balanced (d - takes w + 1) ws
 
--- only a rule's words can break 9
-unfoldable pub balances : Kind → List Word → Bool
-balances PolicyKind ws = true
-balances Uattr ws = true
-balances Oattr ws = true
-balances Usen ws = true
-balances Osen ws = true
-balances User ws = true
-balances Object ws = true
-balances RuleKind ws = balanced 0 ws
-balances End ws = true
+-- only a layout with words can break 9
+unfoldable pub balances : Layout → List Word → Bool
+balances Bare ws = true
+balances One ws = true
+balances Two ws = true
+balances Three ws = true
+balances Formula ws = balanced 0 ws
 
 -- ---- what an accepted line adds
 
@@ -160,30 +160,30 @@ withRules rs p = record { form = p .form; user = p .user; object = p .object; us
 abbrev pub withForm : ℕ → Policy → Policy
 withForm n p = record { form = n; user = p .user; object = p .object; users = p .users; objects = p .objects; rules = p .rules }
 
-unfoldable pub extended : Kind → ℕ → ℕ → List Word → Policy → Policy
-extended PolicyKind n m ws p = withForm n p
-extended Uattr w m ws p = withUser (withWidth w (p .user)) p
-extended Oattr w m ws p = withObject (withWidth w (p .object)) p
-extended Usen v j ws p = withUser (withLine v j (p .user)) p
-extended Osen v j ws p = withObject (withLine v j (p .object)) p
-extended User n s ws p = withUsers (withEntry n s (p .users)) p
-extended Object n s ws p = withObjects (withEntry n s (p .objects)) p
-extended RuleKind a m ws p = withRules (p .rules ++ (record { action = a; words = ws } ∷ [])) p
-extended End n m ws p = p
+unfoldable pub extended : Kind → Numbers → List Word → Policy → Policy
+extended PolicyKind n ws p = withForm (n .first) p
+extended Uattr n ws p = withUser (withWidth (n .first) (p .user)) p
+extended Oattr n ws p = withObject (withWidth (n .first) (p .object)) p
+extended Usen n ws p = withUser (withLine (n .first) (n .second) (p .user)) p
+extended Osen n ws p = withObject (withLine (n .first) (n .second) (p .object)) p
+extended User n ws p = withUsers (withEntry (n .first) (n .second) (p .users)) p
+extended Object n ws p = withObjects (withEntry (n .first) (n .second) (p .objects)) p
+extended RuleKind n ws p = withRules (p .rules ++ (record { action = n .first; words = ws } ∷ [])) p
+extended End n ws p = p
 
 -- ---- of a whole line
 
 abbrev pub lineInRange : Policy → Line → Bool
-lineInRange p l = inRange (l .kind) p (l .first) (l .second) (l .words)
+lineInRange p l = inRange (l .kind) p (l .numbers) (l .words)
 
 abbrev pub lineRises : Policy → Line → Bool
-lineRises p l = rises (l .kind) p (l .first) (l .second)
+lineRises p l = rises (l .kind) p (l .numbers)
 
 abbrev pub lineWidthsEqual : Policy → Line → Bool
 lineWidthsEqual p l = all (widthsEqual p) (l .words)
 
 abbrev pub lineBalances : Line → Bool
-lineBalances l = balances (l .kind) (l .words)
+lineBalances l = balances (layoutOf (l .kind)) (l .words)
 
 abbrev pub withLineOf : Line → Policy → Policy
-withLineOf l p = extended (l .kind) (l .first) (l .second) (l .words) p
+withLineOf l p = extended (l .kind) (l .numbers) (l .words) p

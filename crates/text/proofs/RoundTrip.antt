@@ -16,7 +16,7 @@ use Rattle.basis.proofs.Bools.{and-left, and-right, or-cases, never}
 use Rattle.basis.proofs.Lists.{all-at, all-of}
 use Rattle.basis.proofs.Same.{same-eq}
 use Rattle.text.specs.Number.{mostDigits, isDigit, digitOf, valueFrom, valueOf, isNumber, numeral, digitsBefore, decimal}
-use Rattle.text.specs.Parts.{lineFeed, comma, onto, split, join, Line, linesOf, lines, textOf}
+use Rattle.text.specs.Parts.{lineFeed, comma, onto, split, join, TextLine, linesOf, lines, textOf}
 use Rattle.text.specs.Kind.{wordOf, kinds, namedIn, named}
 use Rattle.text.specs.declared.number.Numeral.the-variants.{Value, Malformed}
 use Rattle.text.specs.declared.kind.Kind.{Kind}
@@ -294,7 +294,7 @@ join-split b (x ∷ t) = join-onto (eqb x b) b x (split b t) refl (split-pos b t
 
 -- ---- lines
 
-abbrev pub endedLine : List ℕ → Line
+abbrev pub endedLine : List ℕ → TextLine
 endedLine l = record { bytes = l; ended = true }
 
 pub lines-cons : (p : List ℕ) (ps : List (List ℕ)) → 0 < length ps → linesOf (p ∷ ps) ≡ endedLine p ∷ linesOf ps

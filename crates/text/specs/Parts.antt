@@ -35,18 +35,18 @@ join b (p ∷ []) = p
 join b (p ∷ q ∷ ps) = p ++ b ∷ join b (q ∷ ps)
 
 -- a line of a text: its bytes, and whether a line feed ends it
-pub record Line : Type 0 where
+pub record TextLine : Type 0 where
   pub bytes : List ℕ
   pub ended : Bool
 
 -- the lines of a text that is parted at its line feeds: all parts but the last are ended, and nothing after the last line feed is no line
-unfoldable pub linesOf : List (List ℕ) → List Line
+unfoldable pub linesOf : List (List ℕ) → List TextLine
 linesOf [] = []
 linesOf ([] ∷ []) = []
 linesOf ((x ∷ p) ∷ []) = record { bytes = x ∷ p; ended = false } ∷ []
 linesOf (p ∷ q ∷ ps) = record { bytes = p; ended = true } ∷ linesOf (q ∷ ps)
 
-abbrev pub lines : List ℕ → List Line
+abbrev pub lines : List ℕ → List TextLine
 lines t = linesOf (split lineFeed t)
 
 -- lines as a text, each ended by a line feed

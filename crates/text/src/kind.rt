@@ -3,7 +3,7 @@ ghost use mathlib.Core.Path.{_≡_};
 ghost use lib.Dec.{eqb};
 ghost use lib.ListN.{drop};
 ghost use Rattle.basis.specs.Lists.{same};
-ghost use Rattle.text.specs.Kind.{kinds, namedIn, named, placeOf, isKind, follows};
+ghost use Rattle.text.specs.Kind.{kinds, namedIn, named, layoutOf, placeOf, isKind, follows};
 
 pub enum Kind {
     Policy,
@@ -15,6 +15,15 @@ pub enum Kind {
     Object,
     Rule,
     End,
+}
+
+// What stands behind a kind's word: nothing, one, two or three numbers, or an action and the words of a formula.
+pub enum Layout {
+    Bare,
+    One,
+    Two,
+    Three,
+    Formula,
 }
 
 pub enum Named {
@@ -94,6 +103,22 @@ fn place(k: Kind) -> usize
         Kind::Object => 6,
         Kind::Rule => 7,
         Kind::End => 8,
+    }
+}
+
+pub fn layout_of(k: Kind) -> Layout
+    ensures { λ r. ⌜ r ≡ layoutOf k ⌝ }
+{
+    match k {
+        Kind::Policy => Layout::One,
+        Kind::Uattr => Layout::One,
+        Kind::Oattr => Layout::One,
+        Kind::Usen => Layout::Two,
+        Kind::Osen => Layout::Two,
+        Kind::User => Layout::Two,
+        Kind::Object => Layout::Two,
+        Kind::Rule => Layout::Formula,
+        Kind::End => Layout::Bare,
     }
 }
 

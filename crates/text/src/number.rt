@@ -12,6 +12,13 @@ pub enum Numeral {
     Malformed,
 }
 
+// The numbers of a line, in the order of its fields; 0 where it has none.
+pub struct Numbers {
+    pub first: u32,
+    pub second: u32,
+    pub third: u32,
+}
+
 // The value of a run of few enough digits.
 fn digits(f: &[u8]) -> Numeral
     requires { ⌜ length (now f) ≤ mostDigits ⌝ }
