@@ -10,7 +10,6 @@ use lib.ListN.{length, take, drop, set, length-drop, length-set, drop-of-length-
 use lib.Seq.{drop-cons, drop-set-lt, getD-set-same, take-all}
 use Rattle.basis.specs.Bytes.{byte}
 use Rattle.text.specs.Number.{digitsBefore, decimal}
-use Rattle.writer.specs.Put.{Room, Put, field}
 
 decimal-is : (n : ℕ) → decimal n ≡ digitsBefore (suc n) n []
 unfolding decimal

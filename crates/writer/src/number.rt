@@ -1,9 +1,8 @@
-// A number field, put at the start of a buffer.
+// A number field, put into a buffer from a place on.
 ghost use mathlib.Core.Path.{_≡_};
 ghost use Prim.Native.Nat.{_+_, _%_};
 ghost use Rattle.basis.specs.Bytes.{byte};
-ghost use Rattle.text.specs.Number.{decimal};
-ghost use Rattle.writer.specs.Put.{Room, Put, field};
+ghost use Rattle.writer.specs.Inner.Put.{Room, Put, numberField};
 use crate::bytes;
 
 // The most digits that a number has.
@@ -18,9 +17,9 @@ fn digit(n: u32) -> u8
 }
 
 // A comma and a number. Its digits are worked out from the last one on.
-pub fn put(n: u32, buf: &mut [u8]) -> usize
-    requires { ⌜ Room (field (decimal n)) (now buf) ⌝ }
-    ensures { λ r. ⌜ Put (field (decimal n)) (now (buf .entry)) (now (buf .exit)) r ⌝ }
+pub fn put(n: u32, buf: &mut [u8], at: usize) -> usize
+    requires { ⌜ Room (numberField n) at (now buf) ⌝ }
+    ensures { λ r. ⌜ Put (numberField n) at (now (buf .entry)) (now (buf .exit)) r ⌝ }
 {
     let mut digits = [0u8; DIGITS];
     let mut from = DIGITS - 1;
@@ -31,5 +30,5 @@ pub fn put(n: u32, buf: &mut [u8]) -> usize
         from -= 1;
     }
     digits[from] = digit(rest);
-    bytes::put_field(&digits[from..], buf)
+    bytes::put_field(&digits[from..], buf, at)
 }

@@ -5,10 +5,10 @@ use Rattle.writer.proofs.number.put.Statement.{statement}
 use Rattle.writer.proofs.number.put.Tie as tie
 
 abbrev Inv-loop : tie.InvT-loop
-Inv-loop n buf digits₀ from₀ rest₀ digits from rest = Behind 10 n digits from rest
+Inv-loop n buf at digits₀ from₀ rest₀ digits from rest = Behind 10 n digits from rest
 
 abbrev μ-loop : tie.MeasureT-loop
-μ-loop n buf digits₀ from₀ rest₀ digits from rest = rest
+μ-loop n buf at digits₀ from₀ rest₀ digits from rest = rest
 
 sub-from : tie.Need-sub-from Inv-loop μ-loop
 sub-from c = search needs
