@@ -13,7 +13,7 @@ use Rattle.words.specs.declared.Holding.the-variants.{User, Object}
 use Rattle.words.specs.declared.Comparison.{Comparison}
 use Rattle.words.specs.declared.Comparison.the-variants.{Dominates, Equals}
 use Rattle.policy.specs.Policy.{Side, Policy, width, start, formulaIn}
-use Rattle.policy.specs.Checks.{equalWidth}
+use Rattle.policy.specs.Checks.{sizes, equalWidth}
 
 -- "`uV`: the user set holds V or a senior of V. `oV`: the object set holds V or a junior of V."
 abbrev pub holds : Policy → ℕ → ℕ → Holding → Bool
@@ -27,9 +27,9 @@ placeHeld side i set k = has set (start side i + k)
 -- "`dIJ`: equal width, and each place held in J is held in I. `qIJ`: equal width, the same places held."
 abbrev pub compares : Policy → ℕ → ℕ → Comparison → Bool
 compares p u o (Dominates i j) =
-    equalWidth p i j && every (λ k. implies (placeHeld (p .object) j o k) (placeHeld (p .user) i u k)) (width (p .user) i)
+    equalWidth (sizes p) i j && every (λ k. implies (placeHeld (p .object) j o k) (placeHeld (p .user) i u k)) (width (p .user) i)
 compares p u o (Equals i j) =
-    equalWidth p i j && every (λ k. agree (placeHeld (p .object) j o k) (placeHeld (p .user) i u k)) (width (p .user) i)
+    equalWidth (sizes p) i j && every (λ k. agree (placeHeld (p .object) j o k) (placeHeld (p .user) i u k)) (width (p .user) i)
 
 -- the top of the stack and what lies below it; refusal 9 keeps a formula from looking below an empty stack, where false lies
 abbrev pub top : List Bool → Bool

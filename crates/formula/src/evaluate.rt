@@ -16,7 +16,7 @@ ghost use Prim.Native.Nat.{ℕ, _+_, _≤_, _<_};
 ghost use Rattle.basis.specs.Numbers.{every};
 ghost use Rattle.sets.specs.Set.{has};
 ghost use Rattle.policy.specs.Policy.{Policy, width};
-ghost use Rattle.policy.specs.Checks.{equalWidth};
+ghost use Rattle.policy.specs.Checks.{sizes, equalWidth};
 ghost use Rattle.policy.specs.Value.{wordPlaces};
 ghost use Rattle.formula.specs.Truth.{holds, placeHeld, compares, top, below, step, truth};
 ghost use Rattle.formula.specs.Lane.{lanes, ShapeOf, Stands, Pair, wordsOf, passes, column};
@@ -80,7 +80,7 @@ fn matched(
     exact: bool,
 ) -> u64
     requires { ⌜ ((p : Policy) × ShapeOf p s) ⌝ }
-    ensures { λ r. ⌜ ((p : Policy) (k u o : ℕ) → ShapeOf p s → Pair p (now (users .entry)) (now (objects .entry)) k u o → has r k ≡ (equalWidth p i j && every (λ q. passes exact (placeHeld (p .object) j o q) (placeHeld (p .user) i u q)) (width (p .user) i))) ⌝ }
+    ensures { λ r. ⌜ ((p : Policy) (k u o : ℕ) → ShapeOf p s → Pair p (now (users .entry)) (now (objects .entry)) k u o → has r k ≡ (equalWidth (sizes p) i j && every (λ q. passes exact (placeHeld (p .object) j o q) (placeHeld (p .user) i u q)) (width (p .user) i))) ⌝ }
 {
     let user = s.user;
     let object = s.object;

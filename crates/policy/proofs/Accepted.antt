@@ -22,7 +22,7 @@ use Rattle.policy.specs.Policy.{Policy}
 use Rattle.policy.specs.Line.{Line, countFits, formFits, fieldAt, lineOf}
 use Rattle.policy.specs.Read.{Accepted, Refused, kindOf, State, start, after, lineRefusal, lineAfter, ending, readLines, readText}
 use Rattle.policy.specs.Text.{linesOf, fieldsOf, lineText}
-use Rattle.policy.proofs.Sound.{sound}
+use Rattle.policy.specs.Inner.Sound.{sound}
 use Rattle.policy.proofs.Passed.{Passed, taken}
 use Rattle.policy.proofs.Reading.{Reading, reading-start, reading-next, reading-sound, none-later}
 use Rattle.policy.proofs.Fields.{later-fields}

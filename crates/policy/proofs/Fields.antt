@@ -1,23 +1,23 @@
 -- A line and its fields, both ways: accepted fields are those that their line is written as, and a line is read back from its own.
-use Prim.Native.Nat.{ℕ, zero, suc, _+_, _^_, _≤_, _<_}
+use Prim.Native.Nat.{ℕ, zero, suc, _+_, _≤_}
 use mathlib.Core.Path.{_≡_, refl, _∙_}
 use mathlib.Core.Bool.{true}
 use mathlib.Core.List.{List, [], _∷_, map}
 use native.Mathlib.Omega.{arith}
-use lib.Dec.{lit<}
 use lib.ListN.{length, drop, length-map, drop-of-length-le}
 use lib.Seq.{drop-cons}
 use borrow.Author.Tests.{eqb-true, leb-true, le-leb}
 use Rattle.basis.specs.Lists.{all}
 use Rattle.basis.proofs.Bools.{and-left, and-right}
-use Rattle.text.specs.Number.{mostDigits, isNumber, valueOf, decimal}
+use Rattle.text.specs.Number.{isNumber, decimal}
 use Rattle.text.specs.Kind.{wordOf, layoutOf}
 use Rattle.text.specs.declared.kind.Kind.{Kind}
 use Rattle.text.specs.declared.kind.Layout.{Layout}
 use Rattle.text.specs.declared.kind.Layout.the-variants.{Bare, One, Two, Three, Formula}
 use Rattle.text.specs.declared.number.Numbers.{Numbers}
 use Rattle.text.proofs.RoundTrip.{decimal-number, decimal-value, value-decimal}
-use Rattle.words.specs.Word.{parsed, isWord, wordIn, written, inDigits}
+use Rattle.words.specs.Word.{parsed, isWord, wordIn, written}
+use Rattle.words.specs.Inner.{inDigits}
 use Rattle.words.specs.declared.Word.{Word}
 use Rattle.words.specs.declared.Parsed.{Parsed}
 use Rattle.words.specs.declared.Parsed.the-variants.{Is, Malformed}
@@ -25,6 +25,7 @@ use Rattle.words.proofs.RoundTrip.{parsed-written, written-parsed}
 use Rattle.policy.specs.Limits.{mostWords}
 use Rattle.policy.specs.Line.{Line, noNumbers, oneNumber, twoNumbers, plain, fieldAt, numberAt, countFits, formFits, numbersOf, wordsOf}
 use Rattle.policy.specs.Text.{laterFields, fieldsOf}
+use Rattle.policy.proofs.Shorts.{Shorts}
 
 -- ---- from fields to a line and back to the fields
 
@@ -82,10 +83,6 @@ pub record Says (x : Layout) (fs : List (List ℕ)) (n : Numbers) (ws : List Wor
 abbrev pub Back : Line → Type 0
 Back l = Says (layoutOf (l .kind)) (fieldsOf l) (l .numbers) (l .words)
 
--- a number of at most five digits
-abbrev pub Short : ℕ → Type 0
-Short n = n < 10 ^ mostDigits
-
 -- the numbers that a layout has places for
 abbrev kept : Layout → Numbers → Numbers
 kept Bare n = noNumbers
@@ -103,9 +100,7 @@ Worded Three ws = ws ≡ []
 Worded Formula ws = (1 ≤ length ws) × (length ws ≤ mostWords) × (all inDigits ws ≡ true)
 
 pub record Made (x : Layout) (n : Numbers) (ws : List Word) : Type 0 where
-  pub first : Short (n .first)
-  pub second : Short (n .second)
-  pub third : Short (n .third)
+  pub short : Shorts n
   pub places : kept x n ≡ n
   pub worded : Worded x ws
 
@@ -126,22 +121,22 @@ module _ (word : List ℕ) (n : Numbers) (ws : List Word) where
   fields-say One m =
       record {
         count = refl;
-        form = rw (decimal-number (n .first) (m .first));
-        numbers = rw (decimal-value (n .first) (m .first)) (m .places);
+        form = rw (decimal-number (n .first) (m .short .first));
+        numbers = rw (decimal-value (n .first)) (m .places);
         words = rw (m .worded);
       }
   fields-say Two m =
       record {
         count = refl;
-        form = rw (decimal-number (n .first) (m .first), decimal-number (n .second) (m .second));
-        numbers = rw (decimal-value (n .first) (m .first), decimal-value (n .second) (m .second)) (m .places);
+        form = rw (decimal-number (n .first) (m .short .first), decimal-number (n .second) (m .short .second));
+        numbers = rw (decimal-value (n .first), decimal-value (n .second)) (m .places);
         words = rw (m .worded);
       }
   fields-say Three m =
       record {
         count = refl;
-        form = rw (decimal-number (n .first) (m .first), decimal-number (n .second) (m .second), decimal-number (n .third) (m .third));
-        numbers = rw (decimal-value (n .first) (m .first), decimal-value (n .second) (m .second), decimal-value (n .third) (m .third));
+        form = rw (decimal-number (n .first) (m .short .first), decimal-number (n .second) (m .short .second), decimal-number (n .third) (m .short .third));
+        numbers = rw (decimal-value (n .first), decimal-value (n .second), decimal-value (n .third));
         words = rw (m .worded);
       }
   fields-say Formula m =
@@ -149,8 +144,8 @@ module _ (word : List ℕ) (n : Numbers) (ws : List Word) where
       let g = m .worded .1 in
       record {
         count = rw (length-map ws written, le-leb 3 (suc (suc (length ws))) (omega arith), le-leb (suc (suc (length ws))) (2 + mostWords) (omega arith));
-        form = rw (decimal-number (n .first) (m .first), words-form ws (m .worded .2));
-        numbers = rw (decimal-value (n .first) (m .first)) (m .places);
+        form = rw (decimal-number (n .first) (m .short .first), words-form ws (m .worded .2));
+        numbers = rw (decimal-value (n .first)) (m .places);
         words = words-line ws (m .worded .2);
       }
 
@@ -158,10 +153,8 @@ pub line-back : (l : Line) → Made (layoutOf (l .kind)) (l .numbers) (l .words)
 line-back l m = fields-say (wordOf (l .kind)) (l .numbers) (l .words) (layoutOf (l .kind)) m
 
 -- a line of one number, and of two
-pub one-back : (k : Kind) → layoutOf k ≡ One → (n : ℕ) → Short n → Back (plain k (oneNumber n))
-one-back k e n h =
-    line-back (plain k (oneNumber n)) (rw e (record { first = h; second = lit< tt; third = lit< tt; places = refl; worded = refl }))
+pub one-back : (k : Kind) → layoutOf k ≡ One → (n : ℕ) → Shorts (oneNumber n) → Back (plain k (oneNumber n))
+one-back k e n h = line-back (plain k (oneNumber n)) (rw e (record { short = h; places = refl; worded = refl }))
 
-pub two-back : (k : Kind) → layoutOf k ≡ Two → (n m : ℕ) → Short n → Short m → Back (plain k (twoNumbers n m))
-two-back k e n m h g =
-    line-back (plain k (twoNumbers n m)) (rw e (record { first = h; second = g; third = lit< tt; places = refl; worded = refl }))
+pub two-back : (k : Kind) → layoutOf k ≡ Two → (n m : ℕ) → Shorts (twoNumbers n m) → Back (plain k (twoNumbers n m))
+two-back k e n m h = line-back (plain k (twoNumbers n m)) (rw e (record { short = h; places = refl; worded = refl }))

@@ -1,12 +1,10 @@
--- The text of a line: it is parted into the line's fields, holds no line feed and is short.
-use Prim.Native.Nat.{ℕ, _*_, _≤_}
+-- The text of a line: it is parted into the line's fields and holds no line feed.
+use Prim.Native.Nat.{ℕ}
 use mathlib.Core.Path.{_≡_, refl}
 use mathlib.Core.Bool.{Bool, true, false, not}
 use mathlib.Core.List.{List, [], _∷_, _++_, map}
 use native.Mathlib.Omega.{arith}
-use lib.Dec.{eqb, leb}
-use lib.ListN.{length, length-append}
-use borrow.Author.Tests.{leb-true, le-leb}
+use lib.Dec.{eqb}
 use Rattle.basis.specs.Lists.{all}
 use Rattle.basis.proofs.Bools.{and-left, and-right}
 use Rattle.text.specs.Number.{decimal}
@@ -16,10 +14,10 @@ use Rattle.text.specs.declared.kind.Kind.{Kind}
 use Rattle.text.specs.declared.kind.Layout.{Layout}
 use Rattle.text.specs.declared.kind.Layout.the-variants.{Bare, One, Two, Three, Formula}
 use Rattle.text.specs.declared.number.Numbers.{Numbers}
-use Rattle.text.proofs.RoundTrip.{decimal-short, decimal-lacks-comma, decimal-lacks-feed, lacks, split-join, word-lacks-comma, word-lacks-feed, word-short}
+use Rattle.text.proofs.RoundTrip.{decimal-lacks-comma, decimal-lacks-feed, lacks, split-join, word-lacks-comma, word-lacks-feed}
 use Rattle.words.specs.Word.{written}
 use Rattle.words.specs.declared.Word.{Word}
-use Rattle.words.proofs.RoundTrip.{written-short, written-lacks-comma, written-lacks-feed}
+use Rattle.words.proofs.RoundTrip.{written-lacks-comma, written-lacks-feed}
 use Rattle.policy.specs.Line.{Line}
 use Rattle.policy.specs.Text.{laterFields, fieldsOf, lineText}
 
@@ -63,21 +61,3 @@ lacks-join b c (f ∷ g ∷ fs) e h =
 pub text-lacks-feed : (l : Line) → lacks lineFeed (lineText l) ≡ true
 unfolding lineText
 text-lacks-feed l = lacks-join lineFeed comma (fieldsOf l) refl (each-field (lacks lineFeed) word-lacks-feed decimal-lacks-feed written-lacks-feed l)
-
--- each field has at most six bytes, so with its separator at most seven
-shortField : List ℕ → Bool
-shortField f = leb (length f) 6
-
-join-short : (c : ℕ) (fs : List (List ℕ)) → all shortField fs ≡ true → length (join c fs) ≤ 7 * length fs
-unfolding all join shortField
-join-short c [] h = omega arith
-join-short c (f ∷ []) h = omega (arith, leb-true (length f) 6 (and-left _ _ h))
-join-short c (f ∷ g ∷ fs) h =
-    omega (arith, leb-true (length f) 6 (and-left _ _ h), length-append f (c ∷ join c (g ∷ fs)), join-short c (g ∷ fs) (and-right (leb (length f) 6) _ h))
-
-pub line-short : (l : Line) → length (lineText l) ≤ 7 * length (fieldsOf l)
-unfolding lineText shortField
-line-short l =
-    join-short comma (fieldsOf l)
-    (each-field shortField (λ k. le-leb (length (wordOf k)) 6 (word-short k)) (λ n. le-leb (length (decimal n)) 6 (omega (arith, decimal-short n)))
-    (λ w. le-leb (length (written w)) 6 (omega (arith, written-short w))) l)

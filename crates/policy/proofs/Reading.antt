@@ -22,11 +22,11 @@ use Rattle.words.specs.declared.Word.{Word}
 use Rattle.policy.specs.Limits.{isForm, mostWords}
 use Rattle.policy.specs.Policy.{Policy, blank}
 use Rattle.policy.specs.Line.{allowed, countFits, wordsOf, lineOf}
-use Rattle.policy.specs.Checks.{inRange, extended}
+use Rattle.policy.specs.Checks.{sizes, inRange, extended}
 use Rattle.policy.specs.Read.{State, start, after, lineRefusal, lineAfter}
-use Rattle.policy.proofs.Sound.{widthsSound, linesSound, entriesSound, rulesSound, sideSound, listsSound, sound, Within}
+use Rattle.policy.specs.Inner.Sound.{widthsSound, linesSound, entriesSound, rulesSound, sideSound, listsSound, sound}
 use Rattle.policy.proofs.Parts.{Parts, parts, lists-sound, is-sound}
-use Rattle.policy.proofs.Bounds.{sound-within}
+use Rattle.policy.proofs.Bounds.{Within, sound-within}
 use Rattle.policy.proofs.Order.{reached, required, May, allowed-order, cut, cut-more}
 use Rattle.policy.proofs.Growth.{Fits, parts-more}
 use Rattle.policy.proofs.Passed.{Passed, taken}
@@ -62,7 +62,7 @@ due-still i j p h d = record { form = λ g. d .form (omega arith); user = λ g. 
 snoc-some : (ws : List ℕ) (w : ℕ) → 1 ≤ length (ws ++ (w ∷ []))
 snoc-some ws w = omega (arith, length-append ws (w ∷ []))
 
-due-more : (k : Kind) (i : ℕ) (n : Numbers) (ws : List Word) (p : Policy) → May i (placeOf k) → inRange k p n ws ≡ true → Due i p
+due-more : (k : Kind) (i : ℕ) (n : Numbers) (ws : List Word) (p : Policy) → May i (placeOf k) → inRange k (p .form) (sizes p) n ws ≡ true → Due i p
     → Due (suc (placeOf k)) (extended k n ws p)
 unfolding extended inRange
 due-more PolicyKind i n ws p a f d =

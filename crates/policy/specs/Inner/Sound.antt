@@ -1,6 +1,6 @@
 -- Policies whose lines pass checks 6 to 9 one after the other, by a test for each list. Reading yields exactly these, and check 11 tests for
 -- them; nothing here is needed to say what reading or check 11 means.
-use Prim.Native.Nat.{ℕ, _+_, _≤_}
+use Prim.Native.Nat.{ℕ, _+_}
 use mathlib.Core.Bool.{Bool, true, _&&_}
 use mathlib.Core.List.{List, [], _∷_}
 use mathlib.Core.Option.{Option, none, some}
@@ -10,34 +10,33 @@ use Rattle.basis.specs.Choice.{given}
 use Rattle.basis.specs.Lists.{all}
 use Rattle.seniority.specs.declared.Direct.{Direct}
 use Rattle.policy.specs.Limits.{isForm, values, actions, userNumbers, objectNumbers, mostWords}
-use Rattle.policy.specs.Policy.{Side, Rule, Policy}
-use Rattle.policy.specs.Checks.{pairFits, pairAbove, entryFits, wordFits, widthsEqual, balanced}
-use Rattle.policy.specs.Value.{widthPlaces, entryPlaces, rulePlaces, linePlaces}
+use Rattle.policy.specs.Policy.{Side, Rule, Policy, total}
+use Rattle.policy.specs.Checks.{sideSizes, sizes, widthFits, pairFits, pairAbove, entryFits, wordFits, widthsEqual, balanced}
 use Rattle.policy.specs.declared.value.Entry.{Entry}
 
 -- widths after others that sum to n
 unfoldable pub widthsSound : ℕ → ℕ → List ℕ → Bool
 widthsSound most n [] = true
-widthsSound most n (w ∷ ws) = (leb 1 w && (leb w most && leb (n + w) most)) && widthsSound most (n + w) ws
+widthsSound most n (w ∷ ws) = widthFits most n w && widthsSound most (n + w) ws
 
 -- lines of a side after another
 unfoldable pub linesSound : Side → Option Direct → List Direct → Bool
 linesSound s before [] = true
 linesSound s before (l ∷ ls) =
-    pairFits s (l .senior) (l .junior) && (given before true (pairAbove (l .senior) (l .junior)) && linesSound s (some l) ls)
+    pairFits (sideSizes s) (l .senior) (l .junior) && (given before true (pairAbove (l .senior) (l .junior)) && linesSound s (some l) ls)
 
 -- users or objects after another
 unfoldable pub entriesSound : ℕ → Side → Option Entry → List Entry → Bool
 entriesSound most s before [] = true
 entriesSound most s before (e ∷ es) =
-    entryFits most s (e .number) (e .set) && (given before true (λ b. ltb (b .number) (e .number)) && entriesSound most s (some e) es)
+    entryFits most (total s) (e .number) (e .set) && (given before true (λ b. ltb (b .number) (e .number)) && entriesSound most s (some e) es)
 
 -- a rule, and rules after another
 unfoldable pub ruleSound : Policy → Rule → Bool
 ruleSound p r =
     leb (length (r .words)) mostWords
     && (ltb (r .action) (actions (p .form))
-    && (all (wordFits p) (r .words) && (all (widthsEqual p) (r .words) && balanced 0 (r .words))))
+    && (all (wordFits (sizes p)) (r .words) && (all (widthsEqual (sizes p)) (r .words) && balanced 0 (r .words))))
 
 unfoldable pub rulesSound : Policy → Option Rule → List Rule → Bool
 rulesSound p before [] = true
@@ -58,15 +57,3 @@ listsSound p =
 unfoldable pub sound : Policy → Bool
 sound p =
     isForm (p .form) && (leb 1 (length (p .user .widths)) && (leb 1 (length (p .object .widths)) && listsSound p))
-
--- the lists fit their arrays
-pub record WithinSide (s : Side) : Type 0 where
-  pub widths : length (s .widths) ≤ widthPlaces
-  pub lines : length (s .lines) ≤ linePlaces
-
-pub record Within (p : Policy) : Type 0 where
-  pub user : WithinSide (p .user)
-  pub object : WithinSide (p .object)
-  pub users : length (p .users) ≤ entryPlaces
-  pub objects : length (p .objects) ≤ entryPlaces
-  pub rules : length (p .rules) ≤ rulePlaces
