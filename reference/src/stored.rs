@@ -1,7 +1,9 @@
 //! The case files that are stored with the product: the requirement's examples
-//! with the requirement's answers, and made cases from one seed.
+//! with the requirement's answers, made cases from one seed, and lines that are
+//! wrong on purpose.
 
 use crate::case_file::{case_of, made};
+use crate::wrong;
 
 const SEED: u64 = 3;
 const CASES: u64 = 700;
@@ -14,7 +16,7 @@ const LARGE_SUM: usize = 350_000;
 const LABEL_PER_SET: u64 = 690;
 
 /// The text of the requirement.
-const TEXT: &str = "policy,1
+pub(crate) const TEXT: &str = "policy,1
 uattr,2
 oattr,1
 usen,1,0
@@ -26,15 +28,15 @@ end
 ";
 
 /// What the requirement says of its text: labels, table, tuples, and calls.
-const ANSWERS: &str = "Y
-W,0,85,85
+pub(crate) const ANSWERS: &str = "Y
+W,0,85,85,85
 u,0,3,4,2,6,0,1,2,2
 o,0,2,4,2,6,0,1
 g,0,2,4,2,6,8,8,8,9,0,1
 T,0,3,0,3,3,3,5,5,7,7
 T,0,4,3,4,0,3
 F,2,0,3,3,0
-S,0,10,3,2,4,2,6,\
+S,0,10,3,2,4,2,6,10,\
 0,0,0,1,0,0,1,3,0,0,2,4,2,0,0,4,\
 4,0,1,0,4,0,8,0,4,0,3,0,4,1,3,0,\
 2,0,1,2,1,0,1,2,\
@@ -63,7 +65,8 @@ const EDGES: [(&str, &str, &str); 16] = [
     ("end\n", "", "R,10,8"),
 ];
 
-/// The files by their numbers: the examples, then the made cases.
+/// The files by their numbers: the examples, the made cases, then the lines that
+/// are wrong on purpose.
 pub fn files() -> Vec<Vec<u8>> {
     let mut files = vec![examples(), Vec::new()];
     let mut large = 0;
@@ -80,6 +83,7 @@ pub fn files() -> Vec<Vec<u8>> {
             _ => files.push(lines),
         }
     }
+    files.push(wrong::file());
     files
 }
 
