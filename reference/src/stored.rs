@@ -29,6 +29,7 @@ end
 
 /// What the requirement says of its text: labels, table, tuples, and calls.
 pub(crate) const ANSWERS: &str = "Y
+V,0
 W,0,85,85,85
 u,0,3,4,2,6,0,1,2,2
 o,0,2,4,2,6,0,1
@@ -97,21 +98,28 @@ fn examples() -> Vec<u8> {
 /// Texts, each with the answers' lines, of which the first is the reading's.
 fn example_cases() -> Vec<(String, String)> {
     let no_rules = TEXT.replace("rule,0,u0,o0,a\nrule,3,u1,n\n", "");
-    let all_alike = "Y\nu,0,1,4,2,1,0,0,0,0\no,0,1,4,2,1,0,0\ng,0,1,4,2,1,0\n";
+    let all_alike = "Y\nV,0\nu,0,1,4,2,1,0,0,0,0\no,0,1,4,2,1,0,0\ng,0,1,4,2,1,0\n";
     let mut cases = vec![
         (TEXT.to_string(), ANSWERS.to_string()),
         (no_rules, all_alike.to_string()),
-        (String::new(), "R,10,0\n".to_string()),
+        (String::new(), read_as("R,10,0")),
     ];
     for (old, new, answer) in EDGES {
-        cases.push((TEXT.replace(old, new), format!("{answer}\n")));
+        cases.push((TEXT.replace(old, new), read_as(answer)));
     }
     for (words, answer) in [(32, "Y"), (33, "R,4,6")] {
         let rule = format!("rule,0,t{}\n", ",n".repeat(words - 1));
         let text = TEXT.replace("rule,0,u0,o0,a\n", &rule);
-        cases.push((text, format!("{answer}\n")));
+        cases.push((text, read_as(answer)));
     }
     cases
+}
+
+/// What reading answers; check 11 passes what an accepted text yields, and
+/// nothing else.
+fn read_as(answer: &str) -> String {
+    let check = if answer == "Y" { "V,0" } else { "V,11" };
+    format!("{answer}\n{check}\n")
 }
 
 #[cfg(test)]

@@ -15,8 +15,7 @@ pub const MARK: char = '!';
 const FEW: usize = 16;
 
 /// Right lines for the requirement's text, beside those of the requirement.
-const MORE: &str = "V,0
-W,20,0,84,0
+const MORE: &str = "W,20,0,84,0
 u,20,0,3,2,6
 o,20,0,4,1,6
 g,20,0,4,2,5

@@ -49,18 +49,38 @@ fn name(tag: char, right: &[u32], place: usize) -> &'static str {
     }
 }
 
+/// The lines of a file that follow its texts.
+fn lines(file: &[u8]) -> Vec<String> {
+    let mut lines = Vec::new();
+    let mut rest = file;
+    while let Some(end) = rest.iter().position(|&byte| byte == b'\n') {
+        let line = String::from_utf8_lossy(&rest[..end]).into_owned();
+        rest = &rest[end + 1..];
+        match line
+            .strip_prefix("C,")
+            .and_then(|begun| begun.split_once(','))
+        {
+            Some((_, length)) => rest = &rest[length.parse::<usize>().expect("a length") + 1..],
+            None => lines.push(line),
+        }
+    }
+    lines
+}
+
 /// The tag of a line, whether it is wrong on purpose, and its numbers with an
 /// answer and a count.
-fn parsed(line: &str) -> Option<(char, bool, Vec<u32>)> {
-    let tag = line.chars().next()?;
-    let rest = &line[1..];
-    let fields = rest.strip_prefix(MARK).unwrap_or(rest);
-    let mut numbers = Vec::new();
-    for field in fields.split(',').skip(1) {
-        numbers.push(field.parse().ok()?);
-    }
+fn parsed(line: &str) -> (char, bool, Vec<u32>) {
+    let (tag, rest) = line.split_at(1);
+    let fields = rest.split(',').skip(1);
+    let mut numbers: Vec<u32> = fields
+        .map(|field| field.parse().expect("a number"))
+        .collect();
     numbers.resize(numbers.len().max(2), 0);
-    Some((tag, rest.starts_with(MARK), numbers))
+    (
+        tag.chars().next().expect("a tag"),
+        rest.starts_with(MARK),
+        numbers,
+    )
 }
 
 /// The one thing in which a wrong line is not the right one.
@@ -85,10 +105,9 @@ fn difference(tag: char, right: &[u32], wrong: &[u32]) -> &'static str {
 /// Each wrong line as its tag and the answer of the right line that it stands
 /// after, with the thing in which it is wrong.
 fn differences() -> Vec<(char, u32, &'static str)> {
-    let file = String::from_utf8(file()).expect("letters and numbers");
     let mut right = ('C', Vec::new());
     let mut all = Vec::new();
-    for (tag, wrong, numbers) in file.lines().filter_map(parsed) {
+    for (tag, wrong, numbers) in lines(&file()).iter().map(|line| parsed(line)) {
         if !wrong {
             right = (tag, numbers);
             continue;
@@ -128,16 +147,9 @@ fn refused_calls_have_one_that_stores_something() {
 }
 
 #[test]
-fn the_made_kinds_are_these() {
-    let stored = reference::stored::files().concat();
-    let stored = String::from_utf8_lossy(&stored);
-    let is_kind = |tag: &char| COMPARED.iter().any(|c| c.0 == *tag);
-    let starts = stored
-        .lines()
-        .filter(|line| line.as_bytes().get(1) == Some(&b','));
-    let tags: BTreeSet<char> = starts.filter_map(|line| line.chars().next()).collect();
-    assert!(
-        tags.iter().all(|tag| *tag == 'C' || is_kind(tag)),
-        "{tags:?}"
-    );
+fn no_other_kind_is_stored() {
+    let stored = reference::stored::files();
+    let lines = stored.iter().flat_map(|file| lines(file));
+    let tags: BTreeSet<char> = lines.filter_map(|line| line.chars().next()).collect();
+    assert_eq!(tags, COMPARED.iter().map(|c| c.0).collect());
 }

@@ -24,8 +24,8 @@ pub fn first_entries(buffer: &mut [u16], n: usize) -> &mut [u16] {
     &mut buffer[..n]
 }
 
-// The first place, from 1, at which a buffer is not these numbers with blanks behind them; 0 where there is none. More numbers than the buffer
-// has places differ behind its end.
+// The first place, from 1, at which a buffer is not these numbers with blanks behind them; 0 where there is none.
+// More numbers than the buffer has places differ behind its end.
 pub fn unlike(due: &[u32], buffer: &[u8]) -> usize {
     let mut i = 0;
     while i < buffer.len() {

@@ -73,8 +73,9 @@ fn wide(x: u16) -> u32 {
     x as u32
 }
 
-// The first place, from 1, at which a buffer is not these runs of tuples, each as its first and last, with blanks behind them; 0 where
-// there is none. Behind the runs both ends are blank. Runs that the buffer has no places for differ behind its end.
+// The first place, from 1, at which a buffer is not these runs of tuples, each as its first and last, with blanks
+// behind them; 0 where there is none. Behind the runs both ends are blank. Runs that the buffer has no places for
+// differ behind its end.
 fn unlike_runs(runs: &[u32], buffer: &[u16; PAIRS]) -> usize {
     let mut k = 0;
     let mut due = cursor::at(runs, 0, BLANK as u32);
