@@ -1,5 +1,6 @@
 /*
- * A screen's morning: the hall's card is read, its policy compiled, and a member of staff opens a session, works and closes it.
+ * A screen's morning: the hall's card is read, its policy compiled, and a member of staff opens a session, works and
+ * closes it.
  *
  * usage: example FILE, where FILE is a policy text such as examples/front-desk.txt.
  */
@@ -77,13 +78,16 @@ int main(int argc, char **argv) {
     printf("write: refusal %u, %zu bytes, %s\n", (unsigned)written.refusal, written.count,
            written.count == length && memcmp(copy, card, length) == 0 ? "the same text" : "another text");
 
-    counts = helvemoik_compile(policy, user_labels, sizeof user_labels, object_labels, sizeof object_labels, table, sizeof table);
-    printf("compile: refusal %u, NU %u, NO %u\n", (unsigned)counts.refusal, (unsigned)counts.users, (unsigned)counts.objects);
+    counts = helvemoik_compile(policy, user_labels, sizeof user_labels, object_labels, sizeof object_labels,
+                               table, sizeof table);
+    printf("compile: refusal %u, NU %u, NO %u\n", (unsigned)counts.refusal, (unsigned)counts.users,
+           (unsigned)counts.objects);
     for (uint32_t action = 0; action < 4; action++)
         list(action);
     printf("decide 1 2 2: %s\n", word(helvemoik_decide(policy, 1, 2, 2)));
     struct helvemoik_separation apart = helvemoik_apart(policy, 1, 2);
-    printf("apart 1 2: answer %u, action %u, object set %u\n", (unsigned)apart.answer, (unsigned)apart.action, (unsigned)apart.object);
+    printf("apart 1 2: answer %u, action %u, object set %u\n", (unsigned)apart.answer, (unsigned)apart.action,
+           (unsigned)apart.object);
 
     board = helvemoik_fresh();
     took("open 2 5 1", helvemoik_open(board, policy, 2, 5, 1));

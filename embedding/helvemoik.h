@@ -1,14 +1,14 @@
 /*
  * Helvemoik: label policies on a comment screen, for C.
  *
- * Link libembed.a, which `rt staticlib embed` writes to target/staticlib. See docs/EMBEDDING.md for what a caller must keep to: nothing checks
- * this header against the library's source.
+ * Link libembed.a, which `rt staticlib embed` writes to target/staticlib. See docs/EMBEDDING.md for what a caller must
+ * keep to: nothing checks this header against the library's source.
  *
- * Everything goes by value or in lent buffers. There is no heap and no global state. No call has a precondition on its numbers: whatever is
- * handed in gets its result or one refusal.
+ * Everything goes by value or in lent buffers. There is no heap and no global state. No call has a precondition on its
+ * numbers: whatever is handed in gets its result or one refusal.
  *
- * A lent buffer is a pointer, which is not NULL even where the length is 0, and then a length, counted in elements. The buffers of one call
- * do not overlap.
+ * A lent buffer is a pointer, which is not NULL even where the length is 0, and then a length, counted in elements. The
+ * buffers of one call do not overlap.
  */
 #ifndef HELVEMOIK_H
 #define HELVEMOIK_H
@@ -23,17 +23,29 @@ extern "C" {
 
 /* ---- sizes */
 
+/* The limits of document 01. */
 enum {
-    HELVEMOIK_TEXT_BYTES = 8192,   /* the longest text that is read, and room for any text that is written */
-    HELVEMOIK_WIDTH_PLACES = 7,    /* attributes of a side, and values of a side */
-    HELVEMOIK_LINE_PLACES = 21,    /* direct seniorities of a side */
-    HELVEMOIK_ENTRY_PLACES = 64,   /* registered users (of which a text has at most 32), or objects */
-    HELVEMOIK_WORD_PLACES = 32,    /* words of a formula */
-    HELVEMOIK_RULE_PLACES = 8,     /* rules */
-    HELVEMOIK_SESSIONS = 32,       /* session numbers */
-    HELVEMOIK_MOST_LABELS = 128,   /* room for the labels of a side */
-    HELVEMOIK_MOST_TABLE = 16384,  /* room for a table */
-    HELVEMOIK_MOST_TUPLES = 16384  /* room for the tuples of an action */
+    HELVEMOIK_TEXT_BYTES = 8192,  /* the longest text that is read, and room for any text that is written */
+    HELVEMOIK_MOST_VALUES = 7,    /* values of a side */
+    HELVEMOIK_MOST_ACTIONS = 8,
+    HELVEMOIK_MOST_WORDS = 32,    /* words of a formula */
+    HELVEMOIK_OBJECT_NUMBERS = 64,
+    HELVEMOIK_SESSIONS = 32       /* session numbers */
+};
+
+/* What follows from them. */
+enum {
+    /* attributes of a side, and its direct seniorities: one for each two values */
+    HELVEMOIK_WIDTH_PLACES = HELVEMOIK_MOST_VALUES,
+    HELVEMOIK_LINE_PLACES = HELVEMOIK_MOST_VALUES * (HELVEMOIK_MOST_VALUES - 1) / 2,
+    /* registered objects, or users, of which a text has fewer */
+    HELVEMOIK_ENTRY_PLACES = HELVEMOIK_OBJECT_NUMBERS,
+    HELVEMOIK_WORD_PLACES = HELVEMOIK_MOST_WORDS,
+    HELVEMOIK_RULE_PLACES = HELVEMOIK_MOST_ACTIONS,
+    /* room for the labels of a side, for a table, and for the tuples of an action */
+    HELVEMOIK_MOST_LABELS = 1 << HELVEMOIK_MOST_VALUES,
+    HELVEMOIK_MOST_TABLE = HELVEMOIK_MOST_LABELS * HELVEMOIK_MOST_LABELS,
+    HELVEMOIK_MOST_TUPLES = HELVEMOIK_MOST_LABELS * HELVEMOIK_MOST_LABELS
 };
 
 /* ---- refusals, by the numbers of document 01 */
@@ -102,9 +114,9 @@ struct helvemoik_register {
 };
 
 /*
- * `rule,A,w,w,..`. A word is kind * 65536 + first * 256 + second, where the kind of t is 0, f 1, n 2, a 3, r 4, u 5, o 6, d 7, q 8; first
- * is the value or the user attribute, second the object attribute, each 0 where the word has none. Any other number stands for a word that
- * no policy has: check 11 refuses the policy.
+ * `rule,A,w,w,..`. A word is kind * 65536 + first * 256 + second, where the kind of t is 0, f 1, n 2, a 3, r 4, u 5,
+ * o 6, d 7, q 8; first is the value or the user attribute, second the object attribute, each 0 where the word has none.
+ * Any other number stands for a word that no policy has: check 11 refuses the policy.
  */
 struct helvemoik_rule {
     uint32_t action;
@@ -160,14 +172,20 @@ struct helvemoik_counts {
     uint32_t objects;
 };
 
-/* answer HELVEMOIK_ALIKE, 0, 0; HELVEMOIK_APART with an action and an object set that tell the user sets apart; or the refusal, 0, 0. */
+/*
+ * answer HELVEMOIK_ALIKE, 0, 0; HELVEMOIK_APART with an action and an object set that tell the user sets apart; or the
+ * refusal, 0, 0.
+ */
 struct helvemoik_separation {
     uint32_t answer;
     uint32_t action;
     uint32_t object;
 };
 
-/* HELVEMOIK_DONE, HELVEMOIK_GRANTED, HELVEMOIK_DENIED or the refusal, and the board after the call: after a refusal the old one. */
+/*
+ * HELVEMOIK_DONE, HELVEMOIK_GRANTED, HELVEMOIK_DENIED or the refusal, and the board after the call: after a refusal the
+ * old one.
+ */
 struct helvemoik_step {
     uint32_t answer;
     struct helvemoik_board board;
@@ -175,14 +193,15 @@ struct helvemoik_step {
 
 /* The library is for x86-64. A compiler that lays the structs out otherwise refuses this line. */
 typedef char helvemoik_layout[sizeof(struct helvemoik_policy) == 2640 && sizeof(struct helvemoik_board) == 384
-                              && sizeof(struct helvemoik_reading) == 2656 && sizeof(struct helvemoik_step) == 388 ? 1 : -1];
+                              && sizeof(struct helvemoik_reading) == 2656
+                              && sizeof(struct helvemoik_step) == 388 ? 1 : -1];
 
 /* ---- calls on a policy */
 
 /* The policy of a text, or the refusal (1 to 10) and its line. */
 struct helvemoik_reading helvemoik_read(const uint8_t *text, size_t text_length);
 
-/* The text of a policy, at the start of the buffer; what lies past it stays. Refusals 11, 20, which leave the buffer. */
+/* The text of a policy, at the buffer's start; what lies past it stays. Refusals 11, 20, which leave the buffer. */
 struct helvemoik_counted helvemoik_write(struct helvemoik_policy policy, uint8_t *buffer, size_t buffer_length);
 
 /* Check 11: whether the policy is what reading some accepted text yields. */
@@ -191,14 +210,21 @@ bool helvemoik_valid(struct helvemoik_policy policy);
 /* Whether the action's formula is true at a user set and an object set: granted or denied. Refusals 11, 12, 19. */
 uint32_t helvemoik_decide(struct helvemoik_policy policy, uint32_t action, uint32_t user, uint32_t object);
 
-/* The tuples of an action, each user set * 2^O + object set, rising; what lies past them stays. Refusals 11, 12, 20, which leave the buffer. */
-struct helvemoik_counted helvemoik_list(struct helvemoik_policy policy, uint32_t action, uint16_t *buffer, size_t buffer_length);
+/*
+ * The tuples of an action, each user set * 2^O + object set, rising; what lies past them stays. Refusals 11, 12, 20,
+ * which leave the buffer.
+ */
+struct helvemoik_counted helvemoik_list(struct helvemoik_policy policy, uint32_t action,
+                                        uint16_t *buffer, size_t buffer_length);
 
 /* Whether the pair of sets is one of the first `count` tuples of a listing: granted or denied. Refusals 11, 19, 20. */
 uint32_t helvemoik_decide_by_tuples(struct helvemoik_policy policy, uint32_t user, uint32_t object,
                                     const uint16_t *listing, size_t listing_length, size_t count);
 
-/* The labels of the user sets, those of the object sets, and their table; what lies past each stays. Refusals 11, 20, which leave all three. */
+/*
+ * The labels of the user sets, those of the object sets, and their table; what lies past each stays. Refusals 11, 20,
+ * which leave all three.
+ */
 struct helvemoik_counts helvemoik_compile(struct helvemoik_policy policy, uint8_t *users, size_t users_length,
                                           uint8_t *objects, size_t objects_length, uint8_t *table, size_t table_length);
 
@@ -223,14 +249,18 @@ struct helvemoik_step helvemoik_drop(struct helvemoik_board board, struct helvem
                                      uint32_t user, uint32_t session, uint32_t set);
 
 /* Closes the session. Refusals 11, 13, 14, 17, 18. */
-struct helvemoik_step helvemoik_close(struct helvemoik_board board, struct helvemoik_policy policy, uint32_t user, uint32_t session);
+struct helvemoik_step helvemoik_close(struct helvemoik_board board, struct helvemoik_policy policy,
+                                      uint32_t user, uint32_t session);
 
 /*
- * Whether the action on the registered object is granted to the session's held set, by labels and table as helvemoik_compile filled them,
- * with the NU and NO that it returned: granted or denied. Refusals 11, 12, 13, 15, 17, 20.
+ * Whether the action on the registered object is granted to the session's held set, by labels and table as
+ * helvemoik_compile filled them, with the NU and NO that it returned: granted or denied. Refusals 11, 12, 13, 15, 17,
+ * 20.
  */
-struct helvemoik_step helvemoik_request(struct helvemoik_board board, struct helvemoik_policy policy, uint32_t nu, uint32_t no,
-                                        const uint8_t *users, size_t users_length, const uint8_t *objects, size_t objects_length,
+struct helvemoik_step helvemoik_request(struct helvemoik_board board, struct helvemoik_policy policy,
+                                        uint32_t nu, uint32_t no,
+                                        const uint8_t *users, size_t users_length,
+                                        const uint8_t *objects, size_t objects_length,
                                         const uint8_t *table, size_t table_length,
                                         uint32_t session, uint32_t action, uint32_t object);
 

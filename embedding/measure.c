@@ -1,9 +1,10 @@
 /*
  * Prints the size of each struct of helvemoik.h and the stack that each call takes, for docs/EMBEDDING.md.
  *
- * usage: measure FILE, where FILE is a policy text with a user and an object. Each call runs in a thread of its own, on a stack that was
- * painted with one byte; the deepest byte that is no longer paint shows how much was used. The figure has the caller's frame in it, with the
- * copies of the arguments that go by value, and not what starting a thread takes.
+ * usage: measure FILE, where FILE is a policy text with a user and an object. Each call runs in a thread of its own, on
+ * a stack that was painted with one byte; the deepest byte that is no longer paint shows how much was used. The figure
+ * has the caller's frame in it, with the copies of the arguments that go by value, and not what starting a thread
+ * takes.
  */
 #define _POSIX_C_SOURCE 200112L
 #include <pthread.h>
@@ -21,7 +22,8 @@ static struct helvemoik_reading reading;
 static struct helvemoik_policy policy;
 static struct helvemoik_board board;
 static struct helvemoik_counts counts;
-static uint8_t users[HELVEMOIK_MOST_LABELS], objects[HELVEMOIK_MOST_LABELS], table[HELVEMOIK_MOST_TABLE], copy[HELVEMOIK_TEXT_BYTES];
+static uint8_t users[HELVEMOIK_MOST_LABELS], objects[HELVEMOIK_MOST_LABELS], table[HELVEMOIK_MOST_TABLE];
+static uint8_t copy[HELVEMOIK_TEXT_BYTES];
 static uint16_t tuples[HELVEMOIK_MOST_TUPLES];
 static uint32_t user, object;
 static struct helvemoik_counted counted;
@@ -50,8 +52,8 @@ static void *call_add(void *x) { step = helvemoik_add(step.board, policy, user, 
 static void *call_drop(void *x) { step = helvemoik_drop(step.board, policy, user, 0, 0); return x; }
 static void *call_close(void *x) { step = helvemoik_close(step.board, policy, user, 0); return x; }
 static void *call_request(void *x) {
-    step = helvemoik_request(step.board, policy, counts.users, counts.objects, users, sizeof users, objects, sizeof objects,
-                             table, sizeof table, 0, 0, object);
+    step = helvemoik_request(step.board, policy, counts.users, counts.objects, users, sizeof users,
+                             objects, sizeof objects, table, sizeof table, 0, 0, object);
     return x;
 }
 

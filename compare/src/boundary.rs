@@ -1,14 +1,25 @@
 //! The types of the header `embedding/helvemoik.h`, which cross as they are.
 
-/// The places of each array of a policy value.
-pub const WIDTH_PLACES: usize = 7;
-pub const LINE_PLACES: usize = 21;
-pub const ENTRY_PLACES: usize = 64;
-pub const WORD_PLACES: usize = 32;
-pub const RULE_PLACES: usize = 8;
+/// The limits of document 01.
+pub const TEXT_BYTES: usize = 8192;
+pub const MOST_VALUES: usize = 7;
+pub const MOST_ACTIONS: usize = 8;
+pub const MOST_WORDS: usize = 32;
+pub const OBJECT_NUMBERS: usize = 64;
 
 /// The entries of a board.
 pub const SESSIONS: usize = 32;
+
+/// The places of each array of a policy value.
+pub const WIDTH_PLACES: usize = MOST_VALUES;
+pub const LINE_PLACES: usize = MOST_VALUES * (MOST_VALUES - 1) / 2;
+pub const ENTRY_PLACES: usize = OBJECT_NUMBERS;
+pub const WORD_PLACES: usize = MOST_WORDS;
+pub const RULE_PLACES: usize = MOST_ACTIONS;
+
+/// Room for the labels of a side, and for a table.
+pub const MOST_LABELS: usize = 1 << MOST_VALUES;
+pub const MOST_TABLE: usize = MOST_LABELS * MOST_LABELS;
 
 /// A direct line of seniority.
 #[repr(C)]

@@ -8,7 +8,9 @@
 
 #![deny(unsafe_code)]
 
-use helvemoik_compare::boundary::{Board, PackedPolicy, DONE, SESSIONS};
+use helvemoik_compare::boundary::{
+    Board, PackedPolicy, DONE, MOST_LABELS, MOST_TABLE, SESSIONS, TEXT_BYTES,
+};
 use helvemoik_compare::engine::{Archive, Engine, Labels};
 use helvemoik_compare::plain::policy::Policy;
 use helvemoik_compare::plain::{self, Plain};
@@ -43,7 +45,7 @@ fn measure_texts(sample: &Sample) {
         job(|| Plain.valid(black_box(packed))),
     ];
     row(sample, "check 11", check);
-    let mut buffers = [[0; 8192]; 3];
+    let mut buffers = [[0; TEXT_BYTES]; 3];
     let [one, two, three] = &mut buffers;
     let write = [
         job(|| Archive.write(black_box(packed), one)),
@@ -84,15 +86,15 @@ fn measure_decisions(sample: &Sample) {
 /// Three buffers that are always long enough.
 #[derive(Clone, PartialEq, Eq)]
 struct Buffers {
-    users: [u8; 128],
-    objects: [u8; 128],
-    table: [u8; 128 * 128],
+    users: [u8; MOST_LABELS],
+    objects: [u8; MOST_LABELS],
+    table: [u8; MOST_TABLE],
 }
 
 const EMPTY: Buffers = Buffers {
-    users: [0; 128],
-    objects: [0; 128],
-    table: [0; 128 * 128],
+    users: [0; MOST_LABELS],
+    objects: [0; MOST_LABELS],
+    table: [0; MOST_TABLE],
 };
 
 fn measure_compile(sample: &Sample) {

@@ -3,12 +3,12 @@
 use super::known::Known;
 use super::lent::{length_for, Lent};
 use super::{same, Outcome, Trial, What};
-use crate::boundary::{Counted, PackedCounts, Separation, ALIKE, APART};
+use crate::boundary::{Counted, PackedCounts, Separation, ALIKE, APART, MOST_LABELS};
 use crate::damage::{odd, odd_count};
 use reference::cases::{action, set};
 use reference::formula::{decide, Formulas};
 use reference::labels::apart;
-use reference::policy::{Policy, Refusal};
+use reference::policy::{Policy, Refusal, ACTIONS};
 use reference::tuples::decide_by_tuples;
 
 /// A decision as the header numbers it.
@@ -19,7 +19,8 @@ fn decision(answer: Result<bool, Refusal>) -> u32 {
 impl Trial<'_> {
     /// A user set and an object set, mostly of the policy's sides.
     fn sets(&mut self, known: &Known) -> (u32, u32) {
-        let sides = known.policy.as_ref().map_or((128, 128), |policy| {
+        let most = MOST_LABELS as u32;
+        let sides = known.policy.as_ref().map_or((most, most), |policy| {
             (policy.user_sets(), policy.object_sets())
         });
         let rng = &mut self.rng;
@@ -52,7 +53,7 @@ impl Trial<'_> {
     pub(super) fn listing(&mut self, known: &Known) -> Outcome {
         let action = self.some_action(known);
         let tuples: &[u16] = match &known.policy {
-            Some(policy) if action < 8 => known.tuples(policy, action),
+            Some(policy) if action < ACTIONS => known.tuples(policy, action),
             _ => &[],
         };
         let length = length_for(&mut self.rng, tuples.len());
@@ -61,7 +62,7 @@ impl Trial<'_> {
         self.coverage.count_call("list", found.refusal);
         let (refusal, stored) = match &known.policy {
             None => (11, &[][..]),
-            Some(_) if action > 7 => (12, &[][..]),
+            Some(_) if action >= ACTIONS => (12, &[][..]),
             Some(_) if tuples.len() > length => (20, &[][..]),
             Some(_) => (0, tuples),
         };
@@ -101,7 +102,7 @@ impl Trial<'_> {
     fn some_listing(&mut self, known: &Known) -> Vec<u16> {
         match &known.policy {
             Some(policy) if self.rng.chance(3, 4) => {
-                let action = self.some_action(known) % 8;
+                let action = self.some_action(known) % ACTIONS;
                 known.tuples(policy, action).to_vec()
             }
             _ => (0..self.rng.below(20))
@@ -214,7 +215,7 @@ impl Trial<'_> {
 fn separates(policy: &Policy, one: u32, other: u32, found: Separation, what: What) -> Outcome {
     let Separation { action, object, .. } = found;
     let formulas = Formulas::of(policy);
-    let true_witness = action < 8
+    let true_witness = action < ACTIONS
         && object < policy.object_sets()
         && formulas.grants(action, one, object) != formulas.grants(action, other, object);
     match true_witness {

@@ -3,7 +3,7 @@
 use crate::boundary::PackedPolicy;
 use crate::value::yielded;
 use reference::labels::{compile, Labelling};
-use reference::policy::Policy;
+use reference::policy::{Policy, ACTIONS};
 use reference::text::write;
 use reference::tuples::{tuples, Stored};
 use std::cell::OnceCell;
@@ -13,7 +13,7 @@ pub struct Known {
     /// None where no text yields the value.
     pub policy: Option<Policy>,
     labelling: OnceCell<Labelling>,
-    tuples: [OnceCell<Vec<Stored>>; 8],
+    tuples: [OnceCell<Vec<Stored>>; ACTIONS as usize],
 }
 
 impl Known {
@@ -41,9 +41,9 @@ impl Known {
         self.labelling.get_or_init(|| compile(policy))
     }
 
-    /// The stored tuples of an action below 8, worked out once.
+    /// The stored tuples of an action that there is, worked out once.
     pub fn tuples(&self, policy: &Policy, action: u32) -> &[Stored] {
         self.tuples[action as usize]
-            .get_or_init(|| tuples(policy, action).expect("an action below 8"))
+            .get_or_init(|| tuples(policy, action).expect("an action that there is"))
     }
 }

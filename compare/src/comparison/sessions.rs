@@ -2,14 +2,16 @@
 
 use super::known::Known;
 use super::{same, Outcome, Trial, What};
-use crate::boundary::{Board, PackedStep, DENIED, DONE, GRANTED, SESSIONS};
+use crate::boundary::{
+    Board, PackedStep, DENIED, DONE, GRANTED, MOST_LABELS, OBJECT_NUMBERS, SESSIONS,
+};
 use crate::damage::{board, damaged_board, odd};
 use crate::engine::{Engine, Labels};
 use crate::value::sessions;
 use reference::cases::{calls, Rng};
 use reference::formula::reach;
 use reference::machine::{step, Answer, Call, Sessions};
-use reference::policy::Policy;
+use reference::policy::{Policy, ACTIONS};
 
 /// What a request is lent.
 struct Buffers {
@@ -177,8 +179,8 @@ impl Trial<'_> {
             None => Buffers {
                 nu: 1,
                 no: 1,
-                users: vec![0; 128],
-                objects: vec![0; 128],
+                users: vec![0; MOST_LABELS],
+                objects: vec![0; MOST_LABELS],
                 table: vec![0; 1],
             },
         };
@@ -317,15 +319,15 @@ fn request_on(rng: &mut Rng, policy: &Policy, session: u32) -> Call {
     let objects: Vec<u32> = policy.objects.iter().map(|object| object.0).collect();
     let object = match rng.below(10) {
         0 => odd(rng),
-        1 => rng.below(65),
-        _ if objects.is_empty() => rng.below(64),
+        1 => rng.below(OBJECT_NUMBERS as u32 + 1),
+        _ if objects.is_empty() => rng.below(OBJECT_NUMBERS as u32),
         _ => rng.pick(&objects),
     };
     let actions: Vec<u32> = policy.rules.iter().map(|rule| rule.action).collect();
     let action = match rng.below(12) {
         0 => odd(rng),
-        1..=3 => rng.below(8),
-        _ if actions.is_empty() => rng.below(8),
+        1..=3 => rng.below(ACTIONS),
+        _ if actions.is_empty() => rng.below(ACTIONS),
         _ => rng.pick(&actions),
     };
     Call::Request {

@@ -3,7 +3,7 @@
 use super::known::Known;
 use super::lent::{length_for, Lent};
 use super::{same, Outcome, Trial};
-use crate::boundary::{Counted, PackedReading};
+use crate::boundary::{Counted, PackedReading, TEXT_BYTES};
 use crate::value::packed;
 use reference::text::{read, write};
 
@@ -49,7 +49,7 @@ impl Trial<'_> {
     pub(super) fn writing(&mut self, known: &Known) -> Outcome {
         let needed = known.policy.as_ref().map_or(100, |p| write(p).len());
         let length = match self.rng.chance(1, 8) {
-            true => 8192,
+            true => TEXT_BYTES,
             false => length_for(&mut self.rng, needed),
         };
         self.write_into(known, length)

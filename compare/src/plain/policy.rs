@@ -1,16 +1,16 @@
 //! The policy value with its words as an enum, and the refusals.
 
-use crate::boundary::{Register, SideValue, RULE_PLACES, WORD_PLACES};
+use crate::boundary::{self, Register, SideValue, RULE_PLACES, WORD_PLACES};
 
 /// The most bytes of a text.
-pub const TEXT_BYTES: usize = 8192;
+pub const TEXT_BYTES: usize = boundary::TEXT_BYTES;
 /// The most values of a side.
-pub const VALUES: usize = 7;
+pub const VALUES: usize = boundary::MOST_VALUES;
 /// The most sets of a side.
 pub const SETS: usize = 1 << VALUES;
-pub const ACTIONS: u32 = 8;
+pub const ACTIONS: u32 = boundary::MOST_ACTIONS as u32;
 pub const USERS: u32 = 32;
-pub const OBJECTS: u32 = 64;
+pub const OBJECTS: u32 = boundary::OBJECT_NUMBERS as u32;
 
 #[derive(Debug, Clone, Copy, Default, PartialEq, Eq)]
 pub enum Word {

@@ -19,7 +19,7 @@ use Rattle.basis.proofs.Table.{at}
 use Rattle.sets.specs.Set.{has}
 use Rattle.sets.proofs.Laws.{differs, has-xor, has-meet, has-union, has-none, has-mod, has-low, has-high}
 use Rattle.sets.proofs.Count.{has-shifted}
-use Rattle.seniority.specs.Seniority.{extended}
+use Rattle.seniority.specs.Inner.{extended}
 use Rattle.seniority.proofs.Laws.{has-extended}
 use Rattle.formula.specs.Inner.Lane.{laneBits, lanes, vectorPlaces, Plain, Stands, extendedLanes}
 use Rattle.policy.specs.Limits.{mostValues}

@@ -13,7 +13,7 @@ use Rattle.words.specs.declared.Holding.the-variants.{User, Object}
 use Rattle.words.specs.declared.Comparison.{Comparison}
 use Rattle.words.specs.declared.Comparison.the-variants.{Dominates, Equals}
 use Rattle.policy.specs.Policy.{Side, Policy, width, start, formulaIn}
-use Rattle.policy.specs.Checks.{equalWidth}
+use Rattle.policy.specs.Checks.{sizes, equalWidth}
 
 -- the sets at which a formula is judged: a user set and an object set
 pub record Sets : Type 0 where
@@ -35,10 +35,10 @@ placeHeld side i set k = has set (start side i + k)
 -- "`dIJ`: equal width, and each place held in J is held in I. `qIJ`: equal width, the same places held."
 abbrev pub compares : Policy → Sets → Comparison → Bool
 compares p s (Dominates i j) =
-    equalWidth p i j
+    equalWidth (sizes p) i j
     && every (λ k. implies (placeHeld (p .object) j (s .object) k) (placeHeld (p .user) i (s .user) k)) (width (p .user) i)
 compares p s (Equals i j) =
-    equalWidth p i j
+    equalWidth (sizes p) i j
     && every (λ k. agree (placeHeld (p .object) j (s .object) k) (placeHeld (p .user) i (s .user) k)) (width (p .user) i)
 
 -- the top of the stack and what lies below it; refusal 9 keeps a formula from looking below an empty stack, where false lies

@@ -17,7 +17,7 @@ ghost use Prim.Native.Nat.{ℕ, _+_, _≤_, _<_};
 ghost use Rattle.basis.specs.Numbers.{every};
 ghost use Rattle.sets.specs.Set.{has};
 ghost use Rattle.policy.specs.Policy.{Policy, width};
-ghost use Rattle.policy.specs.Checks.{equalWidth};
+ghost use Rattle.policy.specs.Checks.{sizes, equalWidth};
 ghost use Rattle.policy.specs.Value.{wordPlaces};
 ghost use Rattle.formula.specs.Truth.{Sets, holds, placeHeld, compares, top, below, step, truth};
 ghost use Rattle.formula.specs.Inner.Lane.{lanes, AttributesOf, Stands, InLane, wordsOf, passes, column};
@@ -81,7 +81,7 @@ fn matched(
     exact: bool,
 ) -> u64
     requires { ⌜ ((p : Policy) × AttributesOf p sides) ⌝ }
-    ensures { λ r. ⌜ ((p : Policy) (k : ℕ) (s : Sets) → AttributesOf p sides → InLane p (now (users .entry)) (now (objects .entry)) k s → has r k ≡ (equalWidth p i j && every (λ q. passes exact (placeHeld (p .object) j (s .object) q) (placeHeld (p .user) i (s .user) q)) (width (p .user) i))) ⌝ }
+    ensures { λ r. ⌜ ((p : Policy) (k : ℕ) (s : Sets) → AttributesOf p sides → InLane p (now (users .entry)) (now (objects .entry)) k s → has r k ≡ (equalWidth (sizes p) i j && every (λ q. passes exact (placeHeld (p .object) j (s .object) q) (placeHeld (p .user) i (s .user) q)) (width (p .user) i))) ⌝ }
 {
     let user = sides.user;
     let object = sides.object;

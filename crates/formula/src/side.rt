@@ -8,7 +8,8 @@ ghost use Prim.Native.Nat.{ℕ, _+_, _*_, _/_, _%_, _^_, _≤_, _<_};
 ghost use lib.ListN.{take};
 ghost use Rattle.sets.specs.Set.{has};
 ghost use Rattle.policy.specs.Value.{linePlaces};
-ghost use Rattle.seniority.specs.Seniority.{Ordered, heldOrSenior, heldOrJunior};
+ghost use Rattle.seniority.specs.Seniority.{heldOrSenior, heldOrJunior};
+ghost use Rattle.seniority.specs.Inner.{Ordered};
 ghost use Rattle.formula.specs.Inner.Lane.{lanes, Plain, Stands, extendedLanes};
 ghost use Rattle.policy.specs.Limits.{mostValues};
 

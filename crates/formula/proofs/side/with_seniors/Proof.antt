@@ -6,7 +6,8 @@ use lib.ListN.{length, getD, take, drop, drop-of-length-le}
 use lib.Seq.{length-take-le}
 use borrow.Author.Needs.{needs}
 use Rattle.basis.proofs.Lists.{long}
-use Rattle.seniority.specs.Seniority.{direct, heldOrJunior, extended}
+use Rattle.seniority.specs.Seniority.{direct, heldOrJunior}
+use Rattle.seniority.specs.Inner.{extended}
 use Rattle.seniority.proofs.Laws.{raised, has-raised, heldOrJunior-none, line-bounds, raise-line}
 use Rattle.policy.specs.Limits.{mostValues}
 use Rattle.policy.specs.Value.{linePlaces}
