@@ -1,4 +1,5 @@
--- The text of a sound policy fits the limit of a text: so many lines of each kind at most, each of so many bytes at most.
+-- The text of a sound policy fits the limit of a text: so many lines of each kind at most, each of so many bytes at
+-- most.
 use Prim.Native.Nat.{ℕ, suc, _+_, _*_, _≤_, _<_}
 use mathlib.Core.Path.{_≡_, _∙_}
 use mathlib.Core.Bool.{Bool, true}

@@ -1,4 +1,5 @@
--- The order of the kinds: which kind may follow, as inequalities of places, and a policy without the lines of later kinds.
+-- The order of the kinds: which kind may follow, as inequalities of places, and a policy without the lines of later
+-- kinds.
 use Prim.Native.Nat.{ℕ, zero, suc, _≤_, min}
 use mathlib.Core.Path.{_≡_, refl, sym, ap, _∙_}
 use mathlib.Core.Bool.{Bool, true, false, cond, _&&_}
