@@ -29,13 +29,13 @@ use Rattle.words.proofs.RoundTrip.{mostLetters, written-short}
 use Rattle.policy.specs.Limits.{textBytes, isForm, values, mostValues, userNumbers, objectNumbers, mostWords, mostActions, mostLines}
 use Rattle.policy.specs.Policy.{Side, Rule, Policy}
 use Rattle.policy.specs.Line.{Line, noNumbers, oneNumber, twoNumbers, plain, ruleLine}
-use Rattle.policy.specs.Text.{widthLines, pairLines, entryLines, ruleLines, laterFields, lineText, textOf}
+use Rattle.policy.specs.Text.{flat, widthLines, pairLines, entryLines, ruleLines, laterFields, lineText, textOf}
 use Rattle.policy.specs.declared.value.Entry.{Entry}
 use Rattle.policy.proofs.Forms.{form-few}
 use Rattle.policy.proofs.Parts.{lineFits, lineAbove, numberFits, numberAbove, SideParts, Parts}
 use Rattle.policy.proofs.Rising.{rising, rising-at}
 use Rattle.policy.proofs.Bounds.{width-bounds, entries-few, rule-bounds, parts-within}
-use Rattle.policy.proofs.Groups.{flat, groups, linesFrom, lines-from}
+use Rattle.policy.proofs.Groups.{groups, linesFrom, lines-from}
 use Rattle.policy.proofs.Shorts.{Short, Shorts, no-short, one-short, width-short, action-short, pair-short, entry-short}
 
 -- ---- the bytes of a line
