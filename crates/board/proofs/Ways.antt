@@ -16,7 +16,7 @@ use Rattle.board.specs.declared.Session.{Session}
 use Rattle.board.specs.declared.reach.Found.{Found}
 use Rattle.board.specs.declared.rulings.Ruling.{Ruling}
 use Rattle.board.specs.declared.rulings.Ruling.the-variants.{Allowed, Refused}
-use Rattle.board.specs.Machine.{opens, closes, requests, objectSet, outOfReach, checks}
+use Rattle.board.specs.Machine.{opens, closes, objectSet, outOfReach, checks}
 use Rattle.board.specs.Board.{entryOf}
 use Rattle.board.specs.Inner.{refusalOf, FoundAs, Reaches, changeChecks, asked}
 

@@ -1,6 +1,5 @@
 -- The numbers that answers cross as.
 use Prim.Native.Nat.{ℕ}
-use mathlib.Core.List.{List}
 use Rattle.basis.specs.Choice.{given, Result, gives, refuses}
 use Rattle.policy.specs.Read.{Outcome}
 use Rattle.policy.specs.Answers.{numberOf, replyNumber, refusalIn, valueIn}

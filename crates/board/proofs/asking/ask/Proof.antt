@@ -1,8 +1,5 @@
 -- `board::asking::ask` meets its contract: the entry and the object are looked up, then judged.
-use mathlib.Core.Path.{ap, sym, _∙_}
 use borrow.Author.Needs.{needs}
-use Rattle.board.specs.Board.{entryOf}
-use Rattle.board.specs.Inner.{asked}
 use Rattle.board.proofs.asking.ask.Statement.{statement}
 use Rattle.board.proofs.asking.ask.Tie as tie
 
