@@ -43,7 +43,7 @@ module _ (l : Labels) (a u o : ℕ) (x : Byte) (hx : byteOf x ≡ byteAt (l .buf
     unfolding lookedUp pastEnd
     past-object e = rw (there-at (l .buffers .users) u ul (sym hx ∙ rw ex) .0, gone-at (l .buffers .objects) o (sym hy ∙ rw e))
 
-    module _ (ol : ℕ) (ey : y ≡ At ol) (k : ℕ) (hk : k ≡ ul * l .no + ol) (z : Byte) (hz : byteOf z ≡ byteAt (l .buffers .table) k) where
+    module _ (ol : ℕ) (ey : y ≡ At ol) (k : ℕ) (hk : k ≡ ul * l .counts .objects + ol) (z : Byte) (hz : byteOf z ≡ byteAt (l .buffers .table) k) where
       place : placeAt l u o ≡ k
       place = rw (there-at (l .buffers .users) u ul (sym hx ∙ rw ex) .1, there-at (l .buffers .objects) o ol (sym hy ∙ rw ey) .1) (sym hk)
 

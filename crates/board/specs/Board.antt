@@ -8,6 +8,7 @@ use lib.ListN.{length, getD, set, replicate}
 use Rattle.basis.specs.Choice.{given, there, Check, check, lowest}
 use Rattle.basis.specs.Lists.{all}
 use Rattle.sets.specs.Set.{has, within}
+use Rattle.policy.specs.Limits.{sessionNumbers}
 use Rattle.policy.specs.Policy.{Policy, setOfNumber}
 use Rattle.policy.specs.Value.{policyOf}
 use Rattle.policy.specs.Valid.{valid}
@@ -15,15 +16,23 @@ use Rattle.policy.specs.Answers.{numberOf, Reply, done, granted, denied, refuse
 use Rattle.policy.specs.declared.value.PolicyValue.{PolicyValue}
 use Rattle.labels.specs.Compile.{Buffers}
 use Rattle.labels.specs.declared.Counts.{Counts}
-use Rattle.policy.specs.Limits.{sessionNumbers}
 use Rattle.board.specs.Machine.{Entry, Call, opens, adds, drops, closes, requests, sessionOf, reachOf, objectSet, checks, entry, entryAfter, heldIn, Out}
 use Rattle.board.specs.declared.Session.{Session}
 use Rattle.board.specs.declared.Board.{Board}
 use Rattle.board.specs.declared.Answer.{Answer}
 use Rattle.board.specs.declared.Answer.the-variants.{Done, Granted, Denied, Refused}
+use Rattle.board.specs.declared.Call.{Call as CodeCall}
+use Rattle.board.specs.declared.Call.the-variants.{Open, Add, Drop, Close, Request}
 use Rattle.board.specs.declared.Step.{Step}
 
--- what the code's answer and step stand for
+-- what the code's call, answer and step stand for
+abbrev pub callOf : CodeCall → Call
+callOf (Open u s set) = opens u s set
+callOf (Add u s set) = adds u s set
+callOf (Drop u s set) = drops u s set
+callOf (Close u s) = closes u s
+callOf (Request s a n) = requests s a n
+
 abbrev pub replyOf : Answer → Reply
 replyOf Done = done
 replyOf Granted = granted
@@ -60,8 +69,11 @@ fresh = record { sessions = replicate sessionNumbers closed }
 abbrev pub entryFits : Policy → Entry → Bool
 entryFits p e = there (setOfNumber (p .users) (e .user)) && within (e .held) (reachOf p (e .user))
 
+abbrev pub sessionsFit : Policy → List Session → Bool
+sessionsFit p xs = all (λ x. given (entryOf x) true (entryFits p)) xs
+
 unfoldable pub boardFits : Policy → Board → Bool
-boardFits p b = all (λ x. given (entryOf x) true (entryFits p)) (b .sessions)
+boardFits p b = sessionsFit p (b .sessions)
 
 unfoldable pub fits : PolicyValue → Board → Bool
 fits v b = valid v && boardFits (policyOf v) b
@@ -70,13 +82,11 @@ fits v b = valid v && boardFits (policyOf v) b
 
 -- the lent buffers with NU and NO as handed in
 pub record Labels : Type 0 where
+  pub counts : Counts
   pub buffers : Buffers
-  pub nu : ℕ
-  pub no : ℕ
 
-abbrev pub labelsOf : Counts → List ℕ → List ℕ → List ℕ → Labels
-labelsOf n users objects table =
-    record { buffers = record { users = users; objects = objects; table = table }; nu = n .users; no = n .objects }
+abbrev pub labelsOf : Counts → Buffers → Labels
+labelsOf n b = record { counts = n; buffers = b }
 
 -- "the held set's label ul, the object set's label ol, and the table byte at ul × NO + ol"
 abbrev pub userLabelAt : Labels → ℕ → ℕ
@@ -86,7 +96,7 @@ abbrev pub objectLabelAt : Labels → ℕ → ℕ
 objectLabelAt l object = getD (l .buffers .objects) object 0
 
 abbrev pub placeAt : Labels → ℕ → ℕ → ℕ
-placeAt l held object = userLabelAt l held * l .no + objectLabelAt l object
+placeAt l held object = userLabelAt l held * l .counts .objects + objectLabelAt l object
 
 -- 20: "any of the three places lies past its buffer's end"
 unfoldable pub pastEnd : Labels → ℕ → ℕ → Bool

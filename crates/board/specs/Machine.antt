@@ -76,25 +76,32 @@ ofAnother u e = given e false (λ x. not (eqb (x .user) u))
 abbrev pub outOfReach : Policy → ℕ → ℕ → Bool
 outOfReach p u set = not (within set (reachOf p u))
 
--- "A session is open while the map has its number": 16 is broken where it is, 17 where it is not
-abbrev pub changeChecks : Policy → ℕ → ℕ → ℕ → Option Entry → List Check
-changeChecks p u s set e =
+-- "A session is open while the map has its number": 16, "Open: the session is open already", 17, "Any other session call: it is not open"
+abbrev pub isOpen : Option Entry → Bool
+isOpen e = there e
+
+-- each call's own list
+unfoldable pub checks : Policy → Call → Option Entry → List Check
+checks p (opens u s set) e =
+    check 13 (noSession s) ∷ check 14 (noUser p u) ∷ check 16 (isOpen e) ∷ check 19 (outOfReach p u set) ∷ []
+checks p (adds u s set) e =
     check 13 (noSession s)
     ∷ check 14 (noUser p u)
-    ∷ check 17 (not (there e))
+    ∷ check 17 (not (isOpen e))
     ∷ check 18 (ofAnother u e)
     ∷ check 19 (outOfReach p u set)
     ∷ []
-
-unfoldable pub checks : Policy → Call → Option Entry → List Check
-checks p (opens u s set) e =
-    check 13 (noSession s) ∷ check 14 (noUser p u) ∷ check 16 (there e) ∷ check 19 (outOfReach p u set) ∷ []
-checks p (adds u s set) e = changeChecks p u s set e
-checks p (drops u s set) e = changeChecks p u s set e
+checks p (drops u s set) e =
+    check 13 (noSession s)
+    ∷ check 14 (noUser p u)
+    ∷ check 17 (not (isOpen e))
+    ∷ check 18 (ofAnother u e)
+    ∷ check 19 (outOfReach p u set)
+    ∷ []
 checks p (closes u s) e =
-    check 13 (noSession s) ∷ check 14 (noUser p u) ∷ check 17 (not (there e)) ∷ check 18 (ofAnother u e) ∷ []
+    check 13 (noSession s) ∷ check 14 (noUser p u) ∷ check 17 (not (isOpen e)) ∷ check 18 (ofAnother u e) ∷ []
 checks p (requests s a n) e =
-    check 12 (noAction p a) ∷ check 13 (noSession s) ∷ check 15 (noObject p n) ∷ check 17 (not (there e)) ∷ []
+    check 12 (noAction p a) ∷ check 13 (noSession s) ∷ check 15 (noObject p n) ∷ check 17 (not (isOpen e)) ∷ []
 
 -- ---- a call that is not refused
 

@@ -20,7 +20,7 @@ use Rattle.tuples.specs.Tuples.{tuples, list, listBuffer, decideByTuples}
 use Rattle.labels.specs.Labelling.{Labelling, userLabels, objectLabels, GrantsAlike}
 use Rattle.labels.specs.Compile.{Buffers, tooShort, NU, NO, userResult, objectResult, tableResult, compile, compileBuffers, compiled}
 use Rattle.board.specs.Machine.{Call, requests, run, machine, checks, heldIn, objectSet, Out}
-use Rattle.board.specs.Board.{Labels, boardStep, fresh, entryAt, fits, pastEnd, grantsByLabels}
+use Rattle.board.specs.Board.{Labels, labelsOf, boardStep, fresh, entryAt, fits, pastEnd, grantsByLabels}
 use Rattle.board.specs.declared.Board.{Board}
 
 -- "rising, each once": each number is above those before it
@@ -60,12 +60,14 @@ pub record Compiled (p : Policy) (b : Buffers) : Type 0 where
 -- ---- sessions: every list of calls, refused ones included, from a fresh board, with the text's policy value and the compiler's buffers, NU
 -- and NO
 
-abbrev pub labelsOf : Policy → Buffers → Labels
-labelsOf p b = record { buffers = compileBuffers (valueOf p) b; nu = NU p; no = NO p }
+-- buffers, with the NU and NO that the compiler returns
+abbrev pub withCounts : Policy → Buffers → Labels
+withCounts p b = labelsOf (record { users = NU p; objects = NO p }) b
 
 pub record Sessions (t : List ℕ) (p : Policy) (b : Buffers) (calls : List Call) : Type 0 where
-  pub answers : run (boardStep (valueOf p) (labelsOf p b)) calls fresh .replies ≡ machine t calls .replies
-  pub entries : (k : ℕ) → entryAt (run (boardStep (valueOf p) (labelsOf p b)) calls fresh .state) k ≡ machine t calls .state k
+  pub answers : run (boardStep (valueOf p) (withCounts p (compileBuffers (valueOf p) b))) calls fresh .replies ≡ machine t calls .replies
+  pub entries : (k : ℕ)
+      → entryAt (run (boardStep (valueOf p) (withCounts p (compileBuffers (valueOf p) b))) calls fresh .state) k ≡ machine t calls .state k
 
 -- ---- the claim
 

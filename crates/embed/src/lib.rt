@@ -10,9 +10,9 @@ ghost use Rattle.labels.specs.Compile.{lent, compile, compileBuffers};
 ghost use Rattle.labels.specs.Apart.{Tells};
 ghost use Rattle.labels.specs.declared.Apartness.{Apartness};
 ghost use Rattle.board.specs.Machine.{opens, adds, drops, closes, requests};
-ghost use Rattle.board.specs.Board.{Labels, fresh, boardStep};
+ghost use Rattle.board.specs.Board.{Labels, labelsOf, fresh, boardStep};
 ghost use Rattle.packing.specs.Packed.{unpackedPolicy};
-ghost use Rattle.embed.specs.Answers.{packedReading, counted, packedCounts, separation, packedStep, labelsWith};
+ghost use Rattle.embed.specs.Answers.{packedReading, counted, packedCounts, separation, packedStep};
 
 mod answer;
 pub mod packed;
@@ -192,7 +192,7 @@ pub extern "C" fn helvemoik_request(
     action: u32,
     object: u32,
 ) -> PackedStep
-    ensures { λ r. ⌜ r ≡ packedStep (boardStep (unpackedPolicy policy) (labelsWith nu «no» (now (users .entry)) (now (objects .entry)) (now (table .entry))) (requests session action object) board) ⌝ }
+    ensures { λ r. ⌜ r ≡ packedStep (boardStep (unpackedPolicy policy) (labelsOf (record { users = nu; objects = «no» }) (lent (now (users .entry)) (now (objects .entry)) (now (table .entry)))) (requests session action object) board) ⌝ }
 {
     let counts = Counts {
         users: nu,
