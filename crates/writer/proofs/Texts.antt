@@ -25,7 +25,7 @@ use Rattle.writer.specs.Inner.Whole.{sidesText, listsText}
 -- ---- a line by its layout
 
 -- fields, each with a comma before it, and a line feed
-fields-end : (f : List ℕ) (fs : List (List ℕ)) → join comma (f ∷ fs) ++ feed ≡ f ++ (each field fs ++ feed)
+pub fields-end : (f : List ℕ) (fs : List (List ℕ)) → join comma (f ∷ fs) ++ feed ≡ f ++ (each field fs ++ feed)
 unfolding join each field
 fields-end f [] = refl
 fields-end f (g ∷ fs) =
