@@ -6,6 +6,7 @@
 
 #![forbid(unsafe_code)]
 
+pub mod card_calls;
 pub mod case_file;
 pub mod cases;
 pub mod formula;

@@ -1,40 +1,19 @@
--- Laws of `padded`, an array that starts with a list and is blank behind it: its length, its list again, its places, one element more, and
--- that it is compared with another array by the list and the blank.
-use Prim.Native.Nat.{ℕ, suc, _+_, _-_, _≤_, _<_}
-use mathlib.Core.Path.{_≡_, refl, sym, ap, _∙_}
+-- Laws of `padded`, an array that starts with a list and is blank behind it: its list again, one element more, and that it is compared with
+-- another array by the list and the blank.
+use Prim.Native.Nat.{ℕ, suc, _-_, _≤_, _<_}
+use mathlib.Core.Path.{_≡_, refl, sym}
 use mathlib.Core.Bool.{Bool, _&&_, and-assoc}
-use mathlib.Core.List.{List, [], _∷_, _++_, map, append-nil, map-append}
+use mathlib.Core.List.{List, [], _∷_, _++_, map, map-append}
 use native.Mathlib.Nat.{le-of-suc-le-suc, not-suc-le-zero, sub-zero, suc-sub-suc}
 use native.Mathlib.Omega.{arith}
-use lib.ListN.{length, getD, take, drop, set, replicate, length-append, length-replicate, length-map, getD-replicate, List·getD-append}
-use lib.Seq.{take-append-seam, drop-append-seam, append-snoc, set-append-seam, getD-append-add}
+use lib.ListN.{length, take, drop, set, replicate, length-append, length-map}
+use lib.Seq.{take-append-seam, append-snoc, set-append-seam}
 use Rattle.basis.specs.Lists.{all, same, padded}
 
 module _ {A : Type 0} (n : ℕ) (b : A) where
-  pub length-padded : (xs : List A) → length xs ≤ n → length (padded n b xs) ≡ n
-  unfolding padded
-  length-padded xs h = length-append xs (replicate (n - length xs) b) ∙ omega (arith, length-replicate (n - length xs) b)
-
   pub take-padded : (xs : List A) → take (length xs) (padded n b xs) ≡ xs
   unfolding padded
   take-padded xs = take-append-seam xs (replicate (n - length xs) b)
-
-  pub drop-padded : (xs : List A) → drop (length xs) (padded n b xs) ≡ replicate (n - length xs) b
-  unfolding padded
-  drop-padded xs = drop-append-seam xs (replicate (n - length xs) b)
-
-  -- a place of the list, and one behind it
-  pub padded-at : (xs : List A) (i : ℕ) (d : A) → i < length xs → getD (padded n b xs) i d ≡ getD xs i d
-  unfolding padded
-  padded-at xs i d h = List·getD-append xs (replicate (n - length xs) b) d i h
-
-  pub padded-behind : (xs : List A) (i : ℕ) (d : A) → length xs ≤ i → i < n → getD (padded n b xs) i d ≡ b
-  unfolding padded
-  padded-behind xs i d h g =
-      let k = i - length xs in
-      let e : i ≡ length xs + k = omega arith in
-      ap (λ (j : ℕ). getD (xs ++ replicate (n - length xs) b) j d) e
-      ∙ getD-append-add xs (replicate (n - length xs) b) k d ∙ getD-replicate (n - length xs) k b d (omega arith)
 
   -- one element more is a store at the first place behind the list
   pub padded-more : (xs : List A) (x : A) → length xs < n → padded n b (xs ++ (x ∷ [])) ≡ set (padded n b xs) (length xs) x
@@ -44,11 +23,6 @@ module _ {A : Type 0} (n : ℕ) (b : A) where
       let e : n - length (xs ++ (x ∷ [])) ≡ m = omega (arith, length-append xs (x ∷ [])) in
       let f : n - length xs ≡ suc m = omega arith in
       rw (e, f, append-snoc xs x (replicate m b)) (sym (set-append-seam xs b (replicate m b) x))
-
-  -- a list as long as the array is the array
-  pub padded-full : (xs : List A) → length xs ≡ n → padded n b xs ≡ xs
-  unfolding padded
-  padded-full xs e = let f : n - length xs ≡ 0 = omega arith in rw (f, append-nil)
 
 -- the elements mapped
 pub take-padded-map : {A B : Type 0} (f : A → B) (n : ℕ) (b : B) (xs : List A) → take (length xs) (padded n b (map f xs)) ≡ map f xs

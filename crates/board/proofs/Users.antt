@@ -11,7 +11,8 @@ use Rattle.basis.specs.Choice.{there}
 use Rattle.basis.proofs.Bools.{never}
 use Rattle.basis.proofs.Walk.{part-next, part-end}
 use Rattle.sets.specs.Set.{has, within}
-use Rattle.seniority.specs.Seniority.{Ordered, wordBits, heldOrSenior, reach}
+use Rattle.seniority.specs.Seniority.{heldOrSenior, reach}
+use Rattle.seniority.specs.Inner.{Ordered, wordBits}
 use Rattle.seniority.proofs.Laws.{ordered-more, reach-is, assigned-reached}
 use Rattle.policy.specs.Policy.{Policy, total, sets, setOfNumber}
 use Rattle.policy.specs.Value.{noEntry, sideOf, entriesOf, linePlaces}

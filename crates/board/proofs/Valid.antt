@@ -12,12 +12,12 @@ use Rattle.policy.specs.Limits.{values, userNumbers, objectNumbers}
 use Rattle.policy.specs.Policy.{Side, Policy, sets, setOfNumber}
 use Rattle.policy.specs.Value.{entryPlaces, policyOf, sideValue, register, valueOf}
 use Rattle.policy.specs.Valid.{valid}
+use Rattle.policy.specs.Inner.Sound.{sound}
 use Rattle.policy.specs.declared.value.Entry.{Entry}
 use Rattle.policy.specs.declared.value.PolicyValue.{PolicyValue}
-use Rattle.policy.proofs.Sound.{sound, Within}
 use Rattle.policy.proofs.Parts.{numberFits, numberAbove, Parts, parts, whole}
 use Rattle.policy.proofs.Rising.{rising}
-use Rattle.policy.proofs.Bounds.{total-few, lines-ordered, entry-bounds, parts-within, sound-within}
+use Rattle.policy.proofs.Bounds.{Within, total-few, lines-ordered, entry-bounds, parts-within, sound-within}
 use Rattle.policy.proofs.Valid.{valid-stored}
 use Rattle.board.specs.Inner.{Reachable}
 use Rattle.board.proofs.Agreement.{ObjectsFit}

@@ -7,7 +7,7 @@ use mathlib.Core.Option.{Option, none, some}
 use lib.Dec.{ltb}
 use lib.ListN.{length, getD, set}
 use Rattle.basis.specs.Choice.{given, there, Result, gives, refuses, Check, check, lowest, unlessRefused}
-use Rattle.seniority.specs.Seniority.{Ordered, wordBits}
+use Rattle.seniority.specs.Inner.{Ordered, wordBits}
 use Rattle.policy.specs.Limits.{userNumbers}
 use Rattle.policy.specs.Policy.{Policy, total, sets, setOfNumber}
 use Rattle.policy.specs.Value.{entryPlaces, sideOf, entriesOf, policyOf, linePlaces}

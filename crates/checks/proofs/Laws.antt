@@ -2,21 +2,23 @@
 use Prim.Native.Nat.{ℕ, suc, _+_, _-_, _^_, _≤_, _<_}
 use mathlib.Core.Path.{_≡_, refl}
 use mathlib.Core.Bool.{false, cond, and-true, and-false, or-false}
-use mathlib.Core.List.{List, []}
+use mathlib.Core.List.{List}
 use native.Mathlib.Omega.{arith}
 use borrow.Author.Tests.{lt-ltb, le-ltb, le-leb, lt-leb, eq-eqb, ne-eqb, ltb-true, leb-true}
 use lib.Dec.{eqb, leb, ltb}
-use lib.ListN.{length, getD, take, drop, length-take}
+use lib.ListN.{length, getD, take, drop}
 use lib.Pow.{pow-pos}
 use lib.Seq.{length-take-le}
 use Rattle.basis.specs.Lists.{sum}
 use Rattle.basis.proofs.Bools.{both-ways}
+use Rattle.basis.proofs.Padded.{take-padded}
 use Rattle.basis.proofs.Walk.{part-next, part-end}
 use Rattle.sets.specs.Set.{mask}
 use Rattle.seniority.specs.declared.Direct.{Direct}
 use Rattle.policy.specs.Policy.{Side, total, attributeOf}
-use Rattle.policy.specs.Checks.{widthFits, pairFits, pairAbove, entryFits}
-use Rattle.checks.specs.Sides.{Shaped}
+use Rattle.policy.specs.Checks.{sideSizes, widthFits, pairFits, pairAbove, entryFits}
+use Rattle.policy.specs.Value.{widthPlaces, sideValue}
+use Rattle.checks.specs.Inner.{sizesIn, shapeOf}
 use Rattle.checks.specs.declared.side.Shape.{Shape}
 
 -- ---- the first n widths from place i on
@@ -50,51 +52,47 @@ room t w most h =
     (λ e. le-leb t (most - w) (omega (arith, leb-true (t + w) most e)))
 
 module _ (most t w : ℕ) where
-  pub width-none : w < 1 → (s : Side) → t ≡ total s → false ≡ widthFits most s w
+  pub width-none : w < 1 → false ≡ widthFits most t w
   unfolding widthFits
-  width-none h s e = rw (lt-leb 1 w h)
+  width-none h = rw (lt-leb 1 w h)
 
-  pub width-wide : 1 ≤ w → most < w → (s : Side) → t ≡ total s → false ≡ widthFits most s w
+  pub width-wide : 1 ≤ w → most < w → false ≡ widthFits most t w
   unfolding widthFits
-  width-wide h k s e = rw (le-leb 1 w h, lt-leb w most k)
+  width-wide h k = rw (le-leb 1 w h, lt-leb w most k)
 
-  pub width-summed : 1 ≤ w → w ≤ most → (s : Side) → t ≡ total s → leb t (most - w) ≡ widthFits most s w
+  pub width-summed : 1 ≤ w → w ≤ most → leb t (most - w) ≡ widthFits most t w
   unfolding widthFits
-  width-summed h k s e = rw (le-leb 1 w h, le-leb w most k, ← e) (room t w most k)
+  width-summed h k = rw (le-leb 1 w h, le-leb w most k) (room t w most k)
 
 -- ---- the shape of a side
 
-pub measured : (ws : List ℕ) (n t : ℕ) → n ≤ length ws → t ≡ sum (take n ws)
-    → (s : Side) → s .widths ≡ take n ws → Shaped (record { attributes = n; widths = ws; total = t }) s
+-- its sizes are those of a side with these widths
+pub shape-sizes : (ws : List ℕ) (n : ℕ) → n ≤ length ws → (s : Side) → s .widths ≡ take n ws → sizesIn (shapeOf ws n) ≡ sideSizes s
 unfolding total
-measured ws n t h e s q = record { attributes = rw (q, length-take-le n ws h); widths = q; total = rw q e }
+shape-sizes ws n h s e = rw (e, length-take-le n ws h)
 
--- what `measure` ensures says of the shape's own numbers
-module _ (x : Shape) (ws : List ℕ) (n : ℕ) (f : (s : Side) → s .widths ≡ take n ws → Shaped x s) where
-  pub measured-places : (m : ℕ) → n ≤ m → x .attributes ≤ m
-  measured-places m h = omega (arith, f (record { widths = take n ws; lines = [] }) refl .attributes, length-take n ws)
-
-  pub measured-total : x .total ≡ sum (take n ws)
-  unfolding total
-  measured-total = f (record { widths = take n ws; lines = [] }) refl .total
+-- and so of the side that is stored with them
+pub value-sizes : (s : Side) → let x = sideValue s in sizesIn (shapeOf (x .widths) (x .attributes)) ≡ sideSizes s
+unfolding sideValue total
+value-sizes s = rw (take-padded widthPlaces 0 (s .widths))
 
 -- ---- a pair
 
 module _ (x : Shape) (v j : ℕ) where
   pub pair-attributes : (a b : ℕ) → v < x .total → j < v
       → a ≡ attributeOf (take (x .attributes) (x .widths)) v → b ≡ attributeOf (take (x .attributes) (x .widths)) j
-      → (s : Side) → Shaped x s → eqb a b ≡ pairFits s v j
+      → eqb a b ≡ pairFits (sizesIn x) v j
   unfolding pairFits
-  pair-attributes a b h k p q s z =
-      rw (← z .total, z .widths, ← p, ← q, lt-ltb v (x .total) h, lt-ltb j (x .total) (omega arith), lt-ltb j v k, and-true)
+  pair-attributes a b h k p q =
+      rw (← p, ← q, lt-ltb v (x .total) h, lt-ltb j (x .total) (omega arith), lt-ltb j v k, and-true)
 
-  pub pair-level : v ≤ j → (s : Side) → Shaped x s → false ≡ pairFits s v j
+  pub pair-level : v ≤ j → false ≡ pairFits (sizesIn x) v j
   unfolding pairFits
-  pair-level h s z = rw (le-ltb j v h, and-false, and-false, and-false)
+  pair-level h = rw (le-ltb j v h, and-false, and-false, and-false)
 
-  pub pair-out : x .total ≤ v → (s : Side) → Shaped x s → false ≡ pairFits s v j
+  pub pair-out : x .total ≤ v → false ≡ pairFits (sizesIn x) v j
   unfolding pairFits
-  pair-out h s z = rw (← z .total, le-ltb v (x .total) h)
+  pair-out h = rw (le-ltb v (x .total) h)
 
 module _ (l : Direct) (v j : ℕ) where
   pub above-junior : l .senior ≡ v → ltb (l .junior) j ≡ pairAbove v j l
@@ -113,10 +111,10 @@ at-most-mask s k =
     (λ e. le-leb s (2 ^ k - 1) (omega (arith, ltb-true s (2 ^ k) e)))
 
 module _ (most t n set : ℕ) where
-  pub entry-set : (m : ℕ) → n < most → m ≡ mask t → (s : Side) → t ≡ total s → leb set m ≡ entryFits most s n set
+  pub entry-set : (m : ℕ) → n < most → m ≡ mask t → leb set m ≡ entryFits most t n set
   unfolding entryFits
-  entry-set m h q s e = rw (lt-ltb n most h, q, ← e) (at-most-mask set t)
+  entry-set m h q = rw (lt-ltb n most h, q) (at-most-mask set t)
 
-  pub entry-out : most ≤ n → (s : Side) → t ≡ total s → false ≡ entryFits most s n set
+  pub entry-out : most ≤ n → false ≡ entryFits most t n set
   unfolding entryFits
-  entry-out h s e = rw (le-ltb n most h)
+  entry-out h = rw (le-ltb n most h)

@@ -3,11 +3,11 @@ ghost use mathlib.Core.Path.{_≡_};
 ghost use mathlib.Core.Bool.{_&&_};
 ghost use Prim.Native.Nat.{_≤_};
 ghost use lib.Dec.{ltb};
+ghost use lib.ListN.{getD};
 ghost use Rattle.basis.specs.Lists.{all};
-ghost use Rattle.policy.specs.Policy as policy;
 ghost use Rattle.policy.specs.Checks as checks;
-ghost use Rattle.policy.specs.Value.{widthPlaces, wordPlaces};
-ghost use Rattle.checks.specs.Sides.{Shaped, wordsIn};
+ghost use Rattle.policy.specs.Value.{widthPlaces, wordPlaces, wordsIn};
+ghost use Rattle.checks.specs.Inner.{sizesIn, bothIn};
 use crate::side::Shape;
 use policy::value::Slot;
 use policy::value::WORD_PLACES;
@@ -31,8 +31,8 @@ fn both_there(user: usize, object: usize, i: u8, j: u8) -> bool
 }
 
 // Check 6 of a word.
-pub fn word_fits(user: Shape, object: Shape, word: Word) -> bool
-    ensures { λ r. ⌜ ((p : policy.Policy) → Shaped user (p .user) → Shaped object (p .object) → r ≡ checks.wordFits p word) ⌝ }
+fn word_fits(user: Shape, object: Shape, word: Word) -> bool
+    ensures { λ r. ⌜ r ≡ checks.wordFits (bothIn user object) word ⌝ }
 {
     match word {
         Word::True => true,
@@ -54,7 +54,7 @@ pub fn word_fits(user: Shape, object: Shape, word: Word) -> bool
 // The width of attribute i; 0 where there is none.
 fn width(side: Shape, i: u8) -> u32
     requires { ⌜ side .attributes ≤ widthPlaces ⌝ }
-    ensures { λ r. ⌜ ((s : policy.Side) → Shaped side s → r ≡ policy.width s i) ⌝ }
+    ensures { λ r. ⌜ r ≡ getD (sizesIn side .widths) i 0 ⌝ }
 {
     let k = i as usize;
     if k < side.attributes {
@@ -66,15 +66,15 @@ fn width(side: Shape, i: u8) -> u32
 
 fn equal_width(user: Shape, object: Shape, i: u8, j: u8) -> bool
     requires { ⌜ (user .attributes ≤ widthPlaces) × (object .attributes ≤ widthPlaces) ⌝ }
-    ensures { λ r. ⌜ ((p : policy.Policy) → Shaped user (p .user) → Shaped object (p .object) → r ≡ checks.equalWidth p i j) ⌝ }
+    ensures { λ r. ⌜ r ≡ checks.equalWidth (bothIn user object) i j ⌝ }
 {
     width(user, i) == width(object, j)
 }
 
 // Check 8 of a word.
-pub fn widths_equal(user: Shape, object: Shape, word: Word) -> bool
+fn widths_equal(user: Shape, object: Shape, word: Word) -> bool
     requires { ⌜ (user .attributes ≤ widthPlaces) × (object .attributes ≤ widthPlaces) ⌝ }
-    ensures { λ r. ⌜ ((p : policy.Policy) → Shaped user (p .user) → Shaped object (p .object) → r ≡ checks.widthsEqual p word) ⌝ }
+    ensures { λ r. ⌜ r ≡ checks.widthsEqual (bothIn user object) word ⌝ }
 {
     match word {
         Word::True => true,
@@ -93,7 +93,7 @@ pub fn widths_equal(user: Shape, object: Shape, word: Word) -> bool
 // Check 6 of the first n words.
 pub fn all_fit(user: Shape, object: Shape, slots: [Slot; WORD_PLACES], n: usize) -> bool
     requires { ⌜ n ≤ wordPlaces ⌝ }
-    ensures { λ r. ⌜ ((p : policy.Policy) → Shaped user (p .user) → Shaped object (p .object) → r ≡ all (checks.wordFits p) (wordsIn slots n)) ⌝ }
+    ensures { λ r. ⌜ r ≡ all (checks.wordFits (bothIn user object)) (wordsIn n slots) ⌝ }
 {
     let mut i = 0;
     while i < n {
@@ -111,7 +111,7 @@ pub fn all_fit(user: Shape, object: Shape, slots: [Slot; WORD_PLACES], n: usize)
 // Check 8 of the first n words.
 pub fn all_equal(user: Shape, object: Shape, slots: [Slot; WORD_PLACES], n: usize) -> bool
     requires { ⌜ (n ≤ wordPlaces) × (user .attributes ≤ widthPlaces) × (object .attributes ≤ widthPlaces) ⌝ }
-    ensures { λ r. ⌜ ((p : policy.Policy) → Shaped user (p .user) → Shaped object (p .object) → r ≡ all (checks.widthsEqual p) (wordsIn slots n)) ⌝ }
+    ensures { λ r. ⌜ r ≡ all (checks.widthsEqual (bothIn user object)) (wordsIn n slots) ⌝ }
 {
     let mut i = 0;
     while i < n {
@@ -144,7 +144,7 @@ fn takes(word: Word) -> usize
 // Check 9 of the first n words.
 pub fn balanced(slots: [Slot; WORD_PLACES], n: usize) -> bool
     requires { ⌜ n ≤ wordPlaces ⌝ }
-    ensures { λ r. ⌜ r ≡ checks.balanced 0 (wordsIn slots n) ⌝ }
+    ensures { λ r. ⌜ r ≡ checks.balanced 0 (wordsIn n slots) ⌝ }
 {
     let mut depth: usize = 0;
     let mut i = 0;

@@ -4,10 +4,10 @@ ghost use Prim.Native.Nat.{_^_, _<_, _≤_};
 ghost use lib.ListN.{take};
 ghost use Rattle.basis.specs.Lists.{sum};
 ghost use Rattle.policy.specs.Limits.{mostValues};
-ghost use Rattle.policy.specs.Policy as policy;
+ghost use Rattle.policy.specs.Policy.{attributeOf};
 ghost use Rattle.policy.specs.Checks.{widthFits, pairFits, pairAbove, entryFits};
 ghost use Rattle.policy.specs.Value.{widthPlaces};
-ghost use Rattle.checks.specs.Sides.{Shaped};
+ghost use Rattle.checks.specs.Inner.{sizesIn, shapeOf};
 use policy::value::WIDTH_PLACES;
 use seniority::Direct;
 
@@ -35,7 +35,7 @@ fn total_of(widths: [u32; WIDTH_PLACES], attributes: usize) -> u32
 // The shape of a side with these widths.
 pub fn measure(widths: [u32; WIDTH_PLACES], attributes: usize) -> Shape
     requires { ⌜ (attributes ≤ widthPlaces) × (sum (take attributes widths) < 2 ^ 32) ⌝ }
-    ensures { λ r. ⌜ ((s : policy.Side) → s .widths ≡ take attributes widths → Shaped r s) ⌝ }
+    ensures { λ r. ⌜ r ≡ shapeOf widths attributes ⌝ }
 {
     let total = total_of(widths, attributes);
     Shape {
@@ -47,7 +47,7 @@ pub fn measure(widths: [u32; WIDTH_PLACES], attributes: usize) -> Shape
 
 // Check 6 of a width after others that sum to `total`.
 pub fn width_fits(most: u32, total: u32, w: u32) -> bool
-    ensures { λ r. ⌜ ((s : policy.Side) → total ≡ policy.total s → r ≡ widthFits most s w) ⌝ }
+    ensures { λ r. ⌜ r ≡ widthFits most total w ⌝ }
 {
     if w < 1 {
         return false;
@@ -61,7 +61,7 @@ pub fn width_fits(most: u32, total: u32, w: u32) -> bool
 // The attribute that value v is in; their number where it is in none.
 fn attribute_of(widths: [u32; WIDTH_PLACES], attributes: usize, v: u32) -> usize
     requires { ⌜ attributes ≤ widthPlaces ⌝ }
-    ensures { λ r. ⌜ r ≡ policy.attributeOf (take attributes widths) v ⌝ }
+    ensures { λ r. ⌜ r ≡ attributeOf (take attributes widths) v ⌝ }
 {
     let mut left = v;
     let mut i = 0;
@@ -79,7 +79,7 @@ fn attribute_of(widths: [u32; WIDTH_PLACES], attributes: usize, v: u32) -> usize
 // Check 6 of a direct seniority.
 pub fn pair_fits(side: Shape, v: u32, j: u32) -> bool
     requires { ⌜ side .attributes ≤ widthPlaces ⌝ }
-    ensures { λ r. ⌜ ((s : policy.Side) → Shaped side s → r ≡ pairFits s v j) ⌝ }
+    ensures { λ r. ⌜ r ≡ pairFits (sizesIn side) v j ⌝ }
 {
     if v < side.total {
         if j < v {
@@ -107,7 +107,7 @@ pub fn pair_above(last: Direct, v: u32, j: u32) -> bool
 // Check 6 of a user or an object.
 pub fn entry_fits(most: u32, total: u32, n: u32, set: u32) -> bool
     requires { ⌜ total ≤ mostValues ⌝ }
-    ensures { λ r. ⌜ ((s : policy.Side) → total ≡ policy.total s → r ≡ entryFits most s n set) ⌝ }
+    ensures { λ r. ⌜ r ≡ entryFits most total n set ⌝ }
 {
     if n < most {
         return set <= crate::mask::first(total);

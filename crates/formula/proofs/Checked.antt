@@ -11,14 +11,14 @@ use Rattle.policy.specs.Limits.{values, mostValues}
 use Rattle.policy.specs.Policy.{Side, Policy, total}
 use Rattle.policy.specs.Value.{rulePlaces, sideValue, ruleValue, rulesValue, noRule, valueOf, policyOf, linePlaces}
 use Rattle.policy.specs.Valid.{valid}
+use Rattle.policy.specs.Inner.Sound.{sound}
 use Rattle.policy.specs.declared.value.PolicyValue.{PolicyValue}
 use Rattle.policy.proofs.Forms.{actions-most}
-use Rattle.policy.proofs.Sound.{WithinSide, sound}
 use Rattle.policy.proofs.Parts.{SideParts, Parts, parts, whole}
-use Rattle.policy.proofs.Bounds.{total-few, lines-ordered, rule-bounds, parts-within}
+use Rattle.policy.proofs.Bounds.{WithinSide, total-few, lines-ordered, rule-bounds, parts-within}
 use Rattle.policy.proofs.Values.{side-value}
 use Rattle.policy.proofs.Valid.{valid-stored}
-use Rattle.formula.specs.Lane.{SideFits, RuleFits, RulesFit, ValueFits}
+use Rattle.formula.specs.Inner.Fits.{SideFits, RuleFits, RulesFit, ValueFits}
 
 side-fits : (form : ℕ) (s : Side) → SideParts (values form) s → WithinSide s → SideFits (sideValue s)
 unfolding sideValue

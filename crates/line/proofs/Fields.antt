@@ -10,7 +10,8 @@ use borrow.Author.Tests.{lt-leb, le-leb, ne-eqb}
 use lib.ListN.{length, getD, take, drop}
 use Rattle.basis.specs.Lists.{all}
 use Rattle.text.specs.Number.{isNumber, valueOf, numeral}
-use Rattle.text.specs.Parts.{fields, comma, Found}
+use Rattle.text.specs.Parts.{fields, comma}
+use Rattle.text.specs.Inner.{Found}
 use Rattle.text.specs.Kind.{isKind, follows, named}
 use Rattle.text.specs.declared.kind.Kind.{Kind}
 use Rattle.text.specs.declared.kind.Kind.the-variants.{Policy, Rule, End}

@@ -10,7 +10,8 @@ use lib.ListN.{length, drop, set, length-append, length-map, length-drop}
 use Rattle.basis.specs.Lists.{all, padded}
 use Rattle.basis.proofs.Bools.{and-left, and-right}
 use Rattle.basis.proofs.Padded.{padded-more-map}
-use Rattle.text.specs.Parts.{fields, comma, Found}
+use Rattle.text.specs.Parts.{fields, comma}
+use Rattle.text.specs.Inner.{Found}
 use Rattle.text.specs.declared.kind.Kind.the-variants.{Rule as RuleKind}
 use Rattle.text.proofs.Split.{split-pos}
 use Rattle.words.specs.Word.{parsed, wordIn}

@@ -11,7 +11,7 @@ use lib.ListN.{length, replicate}
 use Rattle.basis.specs.Lists.{all, padded}
 use Rattle.basis.proofs.Bools.{and-left, and-right, and-both}
 use Rattle.basis.proofs.Lists.{all-at, all-of, all-map, all-replicate}
-use Rattle.words.specs.Word.{inDigits}
+use Rattle.words.specs.Inner.{inDigits}
 use Rattle.words.specs.declared.Word.{Word}
 use Rattle.words.specs.declared.Word.the-variants.{True, False, Holds, Compares, Not, And, Or}
 use Rattle.words.specs.declared.Holding.the-variants.{User, Object}

@@ -10,8 +10,8 @@ use lib.Seq.{append-snoc}
 use lib.ListN.{length, drop}
 use borrow.Author.Tests.{eqb-true}
 use Rattle.basis.specs.Lists.{all}
-use Rattle.text.specs.Parts.{Line as TextLine, comma, fields, join, lines}
-use Rattle.text.specs.Kind.{placeOf, isKind, wordOf, named}
+use Rattle.text.specs.Parts.{TextLine, comma, fields, join, lines}
+use Rattle.text.specs.Kind.{layoutOf, placeOf, isKind, named}
 use Rattle.text.specs.declared.kind.Kind.{Kind}
 use Rattle.text.specs.declared.kind.Kind.the-variants.{End}
 use Rattle.text.specs.declared.kind.Named.the-variants.{Is}
@@ -21,11 +21,11 @@ use Rattle.policy.specs.Limits.{textBytes}
 use Rattle.policy.specs.Policy.{Policy}
 use Rattle.policy.specs.Line.{Line, countFits, formFits, fieldAt, lineOf}
 use Rattle.policy.specs.Read.{Accepted, Refused, kindOf, State, start, after, lineRefusal, lineAfter, ending, readLines, readText}
-use Rattle.policy.specs.Text.{linesOf, laterFields, lineText}
-use Rattle.policy.proofs.Sound.{sound}
+use Rattle.policy.specs.Text.{linesOf, fieldsOf, lineText}
+use Rattle.policy.specs.Inner.Sound.{sound}
 use Rattle.policy.proofs.Passed.{Passed, taken}
-use Rattle.policy.proofs.Reading.{Reading, reading-start, reading-next, reading-sound, line-kind, none-later}
-use Rattle.policy.proofs.Fields.{fieldsOf, later-fields}
+use Rattle.policy.proofs.Reading.{Reading, reading-start, reading-next, reading-sound, none-later}
+use Rattle.policy.proofs.Fields.{later-fields}
 use Rattle.policy.proofs.SoFar.{soFar, so-far-all, so-far-more}
 
 -- ---- a line of the text
@@ -35,11 +35,10 @@ head-fields [] h = absurd (omega arith)
 head-fields (f ∷ fs) h = refl
 
 -- an accepted line is written as its fields, and so as its bytes
-fields-line : (k : Kind) (fs : List (List ℕ)) → 1 ≤ length fs → named (fieldAt fs 0) ≡ Is k → countFits k (length fs) ≡ true → formFits k fs ≡ true
-    → fieldsOf (lineOf k fs) ≡ fs
+fields-line : (k : Kind) (fs : List (List ℕ)) → 1 ≤ length fs → named (fieldAt fs 0) ≡ Is k
+    → countFits (layoutOf k) (length fs) ≡ true → formFits (layoutOf k) fs ≡ true → fieldsOf (lineOf k fs) ≡ fs
 fields-line k fs h n c f =
-    ap (λ (j : Kind). wordOf j ∷ laterFields j (lineOf k fs)) (line-kind k fs)
-    ∙ sym (head-fields fs h ∙ ap₂ (λ (w : List ℕ) (ws : List (List ℕ)). w ∷ ws) (word-named (fieldAt fs 0) k n) (later-fields k fs c f))
+    sym (head-fields fs h ∙ ap₂ (λ (w : List ℕ) (ws : List (List ℕ)). w ∷ ws) (word-named (fieldAt fs 0) k n) (later-fields (layoutOf k) fs c f))
 
 line-text : (k : Kind) (e : Bool) (l : List ℕ) (b : Option Kind) (p : Policy) → kindOf l ≡ Is k → Passed b p e k (fields l)
     → lineText (lineOf k (fields l)) ≡ l
@@ -87,7 +86,7 @@ ended (some k) p n q r e = go (isKind End k) refl
         (record {
           lines-are = append-nil (texts (soFar (some k) p)) ∙ ap texts (so-far-all k p h);
           ended-all = refl;
-          sound-is = reading-sound (record { before = some k; policy = p }) r (omega (arith, eqb-true 8 (placeOf k) h));
+          sound-is = reading-sound (record { before = some k; policy = p }) r (omega (arith, eqb-true (placeOf End) (placeOf k) h));
         })
 
 reads : (ls : List TextLine) (n : ℕ) (s : State) (q : Policy) → Reading s → readLines s n ls ≡ Accepted q → Reads s ls q

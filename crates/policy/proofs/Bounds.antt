@@ -14,19 +14,20 @@ use borrow.Author.Tests.{leb-true, ltb-true, eqb-true, lt-ltb}
 use Rattle.basis.specs.Lists.{all, sum}
 use Rattle.basis.proofs.Bools.{and-left, and-right, or-cases}
 use Rattle.basis.proofs.Lists.{all-at, all-of}
-use Rattle.seniority.specs.Seniority.{From, Ordered}
+use Rattle.seniority.specs.Inner.{From, Ordered}
 use Rattle.seniority.specs.declared.Direct.{Direct}
 use Rattle.words.specs.declared.Word.{Word}
 use Rattle.words.specs.declared.Word.the-variants.{True, False, Holds, Compares, Not, And, Or}
 use Rattle.words.specs.declared.Holding.the-variants.{User as UserValue, Object as ObjectValue}
 use Rattle.words.specs.declared.Comparison.the-variants.{Dominates, Equals}
-use Rattle.words.specs.Word.{inDigits}
+use Rattle.words.specs.Inner.{inDigits}
 use Rattle.policy.specs.Limits.{values, actions, mostValues, userNumbers, objectNumbers, mostLines}
 use Rattle.policy.specs.Policy.{Side, Rule, Policy, total, sets, attributeOf}
-use Rattle.policy.specs.Checks.{widthFits, pairFits, entryFits, bothThere, wordFits}
+use Rattle.policy.specs.Checks.{sideSizes, sizes, widthFits, pairFits, entryFits, bothThere, wordFits}
+use Rattle.policy.specs.Value.{widthPlaces, entryPlaces, rulePlaces, linePlaces}
+use Rattle.policy.specs.Inner.Sound.{widthsSound, ruleSound, listsSound}
 use Rattle.policy.specs.declared.value.Entry.{Entry}
 use Rattle.policy.proofs.Forms.{values-most, actions-most}
-use Rattle.policy.proofs.Sound.{widthsSound, ruleSound, listsSound, WithinSide, Within}
 use Rattle.policy.proofs.Rising.{rising, head, rising-at, rising-few}
 use Rattle.policy.proofs.Parts.{lineFits, lineAbove, numberFits, numberAbove, actionAbove, SideParts, RuleParts, rule-parts, Parts, parts}
 
@@ -38,36 +39,32 @@ pub record Width (most n w : ℕ) : Type 0 where
   pub small : w ≤ most
   pub fits : n + w ≤ most
 
-width-test : (most n w : ℕ) → (leb 1 w && (leb w most && leb (n + w) most)) ≡ true → Width most n w
-width-test most n w e =
+pub width-fits : (most n w : ℕ) → widthFits most n w ≡ true → Width most n w
+unfolding widthFits
+width-fits most n w e =
     let e₁ = and-right (leb 1 w) _ e in
     record { some = leb-true 1 w (and-left _ _ e); small = leb-true w most (and-left _ _ e₁); fits = leb-true (n + w) most (and-right (leb w most) _ e₁) }
-
-pub width-fits : (most : ℕ) (s : Side) (w : ℕ) → widthFits most s w ≡ true → Width most (total s) w
-unfolding widthFits
-width-fits most s w e = width-test most (total s) w e
 
 module _ (most : ℕ) where
   pub width-head : (n w : ℕ) (ws : List ℕ) → widthsSound most n (w ∷ ws) ≡ true → Width most n w
   unfolding widthsSound
-  width-head n w ws e = width-test most n w (and-left _ _ e)
+  width-head n w ws e = width-fits most n w (and-left _ _ e)
 
   pub width-tail : (n w : ℕ) (ws : List ℕ) → widthsSound most n (w ∷ ws) ≡ true → widthsSound most (n + w) ws ≡ true
   unfolding widthsSound
-  width-tail n w ws e = and-right (leb 1 w && (leb w most && leb (n + w) most)) _ e
+  width-tail n w ws e = and-right (widthFits most n w) _ e
 
   -- one width more
-  widths-after : (n : ℕ) (ws : List ℕ) (w : ℕ) → widthsSound most n ws ≡ true → (leb 1 w && (leb w most && leb (n + sum ws + w) most)) ≡ true
+  widths-after : (n : ℕ) (ws : List ℕ) (w : ℕ) → widthsSound most n ws ≡ true → widthFits most (n + sum ws) w ≡ true
       → widthsSound most n (ws ++ (w ∷ [])) ≡ true
   unfolding widthsSound sum
   widths-after n [] w e f = rw (rw add-zero at f)
   widths-after n (v ∷ ws) w e f =
-      rw (and-left (leb 1 v && (leb v most && leb (n + v) most)) _ e)
+      rw (and-left (widthFits most n v) _ e)
       (widths-after (n + v) ws w (width-tail n v ws e) (rw (← add-assoc n v (sum ws)) at f))
 
-  pub widths-more : (s : Side) (w : ℕ) → widthsSound most 0 (s .widths) ≡ true → widthFits most s w ≡ true → widthsSound most 0 (s .widths ++ (w ∷ [])) ≡ true
-  unfolding widthFits total
-  widths-more s w e f = widths-after 0 (s .widths) w e (rw (zero-add (sum (s .widths))) f)
+  pub widths-more : (ws : List ℕ) (w : ℕ) → widthsSound most 0 ws ≡ true → widthFits most (sum ws) w ≡ true → widthsSound most 0 (ws ++ (w ∷ [])) ≡ true
+  widths-more ws w e f = widths-after 0 ws w e (rw (zero-add (sum ws)) f)
 
   widths-total : (n : ℕ) (ws : List ℕ) → n ≤ most → widthsSound most n ws ≡ true → n + sum ws ≤ most
   unfolding sum
@@ -92,7 +89,7 @@ pub record Pair (s : Side) (v j : ℕ) : Type 0 where
   pub same : attributeOf (s .widths) v ≡ attributeOf (s .widths) j
   pub above : j < v
 
-pub pair-fits : (s : Side) (v j : ℕ) → pairFits s v j ≡ true → Pair s v j
+pub pair-fits : (s : Side) (v j : ℕ) → pairFits (sideSizes s) v j ≡ true → Pair s v j
 unfolding pairFits
 pair-fits s v j e =
     let e₁ = and-right (ltb v (total s)) _ e in
@@ -172,9 +169,6 @@ module _ (most : ℕ) (s : Side) (h : SideParts most s) where
   pub width-bounds : (w : ℕ) → List·Memᴰ w (s .widths) → (1 ≤ w) × (w ≤ most)
   width-bounds = widths-at most 0 (s .widths) (h .widths)
 
-  pub line-bounds : (l : Direct) → List·Memᴰ l (s .lines) → Pair s (l .senior) (l .junior)
-  line-bounds l m = pair-fits s (l .senior) (l .junior) (rising-at (lineFits s) lineAbove none (s .lines) (h .lines) l m)
-
   pub lines-ordered : Ordered (total s) (s .lines)
   lines-ordered = ordered s none (s .lines) (h .lines)
 
@@ -222,7 +216,7 @@ module _ (p : Policy) (t : Parts p) where
   digit-object : (v : ℕ) → ltb v (total (p .object)) ≡ true → ltb v 10 ≡ true
   digit-object v e = lt-ltb v 10 (omega (arith, total-few (p .form) (p .object) (t .object), ltb-true v (total (p .object)) e))
 
-  digits-both : (i j : ℕ) → bothThere p i j ≡ true → (ltb i 10 && ltb j 10) ≡ true
+  digits-both : (i j : ℕ) → bothThere (sizes p) i j ≡ true → (ltb i 10 && ltb j 10) ≡ true
   digits-both i j e =
       let u = attributes-few (values (p .form)) (p .user) (t .user) in
       let o = attributes-few (values (p .form)) (p .object) (t .object) in
@@ -230,7 +224,7 @@ module _ (p : Policy) (t : Parts p) where
       let b = ltb-true j (length (p .object .widths)) (and-right (ltb i (length (p .user .widths))) _ e) in
       rw (digit-user i (lt-ltb i (total (p .user)) (omega arith)), digit-object j (lt-ltb j (total (p .object)) (omega arith)))
 
-  pub word-digits : (w : Word) → wordFits p w ≡ true → inDigits w ≡ true
+  pub word-digits : (w : Word) → wordFits (sizes p) w ≡ true → inDigits w ≡ true
   unfolding inDigits
   word-digits True e = refl
   word-digits False e = refl
@@ -243,9 +237,20 @@ module _ (p : Policy) (t : Parts p) where
   word-digits Or e = refl
 
   pub rule-digits : (r : Rule) → RuleParts p r → all inDigits (r .words) ≡ true
-  rule-digits r q = all-of inDigits (r .words) (λ w m. word-digits w (all-at (wordFits p) (r .words) (q .fit) w m))
+  rule-digits r q = all-of inDigits (r .words) (λ w m. word-digits w (all-at (wordFits (sizes p)) (r .words) (q .fit) w m))
 
 -- ---- the lists fit their arrays
+
+pub record WithinSide (s : Side) : Type 0 where
+  pub widths : length (s .widths) ≤ widthPlaces
+  pub lines : length (s .lines) ≤ linePlaces
+
+pub record Within (p : Policy) : Type 0 where
+  pub user : WithinSide (p .user)
+  pub object : WithinSide (p .object)
+  pub users : length (p .users) ≤ entryPlaces
+  pub objects : length (p .objects) ≤ entryPlaces
+  pub rules : length (p .rules) ≤ rulePlaces
 
 -- as many pairs as there are lines at most
 triangle-most : triangle mostValues ≤ mostLines

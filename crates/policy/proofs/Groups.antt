@@ -6,7 +6,7 @@ use Rattle.text.specs.Kind.{placeOf}
 use Rattle.text.specs.declared.kind.Kind.{Kind}
 use Rattle.text.specs.declared.kind.Kind.the-variants.{Policy as PolicyKind, Uattr, Oattr, Usen, Osen, User, Object, End}
 use Rattle.policy.specs.Policy.{Policy}
-use Rattle.policy.specs.Line.{Line, plain}
+use Rattle.policy.specs.Line.{Line, noNumbers, oneNumber, plain}
 use Rattle.policy.specs.Text.{widthLines, pairLines, entryLines, ruleLines, linesOf}
 
 -- lists of lists in a row
@@ -30,7 +30,7 @@ flat-more f xs x a b e =
 -- the lines of each kind, in the order of their places
 unfoldable pub groups : Policy → List (List Line)
 groups p =
-    (plain PolicyKind (p .form) 0 ∷ [])
+    (plain PolicyKind (oneNumber (p .form)) ∷ [])
     ∷ widthLines Uattr (p .user)
     ∷ widthLines Oattr (p .object)
     ∷ pairLines Usen (p .user)
@@ -38,7 +38,7 @@ groups p =
     ∷ entryLines User (p .users)
     ∷ entryLines Object (p .objects)
     ∷ ruleLines (p .rules)
-    ∷ (plain End 0 0 ∷ [])
+    ∷ (plain End noNumbers ∷ [])
     ∷ []
 
 -- all lines but the end line, and the lines from a kind on

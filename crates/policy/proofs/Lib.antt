@@ -15,8 +15,8 @@ pub mod Reading
 pub mod Rising
 pub mod RoundTrip
 pub mod Same
+pub mod Shorts
 pub mod SoFar
-pub mod Sound
 pub mod Valid
 pub mod Values
 pub mod Written

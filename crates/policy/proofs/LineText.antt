@@ -1,26 +1,25 @@
--- The text of a line: it is parted into the line's fields, holds no line feed and is short.
-use Prim.Native.Nat.{ℕ, _*_, _≤_}
+-- The text of a line: it is parted into the line's fields and holds no line feed.
+use Prim.Native.Nat.{ℕ}
 use mathlib.Core.Path.{_≡_, refl}
 use mathlib.Core.Bool.{Bool, true, false, not}
 use mathlib.Core.List.{List, [], _∷_, _++_, map}
 use native.Mathlib.Omega.{arith}
-use lib.Dec.{eqb, leb}
-use lib.ListN.{length, length-append}
-use borrow.Author.Tests.{leb-true, le-leb}
+use lib.Dec.{eqb}
 use Rattle.basis.specs.Lists.{all}
 use Rattle.basis.proofs.Bools.{and-left, and-right}
 use Rattle.text.specs.Number.{decimal}
 use Rattle.text.specs.Parts.{comma, lineFeed, join, fields}
-use Rattle.text.specs.Kind.{wordOf}
+use Rattle.text.specs.Kind.{wordOf, layoutOf}
 use Rattle.text.specs.declared.kind.Kind.{Kind}
-use Rattle.text.specs.declared.kind.Kind.the-variants.{Policy as PolicyKind, Uattr, Oattr, Usen, Osen, User, Object, Rule as RuleKind, End}
-use Rattle.text.proofs.RoundTrip.{decimal-short, decimal-lacks-comma, decimal-lacks-feed, lacks, split-join, word-lacks-comma, word-lacks-feed, word-short}
+use Rattle.text.specs.declared.kind.Layout.{Layout}
+use Rattle.text.specs.declared.kind.Layout.the-variants.{Bare, One, Two, Three, Formula}
+use Rattle.text.specs.declared.number.Numbers.{Numbers}
+use Rattle.text.proofs.RoundTrip.{decimal-lacks-comma, decimal-lacks-feed, lacks, split-join, word-lacks-comma, word-lacks-feed}
 use Rattle.words.specs.Word.{written}
 use Rattle.words.specs.declared.Word.{Word}
-use Rattle.words.proofs.RoundTrip.{written-short, written-lacks-comma, written-lacks-feed}
+use Rattle.words.proofs.RoundTrip.{written-lacks-comma, written-lacks-feed}
 use Rattle.policy.specs.Line.{Line}
-use Rattle.policy.specs.Text.{laterFields, lineText}
-use Rattle.policy.proofs.Fields.{fieldsOf}
+use Rattle.policy.specs.Text.{laterFields, fieldsOf, lineText}
 
 -- a test that kind words, numbers and words pass is passed by each field
 module _ (f : List ℕ → Bool) (hk : (k : Kind) → f (wordOf k) ≡ true) (hn : (n : ℕ) → f (decimal n) ≡ true) (hw : (w : Word) → f (written w) ≡ true) where
@@ -29,21 +28,17 @@ module _ (f : List ℕ → Bool) (hk : (k : Kind) → f (wordOf k) ≡ true) (hn
   each-word [] = refl
   each-word (w ∷ ws) = rw (hw w) (each-word ws)
 
-  each-later : (k : Kind) (l : Line) → all f (laterFields k l) ≡ true
+  each-later : (x : Layout) (n : Numbers) (ws : List Word) → all f (laterFields x n ws) ≡ true
   unfolding all laterFields
-  each-later PolicyKind l = rw (hn (l .first))
-  each-later Uattr l = rw (hn (l .first))
-  each-later Oattr l = rw (hn (l .first))
-  each-later Usen l = rw (hn (l .first), hn (l .second))
-  each-later Osen l = rw (hn (l .first), hn (l .second))
-  each-later User l = rw (hn (l .first), hn (l .second))
-  each-later Object l = rw (hn (l .first), hn (l .second))
-  each-later RuleKind l = rw (hn (l .first)) (each-word (l .words))
-  each-later End l = refl
+  each-later Bare n ws = refl
+  each-later One n ws = rw (hn (n .first))
+  each-later Two n ws = rw (hn (n .first), hn (n .second))
+  each-later Three n ws = rw (hn (n .first), hn (n .second), hn (n .third))
+  each-later Formula n ws = rw (hn (n .first)) (each-word ws)
 
   each-field : (l : Line) → all f (fieldsOf l) ≡ true
   unfolding all
-  each-field l = rw (hk (l .kind)) (each-later (l .kind) l)
+  each-field l = rw (hk (l .kind)) (each-later (layoutOf (l .kind)) (l .numbers) (l .words))
 
 -- the text is parted into the fields
 pub fields-text : (l : Line) → fields (lineText l) ≡ fieldsOf l
@@ -66,21 +61,3 @@ lacks-join b c (f ∷ g ∷ fs) e h =
 pub text-lacks-feed : (l : Line) → lacks lineFeed (lineText l) ≡ true
 unfolding lineText
 text-lacks-feed l = lacks-join lineFeed comma (fieldsOf l) refl (each-field (lacks lineFeed) word-lacks-feed decimal-lacks-feed written-lacks-feed l)
-
--- each field has at most six bytes, so with its separator at most seven
-shortField : List ℕ → Bool
-shortField f = leb (length f) 6
-
-join-short : (c : ℕ) (fs : List (List ℕ)) → all shortField fs ≡ true → length (join c fs) ≤ 7 * length fs
-unfolding all join shortField
-join-short c [] h = omega arith
-join-short c (f ∷ []) h = omega (arith, leb-true (length f) 6 (and-left _ _ h))
-join-short c (f ∷ g ∷ fs) h =
-    omega (arith, leb-true (length f) 6 (and-left _ _ h), length-append f (c ∷ join c (g ∷ fs)), join-short c (g ∷ fs) (and-right (leb (length f) 6) _ h))
-
-pub line-short : (l : Line) → length (lineText l) ≤ 7 * length (fieldsOf l)
-unfolding lineText shortField
-line-short l =
-    join-short comma (fieldsOf l)
-    (each-field shortField (λ k. le-leb (length (wordOf k)) 6 (word-short k)) (λ n. le-leb (length (decimal n)) 6 (omega (arith, decimal-short n)))
-    (λ w. le-leb (length (written w)) 6 (omega (arith, written-short w))) l)

@@ -14,7 +14,7 @@ use Rattle.basis.proofs.Same.{agree-eq}
 use Rattle.basis.proofs.Table.{everyEntry}
 use Rattle.text.specs.Kind.{kinds, placeOf, follows}
 use Rattle.text.specs.declared.kind.Kind.{Kind}
-use Rattle.text.specs.declared.kind.Kind.the-variants.{Uattr, Oattr, Usen, Osen, User, Object, Rule as RuleKind}
+use Rattle.text.specs.declared.kind.Kind.the-variants.{Uattr, Oattr, Usen, Osen, User, Object, Rule as RuleKind, End}
 use Rattle.text.proofs.Naming.{each-kind}
 use Rattle.policy.specs.Policy.{Policy}
 use Rattle.policy.specs.Line.{allowed}
@@ -26,9 +26,13 @@ abbrev pub reached : Option Kind → ℕ
 reached none = 0
 reached (some k) = suc (placeOf k)
 
+-- every text reaches at least this place before its end: behind the last of the kinds that it must have
+abbrev pub required : ℕ
+required = suc (placeOf Oattr)
+
 -- the kind at place j may stand where the kinds before place i were reached
 abbrev may : ℕ → ℕ → Bool
-may i j = leb (min j 3) i && (leb i (min (suc j) 8) && implies (eqb j 0) (eqb i 0))
+may i j = leb (min j required) i && (leb i (min (suc j) (placeOf End)) && implies (eqb j 0) (eqb i 0))
 
 follows-may : (j k : Kind) → follows j k ≡ may (suc (placeOf j)) (placeOf k)
 unfolding follows
@@ -47,8 +51,8 @@ allowed-may none k = first-may k
 allowed-may (some j) k = follows-may j k
 
 pub record May (i j : ℕ) : Type 0 where
-  pub low : min j 3 ≤ i
-  pub high : i ≤ min (suc j) 8
+  pub low : min j required ≤ i
+  pub high : i ≤ min (suc j) (placeOf End)
   pub first : j ≡ 0 → i ≡ 0
 
 implied : (a b : Bool) → implies a b ≡ true → a ≡ true → b ≡ true
@@ -60,11 +64,11 @@ allowed-order b k a =
     let i = reached b in
     let j = placeOf k in
     let e = sym (allowed-may b k) ∙ a in
-    let e₁ = and-right (leb (min j 3) i) _ e in
+    let e₁ = and-right (leb (min j required) i) _ e in
     record {
-      low = leb-true (min j 3) i (and-left _ _ e);
-      high = leb-true i (min (suc j) 8) (and-left _ _ e₁);
-      first = λ h. eqb-true i 0 (implied (eqb j 0) (eqb i 0) (and-right (leb i (min (suc j) 8)) _ e₁) (eq-eqb j 0 h));
+      low = leb-true (min j required) i (and-left _ _ e);
+      high = leb-true i (min (suc j) (placeOf End)) (and-left _ _ e₁);
+      first = λ h. eqb-true i 0 (implied (eqb j 0) (eqb i 0) (and-right (leb i (min (suc j) (placeOf End))) _ e₁) (eq-eqb j 0 h));
     }
 
 not-first : (i j : ℕ) → (j ≡ 0 → i ≡ 0) → implies (eqb j 0) (eqb i 0) ≡ true
@@ -75,7 +79,7 @@ pub order-allowed : (b : Option Kind) (k : Kind) → May (reached b) (placeOf k)
 order-allowed b k m =
     let i = reached b in
     let j = placeOf k in
-    allowed-may b k ∙ rw (le-leb (min j 3) i (m .low), le-leb i (min (suc j) 8) (m .high), not-first i j (m .first))
+    allowed-may b k ∙ rw (le-leb (min j required) i (m .low), le-leb i (min (suc j) (placeOf End)) (m .high), not-first i j (m .first))
 
 -- ---- the lines of the kinds before place i
 

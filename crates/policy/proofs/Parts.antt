@@ -11,22 +11,22 @@ use Rattle.basis.specs.Lists.{all}
 use Rattle.basis.proofs.Bools.{and-left, and-right}
 use Rattle.seniority.specs.declared.Direct.{Direct}
 use Rattle.policy.specs.Limits.{isForm, values, actions, userNumbers, objectNumbers, mostWords}
-use Rattle.policy.specs.Policy.{Side, Rule, Policy}
-use Rattle.policy.specs.Checks.{pairFits, pairAbove, entryFits, wordFits, widthsEqual, balanced}
+use Rattle.policy.specs.Policy.{Side, Rule, Policy, total}
+use Rattle.policy.specs.Checks.{sideSizes, sizes, pairFits, pairAbove, entryFits, wordFits, widthsEqual, balanced}
+use Rattle.policy.specs.Inner.Sound.{widthsSound, linesSound, entriesSound, ruleSound, rulesSound, sideSound, listsSound, sound}
 use Rattle.policy.specs.declared.value.Entry.{Entry}
-use Rattle.policy.proofs.Sound.{widthsSound, linesSound, entriesSound, ruleSound, rulesSound, sideSound, listsSound, sound}
 use Rattle.policy.proofs.Rising.{rising}
 
 -- ---- lists that rise
 
 abbrev pub lineFits : Side → Direct → Bool
-lineFits s l = pairFits s (l .senior) (l .junior)
+lineFits s l = pairFits (sideSizes s) (l .senior) (l .junior)
 
 abbrev pub lineAbove : Direct → Direct → Bool
 lineAbove b l = pairAbove (l .senior) (l .junior) b
 
 abbrev pub numberFits : ℕ → Side → Entry → Bool
-numberFits most s e = entryFits most s (e .number) (e .set)
+numberFits most s e = entryFits most (total s) (e .number) (e .set)
 
 abbrev pub numberAbove : Entry → Entry → Bool
 numberAbove b e = ltb (b .number) (e .number)
@@ -67,8 +67,8 @@ side-sound most s p = rw (p .widths, lines-rising s none (s .lines), p .lines)
 pub record RuleParts (p : Policy) (r : Rule) : Type 0 where
   pub few : length (r .words) ≤ mostWords
   pub action : r .action < actions (p .form)
-  pub fit : all (wordFits p) (r .words) ≡ true
-  pub equal : all (widthsEqual p) (r .words) ≡ true
+  pub fit : all (wordFits (sizes p)) (r .words) ≡ true
+  pub equal : all (widthsEqual (sizes p)) (r .words) ≡ true
   pub balance : balanced 0 (r .words) ≡ true
 
 pub rule-parts : (p : Policy) (r : Rule) → ruleSound p r ≡ true → RuleParts p r
@@ -76,13 +76,13 @@ unfolding ruleSound
 rule-parts p r e =
     let e₁ = and-right (leb (length (r .words)) mostWords) _ e in
     let e₂ = and-right (ltb (r .action) (actions (p .form))) _ e₁ in
-    let e₃ = and-right (all (wordFits p) (r .words)) _ e₂ in
+    let e₃ = and-right (all (wordFits (sizes p)) (r .words)) _ e₂ in
     record {
       few = leb-true _ _ (and-left (leb (length (r .words)) mostWords) _ e);
       action = ltb-true _ _ (and-left (ltb (r .action) (actions (p .form))) _ e₁);
       fit = and-left _ _ e₂;
       equal = and-left _ _ e₃;
-      balance = and-right (all (widthsEqual p) (r .words)) _ e₃;
+      balance = and-right (all (widthsEqual (sizes p)) (r .words)) _ e₃;
     }
 
 pub record Parts (p : Policy) : Type 0 where

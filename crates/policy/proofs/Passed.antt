@@ -7,7 +7,8 @@ use mathlib.Core.Option.{Option, none}
 use native.Mathlib.Omega.{arith}
 use lib.ListN.{length}
 use Rattle.basis.specs.Choice.{Check, check, lowest}
-use Rattle.text.specs.Parts.{Line as TextLine, fields}
+use Rattle.text.specs.Parts.{TextLine, fields}
+use Rattle.text.specs.Kind.{layoutOf}
 use Rattle.text.specs.declared.kind.Kind.{Kind}
 use Rattle.text.specs.declared.kind.Named.{Named}
 use Rattle.text.specs.declared.kind.Named.the-variants.{Is, Unknown}
@@ -26,8 +27,8 @@ lowest-next n false cs e = let z : _≡_ {A = ℕ} 0 1 = cc in absurd (omega ari
 pub record Passed (before : Option Kind) (p : Policy) (ended : Bool) (k : Kind) (fs : List (List ℕ)) : Type 0 where
   pub ends : ended ≡ true
   pub order : allowed before k ≡ true
-  pub count : countFits k (length fs) ≡ true
-  pub form : formFits k fs ≡ true
+  pub count : countFits (layoutOf k) (length fs) ≡ true
+  pub form : formFits (layoutOf k) fs ≡ true
   pub range : lineInRange p (lineOf k fs) ≡ true
   pub rise : lineRises p (lineOf k fs) ≡ true
   pub equal : lineWidthsEqual p (lineOf k fs) ≡ true
@@ -40,8 +41,8 @@ module _ (before : Option Kind) (p : Policy) (ended : Bool) where
       let l = lineOf k fs in
       let e₂ = lowest-next 2 ended _ e in
       let e₃ = lowest-next 3 (allowed before k) _ (e₂ .1) in
-      let e₄ = lowest-next 4 (countFits k (length fs)) _ (e₃ .1) in
-      let e₅ = lowest-next 5 (formFits k fs) _ (e₄ .1) in
+      let e₄ = lowest-next 4 (countFits (layoutOf k) (length fs)) _ (e₃ .1) in
+      let e₅ = lowest-next 5 (formFits (layoutOf k) fs) _ (e₄ .1) in
       let e₆ = lowest-next 6 (lineInRange p l) _ (e₅ .1) in
       let e₇ = lowest-next 7 (lineRises p l) _ (e₆ .1) in
       let e₈ = lowest-next 8 (lineWidthsEqual p l) _ (e₇ .1) in

@@ -13,7 +13,7 @@ use Rattle.policy.specs.Policy.{Policy}
 use Rattle.policy.specs.Line.{Line}
 use Rattle.policy.specs.Read.{Accepted, readText}
 use Rattle.policy.specs.Text.{linesOf, lineText, textOf}
-use Rattle.policy.proofs.Sound.{sound}
+use Rattle.policy.specs.Inner.Sound.{sound}
 use Rattle.policy.proofs.Parts.{parts, whole}
 use Rattle.policy.proofs.LineText.{text-lacks-feed}
 use Rattle.policy.proofs.SoFar.{soFar}
@@ -31,7 +31,7 @@ unfolding textOf texts soFar
 read-text t p e = let r = text-reads t p e in ap linesText (sym (r .lines-are)) ∙ text-lines t (r .ended-all)
 
 pub text-short : (p : Policy) → sound p ≡ true → length (textOf p) ≤ textBytes
-text-short p e = parts-short p (parts p (whole p e .lists))
+text-short p e = let w = whole p e in parts-short p (parts p (w .lists)) (w .form)
 
 -- ---- the lines of a policy's text
 

@@ -1,11 +1,11 @@
 -- The lines of the policy so far, while a text is read: each line that is taken adds itself at their end.
-use Prim.Native.Nat.{ℕ, suc, _≤_}
+use Prim.Native.Nat.{ℕ, suc, _≤_, _<_}
 use mathlib.Core.Path.{_≡_, refl, sym, ap, _∙_, subst}
 use mathlib.Core.Bool.{true, cond}
 use mathlib.Core.List.{List, [], _∷_, _++_, map, append-nil}
 use mathlib.Core.Option.{Option, none, some}
 use native.Mathlib.Omega.{arith}
-use lib.Dec.{lit≤}
+use lib.Dec.{lit≤, lit<}
 use lib.ListN.{take, drop}
 use borrow.Author.Tests.{ne-eqb}
 use Rattle.seniority.specs.Seniority.{direct}
@@ -15,7 +15,7 @@ use Rattle.text.specs.Kind.{placeOf, isKind}
 use Rattle.text.specs.declared.kind.Kind.{Kind}
 use Rattle.text.specs.declared.kind.Kind.the-variants.{Policy as PolicyKind, Uattr, Oattr, Usen, Osen, User, Object, Rule as RuleKind, End}
 use Rattle.policy.specs.Policy.{Rule, Policy}
-use Rattle.policy.specs.Line.{Line, allowed, plain, ruleLine, lineOf}
+use Rattle.policy.specs.Line.{Line, allowed, noNumbers, oneNumber, twoNumbers, numbersOf, wordsOf, plain, ruleLine, lineOf}
 use Rattle.policy.specs.Checks.{extended, withLineOf}
 use Rattle.policy.specs.Text.{linesOf}
 use Rattle.policy.specs.declared.value.Entry.{Entry}
@@ -26,10 +26,10 @@ unfoldable pub soFar : Option Kind → Policy → List Line
 soFar none p = []
 soFar (some k) p = openLines p ++ cond (isKind End k) (linesFrom End p) []
 
-so-far-open : (b : Option Kind) (p : Policy) → 1 ≤ reached b → reached b ≤ 8 → soFar b p ≡ openLines p
+so-far-open : (b : Option Kind) (p : Policy) → 1 ≤ reached b → reached b ≤ placeOf End → soFar b p ≡ openLines p
 unfolding soFar
 so-far-open none p h g = absurd (omega arith)
-so-far-open (some k) p h g = rw (ne-eqb 8 (placeOf k) (λ e. omega (arith, e)), append-nil)
+so-far-open (some k) p h g = rw (ne-eqb (placeOf End) (placeOf k) (λ e. omega (arith, e)), append-nil)
 
 pub so-far-all : (k : Kind) (p : Policy) → isKind End k ≡ true → soFar (some k) p ≡ linesOf p
 unfolding soFar
@@ -44,26 +44,26 @@ group-more : {A : Type 0} (k : Kind) (p : Policy) (f : A → Line) (xs : List A)
 group-more k p f xs x e = flat-more f xs x (take (placeOf k) (groups p)) (behind k p) e
 
 -- one line more
-open-more : (k : Kind) (fs : List (List ℕ)) (p : Policy) → 1 ≤ placeOf k → placeOf k ≤ 7 → let q = cut (suc (placeOf k)) p in
+open-more : (k : Kind) (fs : List (List ℕ)) (p : Policy) → 1 ≤ placeOf k → placeOf k < placeOf End → let q = cut (suc (placeOf k)) p in
     openLines (withLineOf (lineOf k fs) q) ≡ openLines q ++ (lineOf k fs ∷ [])
-unfolding openLines groups behind lineOf extended cut
+unfolding openLines groups behind numbersOf wordsOf extended cut
 open-more PolicyKind fs p h g = absurd (omega arith)
-open-more Uattr fs p h g = group-more Uattr p (λ w. plain Uattr w 0) (p .user .widths) (lineOf Uattr fs .first) refl
-open-more Oattr fs p h g = group-more Oattr p (λ w. plain Oattr w 0) (p .object .widths) (lineOf Oattr fs .first) refl
+open-more Uattr fs p h g = group-more Uattr p (λ w. plain Uattr (oneNumber w)) (p .user .widths) (lineOf Uattr fs .numbers .first) refl
+open-more Oattr fs p h g = group-more Oattr p (λ w. plain Oattr (oneNumber w)) (p .object .widths) (lineOf Oattr fs .numbers .first) refl
 open-more Usen fs p h g =
-    group-more Usen p (λ (l : Direct). plain Usen (l .senior) (l .junior)) (p .user .lines) (direct (lineOf Usen fs .first) (lineOf Usen fs .second)) refl
+    group-more Usen p (λ (l : Direct). plain Usen (twoNumbers (l .senior) (l .junior))) (p .user .lines) (direct (lineOf Usen fs .numbers .first) (lineOf Usen fs .numbers .second)) refl
 open-more Osen fs p h g =
-    group-more Osen p (λ (l : Direct). plain Osen (l .senior) (l .junior)) (p .object .lines) (direct (lineOf Osen fs .first) (lineOf Osen fs .second)) refl
+    group-more Osen p (λ (l : Direct). plain Osen (twoNumbers (l .senior) (l .junior))) (p .object .lines) (direct (lineOf Osen fs .numbers .first) (lineOf Osen fs .numbers .second)) refl
 open-more User fs p h g =
-    group-more User p (λ (e : Entry). plain User (e .number) (e .set)) (p .users) (record { number = lineOf User fs .first; set = lineOf User fs .second }) refl
+    group-more User p (λ (e : Entry). plain User (twoNumbers (e .number) (e .set))) (p .users) (record { number = lineOf User fs .numbers .first; set = lineOf User fs .numbers .second }) refl
 open-more Object fs p h g =
-    group-more Object p (λ (e : Entry). plain Object (e .number) (e .set)) (p .objects) (record { number = lineOf Object fs .first; set = lineOf Object fs .second }) refl
+    group-more Object p (λ (e : Entry). plain Object (twoNumbers (e .number) (e .set))) (p .objects) (record { number = lineOf Object fs .numbers .first; set = lineOf Object fs .numbers .second }) refl
 open-more RuleKind fs p h g =
-    group-more RuleKind p (λ (r : Rule). ruleLine (r .action) (r .words)) (p .rules) (record { action = lineOf RuleKind fs .first; words = lineOf RuleKind fs .words }) refl
+    group-more RuleKind p (λ (r : Rule). ruleLine (r .action) (r .words)) (p .rules) (record { action = lineOf RuleKind fs .numbers .first; words = lineOf RuleKind fs .words }) refl
 open-more End fs p h g = absurd (omega arith)
 
 module _ (fs : List (List ℕ)) (b : Option Kind) (p : Policy) where
-  mid-more : (k : Kind) → 1 ≤ placeOf k → placeOf k ≤ 7 → cut (suc (placeOf k)) p ≡ p → allowed b k ≡ true
+  mid-more : (k : Kind) → 1 ≤ placeOf k → placeOf k < placeOf End → cut (suc (placeOf k)) p ≡ p → allowed b k ≡ true
       → soFar (some k) (withLineOf (lineOf k fs) p) ≡ soFar b p ++ (lineOf k fs ∷ [])
   mid-more k h g e a =
       let m = allowed-order b k a in
@@ -71,22 +71,22 @@ module _ (fs : List (List ℕ)) (b : Option Kind) (p : Policy) where
       ∙ subst (λ (q : Policy). openLines (withLineOf (lineOf k fs) q) ≡ openLines q ++ (lineOf k fs ∷ [])) e (open-more k fs p h g)
       ∙ ap (λ (ls : List Line). ls ++ (lineOf k fs ∷ [])) (sym (so-far-open b p (omega (arith, m .low)) (omega (arith, m .high))))
 
-  end-more : cut 9 p ≡ p → allowed b End ≡ true → soFar (some End) (withLineOf (lineOf End fs) p) ≡ soFar b p ++ (lineOf End fs ∷ [])
-  unfolding soFar linesFrom groups lineOf extended
+  end-more : cut (suc (placeOf End)) p ≡ p → allowed b End ≡ true → soFar (some End) (withLineOf (lineOf End fs) p) ≡ soFar b p ++ (lineOf End fs ∷ [])
+  unfolding soFar linesFrom groups numbersOf wordsOf extended
   end-more e a =
       let m = allowed-order b End a in
-      ap (λ (ls : List Line). ls ++ (plain End 0 0 ∷ [])) (sym (so-far-open b p (omega (arith, m .low)) (omega (arith, m .high))))
+      ap (λ (ls : List Line). ls ++ (plain End noNumbers ∷ [])) (sym (so-far-open b p (omega (arith, m .low)) (omega (arith, m .high))))
 
 nothing-read : (b : Option Kind) (p : Policy) → reached b ≡ 0 → soFar b p ≡ []
 unfolding soFar
 nothing-read none p e = refl
 nothing-read (some k) p e = absurd (omega arith)
 
-first-open : (fs : List (List ℕ)) (p : Policy) → cut 1 p ≡ p → openLines (withLineOf (lineOf PolicyKind fs) p) ≡ lineOf PolicyKind fs ∷ []
-unfolding openLines groups lineOf extended cut
+first-open : (fs : List (List ℕ)) (p : Policy) → cut (suc (placeOf PolicyKind)) p ≡ p → openLines (withLineOf (lineOf PolicyKind fs) p) ≡ lineOf PolicyKind fs ∷ []
+unfolding openLines groups numbersOf wordsOf extended cut
 first-open fs p e = subst (λ (q : Policy). openLines (withLineOf (lineOf PolicyKind fs) q) ≡ lineOf PolicyKind fs ∷ []) e refl
 
-first-more : (fs : List (List ℕ)) (b : Option Kind) (p : Policy) → cut 1 p ≡ p → allowed b PolicyKind ≡ true
+first-more : (fs : List (List ℕ)) (b : Option Kind) (p : Policy) → cut (suc (placeOf PolicyKind)) p ≡ p → allowed b PolicyKind ≡ true
     → soFar (some PolicyKind) (withLineOf (lineOf PolicyKind fs) p) ≡ soFar b p ++ (lineOf PolicyKind fs ∷ [])
 first-more fs b p e a =
     so-far-open (some PolicyKind) (withLineOf (lineOf PolicyKind fs) p) (omega arith) (omega arith)
@@ -95,11 +95,11 @@ first-more fs b p e a =
 pub so-far-more : (k : Kind) (fs : List (List ℕ)) (b : Option Kind) (p : Policy) → cut (suc (placeOf k)) p ≡ p → allowed b k ≡ true
     → soFar (some k) (withLineOf (lineOf k fs) p) ≡ soFar b p ++ (lineOf k fs ∷ [])
 so-far-more PolicyKind fs b p = first-more fs b p
-so-far-more Uattr fs b p = mid-more fs b p Uattr (lit≤ tt) (lit≤ tt)
-so-far-more Oattr fs b p = mid-more fs b p Oattr (lit≤ tt) (lit≤ tt)
-so-far-more Usen fs b p = mid-more fs b p Usen (lit≤ tt) (lit≤ tt)
-so-far-more Osen fs b p = mid-more fs b p Osen (lit≤ tt) (lit≤ tt)
-so-far-more User fs b p = mid-more fs b p User (lit≤ tt) (lit≤ tt)
-so-far-more Object fs b p = mid-more fs b p Object (lit≤ tt) (lit≤ tt)
-so-far-more RuleKind fs b p = mid-more fs b p RuleKind (lit≤ tt) (lit≤ tt)
+so-far-more Uattr fs b p = mid-more fs b p Uattr (lit≤ tt) (lit< tt)
+so-far-more Oattr fs b p = mid-more fs b p Oattr (lit≤ tt) (lit< tt)
+so-far-more Usen fs b p = mid-more fs b p Usen (lit≤ tt) (lit< tt)
+so-far-more Osen fs b p = mid-more fs b p Osen (lit≤ tt) (lit< tt)
+so-far-more User fs b p = mid-more fs b p User (lit≤ tt) (lit< tt)
+so-far-more Object fs b p = mid-more fs b p Object (lit≤ tt) (lit< tt)
+so-far-more RuleKind fs b p = mid-more fs b p RuleKind (lit≤ tt) (lit< tt)
 so-far-more End fs b p = end-more fs b p

@@ -10,8 +10,8 @@ use Rattle.policy.specs.Read.{Outcome, Accepted, Refused, readText}
 use Rattle.policy.specs.Text.{textOf}
 use Rattle.policy.specs.Value.{valueOf, policyOf}
 use Rattle.policy.specs.Valid.{Yielded, sameValue, yields, valid}
+use Rattle.policy.specs.Inner.Sound.{sound}
 use Rattle.policy.specs.declared.value.PolicyValue.{PolicyValue}
-use Rattle.policy.proofs.Sound.{sound}
 use Rattle.policy.proofs.Parts.{Parts, parts, Whole, whole}
 use Rattle.policy.proofs.Same.{same-value}
 use Rattle.policy.proofs.Values.{policy-value}

@@ -1,37 +1,38 @@
 -- The lines of a sound policy are read back as the policy: list by list, from the end line to the first.
-use Prim.Native.Nat.{ℕ, suc, _≤_}
-use mathlib.Core.Path.{_≡_, refl, fun-ext}
+use Prim.Native.Nat.{ℕ, suc, _≤_, _<_}
+use mathlib.Core.Path.{_≡_, refl}
 use mathlib.Core.Bool.{true, false≢true}
 use mathlib.Core.List.{List, [], _∷_, _++_, map}
 use mathlib.Core.Option.{Option, none, some}
 use native.Mathlib.Omega.{arith}
-use lib.Dec.{lit≤}
+use lib.Dec.{lit≤, lit<}
 use lib.ListN.{length}
-use lib.Pow.{pow-mono}
-use borrow.Author.Tests.{lt-ltb, eqb-true}
+use borrow.Author.Tests.{lt-ltb}
 use Rattle.basis.specs.Choice.{given}
 use Rattle.basis.specs.Lists.{last, sum}
 use Rattle.basis.proofs.Snoc.{sum-snoc}
 use Rattle.basis.proofs.Bools.{and-left}
 use Rattle.seniority.specs.declared.Direct.{Direct}
-use Rattle.text.specs.Kind.{placeOf}
+use Rattle.text.specs.Kind.{layoutOf, placeOf}
 use Rattle.text.specs.declared.kind.Kind.{Kind}
 use Rattle.text.specs.declared.kind.Kind.the-variants.{Policy as PolicyKind, Uattr, Oattr, Usen, Osen, User, Object, Rule as RuleKind, End}
+use Rattle.text.specs.declared.kind.Layout.the-variants.{One}
 use Rattle.words.specs.declared.Word.{Word}
 use Rattle.policy.specs.Limits.{isForm, values, actions, userNumbers, objectNumbers}
-use Rattle.policy.specs.Policy.{Side, Rule, Policy, blank, total}
-use Rattle.policy.specs.Line.{Line, plain, ruleLine}
+use Rattle.policy.specs.Policy.{Rule, Policy, blank, total}
+use Rattle.policy.specs.Line.{Line, noNumbers, oneNumber, twoNumbers, plain, ruleLine}
 use Rattle.policy.specs.Text.{linesOf}
 use Rattle.policy.specs.Checks.{widthFits, pairFits, inRange, pairRises, entryRises, ruleRises, rises, balanced, balances, extended, withUser, withObject, withUsers, withObjects, withRules, withLineOf}
 use Rattle.policy.specs.Read.{start, ending, readLines}
+use Rattle.policy.specs.Inner.Sound.{widthsSound, ruleSound}
 use Rattle.policy.specs.declared.value.Entry.{Entry}
-use Rattle.policy.proofs.Forms.{values-most, actions-most}
-use Rattle.policy.proofs.Sound.{widthsSound, ruleSound}
-use Rattle.policy.proofs.Parts.{lineFits, lineAbove, numberFits, numberAbove, actionAbove, SideParts, rule-parts, Parts, parts, Whole}
-use Rattle.policy.proofs.Bounds.{width-head, width-tail, pair-fits, entry-fits, total-few, rule-digits}
+use Rattle.policy.proofs.Forms.{form-few}
+use Rattle.policy.proofs.Parts.{lineFits, lineAbove, numberFits, numberAbove, actionAbove, rule-parts, Parts, parts, Whole}
+use Rattle.policy.proofs.Bounds.{width-head, width-tail, rule-digits}
+use Rattle.policy.proofs.Shorts.{no-short, one-short, width-short, action-short, pair-short, entry-short}
 use Rattle.policy.proofs.Order.{reached, May, order-allowed, cut}
-use Rattle.policy.proofs.Growth.{Fits, plain-fits, fits-same, equal-same}
-use Rattle.policy.proofs.Fields.{OneNumber, TwoNumbers, policy-one, uattr-one, oattr-one, usen-two, osen-two, user-two, object-two, Back, one-back, two-back, rule-back, end-back}
+use Rattle.policy.proofs.Growth.{Fits, plain-fits}
+use Rattle.policy.proofs.Fields.{line-back, one-back, two-back}
 use Rattle.policy.proofs.Groups.{groups, linesFrom, lines-from}
 use Rattle.policy.proofs.ReadBack.{state, Leads, Good, leads-line, kind-lines, rising-lines}
 
@@ -42,89 +43,75 @@ module _ (p : Policy) (t : Parts p) where
 
   -- ---- widths
 
-  module _ (k : Kind) (o : OneNumber k) (put : List ℕ → Policy)
-      (fits : (ws : List ℕ) (w : ℕ) → widthFits (values (p .form)) (record { widths = ws; lines = [] }) w ≡ true → Fits k (put ws) w 0 []) where
+  module _ (k : Kind) (o : layoutOf k ≡ One) (put : List ℕ → Policy)
+      (fits : (ws : List ℕ) (w : ℕ) → widthFits (values (p .form)) (sum ws) w ≡ true → Fits k (put ws) (oneNumber w) []) where
     abbrev Sums : List ℕ → List ℕ → Type 0
     Sums done rest = widthsSound (values (p .form)) (sum done) rest ≡ true
 
-    width-good : (done : List ℕ) (w : ℕ) (rest : List ℕ) → Sums done (w ∷ rest) → Good (put done) (plain k w 0)
-    unfolding widthsSound widthFits total
+    width-good : (done : List ℕ) (w : ℕ) (rest : List ℕ) → Sums done (w ∷ rest) → Good (put done) (plain k (oneNumber w))
+    unfolding widthsSound
     width-good done w rest e =
-        record { back = one-back k o w (omega (arith, width-head (values (p .form)) (sum done) w rest e .small, values-most (p .form))); fits = fits done w (and-left _ _ e) }
+        record { back = one-back k o w (width-short (p .form) w (width-head (values (p .form)) (sum done) w rest e .small)); fits = fits done w (and-left _ _ e) }
 
     width-next : (done : List ℕ) (w : ℕ) (rest : List ℕ) → Sums done (w ∷ rest) → Sums (done ++ (w ∷ [])) rest
     width-next done w rest e = rw (sum-snoc done w) (width-tail (values (p .form)) (sum done) w rest e)
 
-    width-lines : 1 ≤ placeOf k → placeOf k ≤ 7 → ((ws : List ℕ) (w : ℕ) → withLineOf (plain k w 0) (put ws) ≡ put (ws ++ (w ∷ [])))
+    width-lines : 1 ≤ placeOf k → placeOf k < placeOf End → ((ws : List ℕ) (w : ℕ) → withLineOf (plain k (oneNumber w)) (put ws) ≡ put (ws ++ (w ∷ [])))
         → (ws : List ℕ) → 1 ≤ length ws → widthsSound (values (p .form)) 0 ws ≡ true → (more : List Line)
         → ((b : Option Kind) → May (reached b) (suc (placeOf k)) → Leads (state b (put ws)) more p)
-        → (b : Option Kind) → May (reached b) (placeOf k) → Leads (state b (put [])) (map (λ w. plain k w 0) ws ++ more) p
+        → (b : Option Kind) → May (reached b) (placeOf k) → Leads (state b (put [])) (map (λ w. plain k (oneNumber w)) ws ++ more) p
     unfolding sum
     width-lines h g grow ws l e more then b m =
-        kind-lines k h g (λ w. plain k w 0) (λ w. refl) put grow Sums width-good width-next ws more p then b m (λ z. omega arith) e
+        kind-lines k h g (λ w. plain k (oneNumber w)) (λ w. refl) put grow Sums width-good width-next ws more p then b m (λ z. omega arith) e
 
   oattr-lines : 1 ≤ length (p .object .widths) → From Usen → From Oattr
-  unfolding linesFrom groups cut extended inRange rises balances
+  unfolding linesFrom groups cut extended inRange rises balances total
   oattr-lines l =
-      width-lines Oattr oattr-one (λ ws. withObject (record { widths = ws; lines = [] }) (cut (placeOf Oattr) p))
-      (λ ws w f. plain-fits Oattr _ w 0 f refl refl) (lit≤ tt) (lit≤ tt) (λ ws w. refl)
+      width-lines Oattr refl (λ ws. withObject (record { widths = ws; lines = [] }) (cut (placeOf Oattr) p))
+      (λ ws w f. plain-fits Oattr _ _ f refl refl) (lit≤ tt) (lit< tt) (λ ws w. refl)
       (p .object .widths) l (t .object .widths) (linesFrom Usen p)
 
   uattr-lines : 1 ≤ length (p .user .widths) → From Oattr → From Uattr
-  unfolding linesFrom groups cut extended inRange rises balances
+  unfolding linesFrom groups cut extended inRange rises balances total
   uattr-lines l =
-      width-lines Uattr uattr-one (λ ws. withUser (record { widths = ws; lines = [] }) (cut (placeOf Uattr) p))
-      (λ ws w f. plain-fits Uattr _ w 0 f refl refl) (lit≤ tt) (lit≤ tt) (λ ws w. refl)
+      width-lines Uattr refl (λ ws. withUser (record { widths = ws; lines = [] }) (cut (placeOf Uattr) p))
+      (λ ws w f. plain-fits Uattr _ _ f refl refl) (lit≤ tt) (lit< tt) (λ ws w. refl)
       (p .user .widths) l (t .user .widths) (linesFrom Oattr p)
 
   -- ---- seniorities
 
-  pair-back : (k : Kind) → TwoNumbers k → (s : Side) → SideParts (values (p .form)) s → (l : Direct) → lineFits s l ≡ true
-      → Back (plain k (l .senior) (l .junior))
-  pair-back k o s h l f =
-      let b = pair-fits s (l .senior) (l .junior) f in
-      let m = total-few (p .form) s h in
-      two-back k o (l .senior) (l .junior) (omega (arith, b .value)) (omega (arith, b .value, b .above))
-
   usen-lines : From Osen → From Usen
   unfolding linesFrom groups cut extended inRange rises pairFits total pairRises balances
   usen-lines =
-      rising-lines Usen (lit≤ tt) (lit≤ tt) (λ (l : Direct). plain Usen (l .senior) (l .junior)) (λ l. refl)
+      rising-lines Usen (lit≤ tt) (lit< tt) (λ (l : Direct). plain Usen (twoNumbers (l .senior) (l .junior))) (λ l. refl)
       (λ ls. withUser (record { widths = p .user .widths; lines = ls }) (cut (placeOf Usen) p)) (λ ls l. refl) (lineFits (p .user)) lineAbove
-      (λ ls l f a. record { back = pair-back Usen usen-two (p .user) (t .user) l f; fits = plain-fits Usen _ _ _ f a refl })
+      (λ ls l f a. record { back = two-back Usen refl _ _ (pair-short (p .form) (p .user) (t .user) l f); fits = plain-fits Usen _ _ f a refl })
       (p .user .lines) (t .user .lines) (linesFrom Osen p) p
 
   osen-lines : From User → From Osen
   unfolding linesFrom groups cut extended inRange rises pairFits total pairRises balances
   osen-lines =
-      rising-lines Osen (lit≤ tt) (lit≤ tt) (λ (l : Direct). plain Osen (l .senior) (l .junior)) (λ l. refl)
+      rising-lines Osen (lit≤ tt) (lit< tt) (λ (l : Direct). plain Osen (twoNumbers (l .senior) (l .junior))) (λ l. refl)
       (λ ls. withObject (record { widths = p .object .widths; lines = ls }) (cut (placeOf Osen) p)) (λ ls l. refl) (lineFits (p .object)) lineAbove
-      (λ ls l f a. record { back = pair-back Osen osen-two (p .object) (t .object) l f; fits = plain-fits Osen _ _ _ f a refl })
+      (λ ls l f a. record { back = two-back Osen refl _ _ (pair-short (p .form) (p .object) (t .object) l f); fits = plain-fits Osen _ _ f a refl })
       (p .object .lines) (t .object .lines) (linesFrom User p) p
 
   -- ---- users and objects
 
-  entry-back : (k : Kind) → TwoNumbers k → (most : ℕ) → most ≤ 64 → (s : Side) → SideParts (values (p .form)) s → (e : Entry) → numberFits most s e ≡ true
-      → Back (plain k (e .number) (e .set))
-  entry-back k o most h s c e f =
-      let b = entry-fits most s e f in
-      let m = pow-mono (total-few (p .form) s c) in
-      two-back k o (e .number) (e .set) (omega (arith, b .0)) (omega (arith, b .1))
-
   user-lines : From Object → From User
   unfolding linesFrom groups cut extended inRange rises entryRises balances
   user-lines =
-      rising-lines User (lit≤ tt) (lit≤ tt) (λ (e : Entry). plain User (e .number) (e .set)) (λ e. refl)
+      rising-lines User (lit≤ tt) (lit< tt) (λ (e : Entry). plain User (twoNumbers (e .number) (e .set))) (λ e. refl)
       (λ es. withUsers es (cut (placeOf User) p)) (λ es e. refl) (numberFits userNumbers (p .user)) numberAbove
-      (λ es e f a. record { back = entry-back User user-two userNumbers (lit≤ tt) (p .user) (t .user) e f; fits = plain-fits User _ _ _ f a refl })
+      (λ es e f a. record { back = two-back User refl _ _ (entry-short (p .form) (p .user) (t .user) userNumbers (lit≤ tt) e f); fits = plain-fits User _ _ f a refl })
       (p .users) (t .users) (linesFrom Object p) p
 
   object-lines : From RuleKind → From Object
   unfolding linesFrom groups cut extended inRange rises entryRises balances
   object-lines =
-      rising-lines Object (lit≤ tt) (lit≤ tt) (λ (e : Entry). plain Object (e .number) (e .set)) (λ e. refl)
+      rising-lines Object (lit≤ tt) (lit< tt) (λ (e : Entry). plain Object (twoNumbers (e .number) (e .set))) (λ e. refl)
       (λ es. withObjects es (cut (placeOf Object) p)) (λ es e. refl) (numberFits objectNumbers (p .object)) numberAbove
-      (λ es e f a. record { back = entry-back Object object-two objectNumbers (lit≤ tt) (p .object) (t .object) e f; fits = plain-fits Object _ _ _ f a refl })
+      (λ es e f a. record { back = two-back Object refl _ _ (entry-short (p .form) (p .object) (t .object) objectNumbers (lit≤ tt) e f); fits = plain-fits Object _ _ f a refl })
       (p .objects) (t .objects) (linesFrom RuleKind p) p
 
   -- ---- rules
@@ -140,12 +127,18 @@ module _ (p : Policy) (t : Parts p) where
   rule-good rs r f a =
       let q = rule-parts p r f in
       record {
-        back = rule-back (r .action) (r .words) (omega (arith, q .action, actions-most (p .form))) (some-words (r .words) (q .balance)) (q .few) (rule-digits p t r q);
+        back =
+            line-back (ruleLine (r .action) (r .words))
+            (record {
+              short = action-short (p .form) (r .action) (q .action);
+              places = refl;
+              worded = (some-words (r .words) (q .balance), q .few, rule-digits p t r q);
+            });
         fits =
             record {
-              range = rw (lt-ltb (r .action) (actions (p .form)) (q .action), ← fun-ext (fits-same p rs)) (q .fit);
+              range = rw (lt-ltb (r .action) (actions (p .form)) (q .action)) (q .fit);
               rise = a;
-              equal = rw (← fun-ext (equal-same p rs)) (q .equal);
+              equal = q .equal;
               balance = q .balance;
               few = q .few;
             };
@@ -154,7 +147,7 @@ module _ (p : Policy) (t : Parts p) where
   rule-lines : From End → From RuleKind
   unfolding linesFrom groups cut extended
   rule-lines =
-      rising-lines RuleKind (lit≤ tt) (lit≤ tt) (λ (r : Rule). ruleLine (r .action) (r .words)) (λ r. refl)
+      rising-lines RuleKind (lit≤ tt) (lit< tt) (λ (r : Rule). ruleLine (r .action) (r .words)) (λ r. refl)
       (λ rs. withRules rs p) (λ rs r. refl) (ruleSound p) actionAbove rule-good (p .rules) (t .rules) (linesFrom End p) p
 
   -- ---- the first line and the last
@@ -162,16 +155,16 @@ module _ (p : Policy) (t : Parts p) where
   end-line : From End
   unfolding linesFrom groups cut extended inRange rises balances readLines ending
   end-line b m =
-      leads-line b (cut (placeOf End) p) (plain End 0 0) [] p (order-allowed b End m)
-      (record { back = end-back; fits = plain-fits End _ 0 0 refl refl refl }) (λ n. refl)
+      leads-line b (cut (placeOf End) p) (plain End noNumbers) [] p (order-allowed b End m)
+      (record { back = line-back (plain End noNumbers) (record { short = no-short; places = refl; worded = refl }); fits = plain-fits End _ _ refl refl refl }) (λ n. refl)
 
   first-line : isForm (p .form) ≡ true → From Uattr → Leads start (linesFrom PolicyKind p) p
   unfolding linesFrom groups blank cut extended inRange rises balances
   first-line f then =
-      leads-line none blank (plain PolicyKind (p .form) 0) (linesFrom Uattr p) p (order-allowed none PolicyKind (record { low = omega arith; high = omega arith; first = λ h. refl }))
+      leads-line none blank (plain PolicyKind (oneNumber (p .form))) (linesFrom Uattr p) p (order-allowed none PolicyKind (record { low = omega arith; high = omega arith; first = λ h. refl }))
       (record {
-        back = one-back PolicyKind policy-one (p .form) (omega (arith, eqb-true (p .form) 1 f));
-        fits = plain-fits PolicyKind blank (p .form) 0 f refl refl;
+        back = one-back PolicyKind refl (p .form) (one-short (p .form) (form-few (p .form) f));
+        fits = plain-fits PolicyKind blank _ f refl refl;
       })
       (then (some PolicyKind) (record { low = omega arith; high = omega arith; first = λ h. omega arith }))
 

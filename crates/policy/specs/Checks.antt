@@ -1,64 +1,89 @@
 -- A line against the lines before it: refusals 6 to 9, and what the line adds.
-use Prim.Native.Nat.{ℕ, _+_, _-_}
+use Prim.Native.Nat.{ℕ, _+_, _-_, _^_}
 use mathlib.Core.Bool.{Bool, true, _&&_, _||_}
 use mathlib.Core.List.{List, [], _∷_, _++_}
 use lib.Dec.{eqb, leb, ltb}
-use lib.ListN.{length}
+use lib.ListN.{length, getD}
 use Rattle.basis.specs.Choice.{given}
 use Rattle.basis.specs.Lists.{all, last}
 use Rattle.seniority.specs.Seniority.{direct}
 use Rattle.seniority.specs.declared.Direct.{Direct}
+use Rattle.text.specs.Kind.{layoutOf}
 use Rattle.text.specs.declared.kind.Kind.{Kind}
 use Rattle.text.specs.declared.kind.Kind.the-variants.{Policy as PolicyKind, Uattr, Oattr, Usen, Osen, User, Object, Rule as RuleKind, End}
+use Rattle.text.specs.declared.kind.Layout.{Layout}
+use Rattle.text.specs.declared.kind.Layout.the-variants.{Bare, One, Two, Three, Formula}
+use Rattle.text.specs.declared.number.Numbers.{Numbers}
 use Rattle.words.specs.declared.Word.{Word}
 use Rattle.words.specs.declared.Word.the-variants.{True, False, Holds, Compares, Not, And, Or}
 use Rattle.words.specs.declared.Holding.the-variants.{User as UserValue, Object as ObjectValue}
 use Rattle.words.specs.declared.Comparison.the-variants.{Dominates, Equals}
 use Rattle.policy.specs.Limits.{isForm, values, actions, userNumbers, objectNumbers}
-use Rattle.policy.specs.Policy.{Side, Rule, Policy, total, sets, width, attributeOf}
+use Rattle.policy.specs.Policy.{Side, Rule, Policy, total, attributeOf}
 use Rattle.policy.specs.Line.{Line}
 use Rattle.policy.specs.declared.value.Entry.{Entry}
 
+-- ---- what the ranges and the comparisons of a line go by
+
+-- how many values and attributes a side has, and how wide these are
+pub record SideSizes : Type 0 where
+  pub values : ℕ
+  pub attributes : ℕ
+  pub widths : List ℕ
+
+pub record Sizes : Type 0 where
+  pub user : SideSizes
+  pub object : SideSizes
+
+abbrev pub sideSizes : Side → SideSizes
+sideSizes s = record { values = total s; attributes = length (s .widths); widths = s .widths }
+
+abbrev pub sizes : Policy → Sizes
+sizes p = record { user = sideSizes (p .user); object = sideSizes (p .object) }
+
 -- ---- 6: "A number, value, attribute or width is outside its range, or a usen or osen pair breaks its own condition."
 
--- "Each W is 1 to 7; U, the sum of the W, is 1 to 7, and the line that passes 7 is at fault"
-unfoldable pub widthFits : ℕ → Side → ℕ → Bool
-widthFits most s w = leb 1 w && (leb w most && leb (total s + w) most)
+-- "Each W is 1 to 7; U, the sum of the W, is 1 to 7, and the line that passes 7 is at fault": a width after others that sum to u
+unfoldable pub widthFits : ℕ → ℕ → ℕ → Bool
+widthFits most u w = leb 1 w && (leb w most && leb (u + w) most)
 
 -- "user value V is directly senior to J; same attribute, V above J"
-unfoldable pub pairFits : Side → ℕ → ℕ → Bool
-pairFits s v j = ltb v (total s) && (ltb j (total s) && (eqb (attributeOf (s .widths) v) (attributeOf (s .widths) j) && ltb j v))
+unfoldable pub pairFits : SideSizes → ℕ → ℕ → Bool
+pairFits s v j =
+    ltb v (s .values)
+    && (ltb j (s .values) && (eqb (attributeOf (s .widths) v) (attributeOf (s .widths) j) && ltb j v))
 
 -- "user N, 0 to 31, is assigned set S; S is below 2^U"
-unfoldable pub entryFits : ℕ → Side → ℕ → ℕ → Bool
-entryFits most s n set = ltb n most && ltb set (sets s)
+unfoldable pub entryFits : ℕ → ℕ → ℕ → ℕ → Bool
+entryFits most u n set = ltb n most && ltb set (2 ^ u)
 
 -- both attributes are there
-abbrev pub bothThere : Policy → ℕ → ℕ → Bool
-bothThere p i j = ltb i (length (p .user .widths)) && ltb j (length (p .object .widths))
+abbrev pub bothThere : Sizes → ℕ → ℕ → Bool
+bothThere s i j = ltb i (s .user .attributes) && ltb j (s .object .attributes)
 
 -- a word names a value, or attributes, that are there
-abbrev pub wordFits : Policy → Word → Bool
-wordFits p True = true
-wordFits p False = true
-wordFits p (Holds (UserValue v)) = ltb v (total (p .user))
-wordFits p (Holds (ObjectValue v)) = ltb v (total (p .object))
-wordFits p (Compares (Dominates i j)) = bothThere p i j
-wordFits p (Compares (Equals i j)) = bothThere p i j
-wordFits p Not = true
-wordFits p And = true
-wordFits p Or = true
+abbrev pub wordFits : Sizes → Word → Bool
+wordFits s True = true
+wordFits s False = true
+wordFits s (Holds (UserValue v)) = ltb v (s .user .values)
+wordFits s (Holds (ObjectValue v)) = ltb v (s .object .values)
+wordFits s (Compares (Dominates i j)) = bothThere s i j
+wordFits s (Compares (Equals i j)) = bothThere s i j
+wordFits s Not = true
+wordFits s And = true
+wordFits s Or = true
 
-unfoldable pub inRange : Kind → Policy → ℕ → ℕ → List Word → Bool
-inRange PolicyKind p form m ws = isForm form
-inRange Uattr p w m ws = widthFits (values (p .form)) (p .user) w
-inRange Oattr p w m ws = widthFits (values (p .form)) (p .object) w
-inRange Usen p v j ws = pairFits (p .user) v j
-inRange Osen p v j ws = pairFits (p .object) v j
-inRange User p n s ws = entryFits userNumbers (p .user) n s
-inRange Object p n s ws = entryFits objectNumbers (p .object) n s
-inRange RuleKind p a m ws = ltb a (actions (p .form)) && all (wordFits p) ws
-inRange End p n m ws = true
+-- of a line of a text of this form
+unfoldable pub inRange : Kind → ℕ → Sizes → Numbers → List Word → Bool
+inRange PolicyKind form s n ws = isForm (n .first)
+inRange Uattr form s n ws = widthFits (values form) (s .user .values) (n .first)
+inRange Oattr form s n ws = widthFits (values form) (s .object .values) (n .first)
+inRange Usen form s n ws = pairFits (s .user) (n .first) (n .second)
+inRange Osen form s n ws = pairFits (s .object) (n .first) (n .second)
+inRange User form s n ws = entryFits userNumbers (s .user .values) (n .first) (n .second)
+inRange Object form s n ws = entryFits objectNumbers (s .object .values) (n .first) (n .second)
+inRange RuleKind form s n ws = ltb (n .first) (actions form) && all (wordFits s) ws
+inRange End form s n ws = true
 
 -- ---- 7: "The line does not rise above the last of its kind."
 
@@ -76,31 +101,31 @@ entryRises es n = given (last es) true (λ e. ltb (e .number) n)
 unfoldable pub ruleRises : List Rule → ℕ → Bool
 ruleRises rs a = given (last rs) true (λ r. ltb (r .action) a)
 
-unfoldable pub rises : Kind → Policy → ℕ → ℕ → Bool
-rises PolicyKind p n m = true
-rises Uattr p n m = true
-rises Oattr p n m = true
-rises Usen p v j = pairRises (p .user) v j
-rises Osen p v j = pairRises (p .object) v j
-rises User p n m = entryRises (p .users) n
-rises Object p n m = entryRises (p .objects) n
-rises RuleKind p a m = ruleRises (p .rules) a
-rises End p n m = true
+unfoldable pub rises : Kind → Policy → Numbers → Bool
+rises PolicyKind p n = true
+rises Uattr p n = true
+rises Oattr p n = true
+rises Usen p n = pairRises (p .user) (n .first) (n .second)
+rises Osen p n = pairRises (p .object) (n .first) (n .second)
+rises User p n = entryRises (p .users) (n .first)
+rises Object p n = entryRises (p .objects) (n .first)
+rises RuleKind p n = ruleRises (p .rules) (n .first)
+rises End p n = true
 
 -- ---- 8: "A comparison names attributes of unequal width."
 
-abbrev pub equalWidth : Policy → ℕ → ℕ → Bool
-equalWidth p i j = eqb (width (p .user) i) (width (p .object) j)
+abbrev pub equalWidth : Sizes → ℕ → ℕ → Bool
+equalWidth s i j = eqb (getD (s .user .widths) i 0) (getD (s .object .widths) j 0)
 
-abbrev pub widthsEqual : Policy → Word → Bool
-widthsEqual p True = true
-widthsEqual p False = true
-widthsEqual p (Holds h) = true
-widthsEqual p (Compares (Dominates i j)) = equalWidth p i j
-widthsEqual p (Compares (Equals i j)) = equalWidth p i j
-widthsEqual p Not = true
-widthsEqual p And = true
-widthsEqual p Or = true
+abbrev pub widthsEqual : Sizes → Word → Bool
+widthsEqual s True = true
+widthsEqual s False = true
+widthsEqual s (Holds h) = true
+widthsEqual s (Compares (Dominates i j)) = equalWidth s i j
+widthsEqual s (Compares (Equals i j)) = equalWidth s i j
+widthsEqual s Not = true
+widthsEqual s And = true
+widthsEqual s Or = true
 
 -- ---- 9: "A word finds too few truth values, or not exactly one remains."
 
@@ -119,17 +144,13 @@ unfoldable pub balanced : ℕ → List Word → Bool
 balanced d [] = eqb d 1
 balanced d (w ∷ ws) = leb (takes w) d && balanced (d - takes w + 1) ws
 
--- only a rule's words can break 9
-unfoldable pub balances : Kind → List Word → Bool
-balances PolicyKind ws = true
-balances Uattr ws = true
-balances Oattr ws = true
-balances Usen ws = true
-balances Osen ws = true
-balances User ws = true
-balances Object ws = true
-balances RuleKind ws = balanced 0 ws
-balances End ws = true
+-- only a layout with words can break 9
+unfoldable pub balances : Layout → List Word → Bool
+balances Bare ws = true
+balances One ws = true
+balances Two ws = true
+balances Three ws = true
+balances Formula ws = balanced 0 ws
 
 -- ---- what an accepted line adds
 
@@ -160,30 +181,30 @@ withRules rs p = record { form = p .form; user = p .user; object = p .object; us
 abbrev pub withForm : ℕ → Policy → Policy
 withForm n p = record { form = n; user = p .user; object = p .object; users = p .users; objects = p .objects; rules = p .rules }
 
-unfoldable pub extended : Kind → ℕ → ℕ → List Word → Policy → Policy
-extended PolicyKind n m ws p = withForm n p
-extended Uattr w m ws p = withUser (withWidth w (p .user)) p
-extended Oattr w m ws p = withObject (withWidth w (p .object)) p
-extended Usen v j ws p = withUser (withLine v j (p .user)) p
-extended Osen v j ws p = withObject (withLine v j (p .object)) p
-extended User n s ws p = withUsers (withEntry n s (p .users)) p
-extended Object n s ws p = withObjects (withEntry n s (p .objects)) p
-extended RuleKind a m ws p = withRules (p .rules ++ (record { action = a; words = ws } ∷ [])) p
-extended End n m ws p = p
+unfoldable pub extended : Kind → Numbers → List Word → Policy → Policy
+extended PolicyKind n ws p = withForm (n .first) p
+extended Uattr n ws p = withUser (withWidth (n .first) (p .user)) p
+extended Oattr n ws p = withObject (withWidth (n .first) (p .object)) p
+extended Usen n ws p = withUser (withLine (n .first) (n .second) (p .user)) p
+extended Osen n ws p = withObject (withLine (n .first) (n .second) (p .object)) p
+extended User n ws p = withUsers (withEntry (n .first) (n .second) (p .users)) p
+extended Object n ws p = withObjects (withEntry (n .first) (n .second) (p .objects)) p
+extended RuleKind n ws p = withRules (p .rules ++ (record { action = n .first; words = ws } ∷ [])) p
+extended End n ws p = p
 
 -- ---- of a whole line
 
 abbrev pub lineInRange : Policy → Line → Bool
-lineInRange p l = inRange (l .kind) p (l .first) (l .second) (l .words)
+lineInRange p l = inRange (l .kind) (p .form) (sizes p) (l .numbers) (l .words)
 
 abbrev pub lineRises : Policy → Line → Bool
-lineRises p l = rises (l .kind) p (l .first) (l .second)
+lineRises p l = rises (l .kind) p (l .numbers)
 
 abbrev pub lineWidthsEqual : Policy → Line → Bool
-lineWidthsEqual p l = all (widthsEqual p) (l .words)
+lineWidthsEqual p l = all (widthsEqual (sizes p)) (l .words)
 
 abbrev pub lineBalances : Line → Bool
-lineBalances l = balances (l .kind) (l .words)
+lineBalances l = balances (layoutOf (l .kind)) (l .words)
 
 abbrev pub withLineOf : Line → Policy → Policy
-withLineOf l p = extended (l .kind) (l .first) (l .second) (l .words) p
+withLineOf l p = extended (l .kind) (l .numbers) (l .words) p

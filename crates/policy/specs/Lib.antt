@@ -8,3 +8,4 @@ pub mod Value
 pub mod Valid
 pub mod Write
 pub mod Answers
+pub mod Inner

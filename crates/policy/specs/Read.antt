@@ -6,8 +6,8 @@ use mathlib.Core.Option.{Option, none, some}
 use lib.Dec.{ltb}
 use lib.ListN.{length}
 use Rattle.basis.specs.Choice.{given, Check, check, lowest}
-use Rattle.text.specs.Parts.{Line as TextLine, fields, lines}
-use Rattle.text.specs.Kind.{named, isKind}
+use Rattle.text.specs.Parts.{TextLine, fields, lines}
+use Rattle.text.specs.Kind.{named, layoutOf, isKind}
 use Rattle.text.specs.declared.kind.Kind.{Kind}
 use Rattle.text.specs.declared.kind.Kind.the-variants.{End}
 use Rattle.text.specs.declared.kind.Named.{Named}
@@ -31,8 +31,8 @@ unfoldable pub checksOf : Option Kind → Policy → Bool → Kind → List (Lis
 checksOf before p ended k fs =
     check 2 (not ended)
     ∷ check 3 (not (allowed before k))
-    ∷ check 4 (not (countFits k (length fs)))
-    ∷ check 5 (not (formFits k fs))
+    ∷ check 4 (not (countFits (layoutOf k) (length fs)))
+    ∷ check 5 (not (formFits (layoutOf k) fs))
     ∷ check 6 (not (lineInRange p (lineOf k fs)))
     ∷ check 7 (not (lineRises p (lineOf k fs)))
     ∷ check 8 (not (lineWidthsEqual p (lineOf k fs)))

@@ -80,8 +80,12 @@ sideOf s = record { widths = take (s .attributes) (s .widths); lines = take (s .
 unfoldable pub entriesOf : Register → List Entry
 entriesOf r = take (r .count) (r .entries)
 
+-- the words in the first n places
+abbrev pub wordsIn : ℕ → List Slot → List Word
+wordsIn n slots = map (λ (x : Slot). x .word) (take n slots)
+
 unfoldable pub ruleOf : RuleValue → Rule
-ruleOf r = record { action = r .action; words = map (λ (x : Slot). x .word) (take (r .count) (r .words)) }
+ruleOf r = record { action = r .action; words = wordsIn (r .count) (r .words) }
 
 unfoldable pub rulesOf : Rules → List Rule
 rulesOf r = map ruleOf (take (r .count) (r .entries))

@@ -8,7 +8,8 @@ use native.Mathlib.Omega.{arith}
 use lib.ListN.{length, drop, drop-of-length-le}
 use lib.Seq.{drop-cons}
 use Rattle.basis.specs.Choice.{lowest}
-use Rattle.text.specs.Parts.{Line as TextLine, lineFeed, split, linesOf, lines, Found}
+use Rattle.text.specs.Parts.{TextLine, lineFeed, split, linesOf, lines}
+use Rattle.text.specs.Inner.{Found}
 use Rattle.text.specs.declared.kind.Kind.{Kind}
 use Rattle.text.specs.declared.kind.Named.{Named}
 use Rattle.text.specs.declared.kind.Named.the-variants.{Is, Unknown}

@@ -12,7 +12,8 @@ use Rattle.basis.specs.Choice.{given}
 use Rattle.basis.specs.Lists.{last, sum}
 use Rattle.text.specs.Kind.{isKind}
 use Rattle.text.specs.Number.{valueOf as numberOfField}
-use Rattle.text.specs.Parts.{Line as TextLine, lineFeed, fields, lines, Found}
+use Rattle.text.specs.Parts.{TextLine, lineFeed, fields, lines}
+use Rattle.text.specs.Inner.{Found}
 use Rattle.text.specs.declared.kind.Kind.{Kind}
 use Rattle.text.specs.declared.kind.Kind.the-variants.{Policy as PolicyKind, Uattr, Oattr, Usen, Osen, User, Object, Rule as RuleKind, End}
 use Rattle.text.specs.declared.kind.Named.{Named}

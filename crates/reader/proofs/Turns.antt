@@ -23,7 +23,7 @@ use Rattle.policy.specs.declared.value.Entry.{Entry}
 use Rattle.policy.specs.declared.value.SideValue.{SideValue}
 use Rattle.policy.specs.declared.value.Register.{Register}
 use Rattle.policy.specs.declared.value.Rules.{Rules}
-use Rattle.policy.proofs.Sound.{WithinSide, Within}
+use Rattle.policy.proofs.Bounds.{WithinSide, Within}
 use Rattle.policy.proofs.Parts.{parts}
 use Rattle.policy.proofs.Reading.{reading-within}
 use Rattle.checks.specs.Sides.{Shaped}

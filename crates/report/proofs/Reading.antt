@@ -9,7 +9,7 @@ use lib.Dec.{eqb, ltb}
 use lib.ListN.{length}
 use Rattle.basis.specs.Choice.{given}
 use Rattle.text.specs.Kind.{isKind}
-use Rattle.text.specs.Parts.{Line, lineFeed, onto, split, linesOf, lines}
+use Rattle.text.specs.Parts.{TextLine, lineFeed, onto, split, linesOf, lines}
 use Rattle.text.specs.declared.kind.Kind.the-variants.{End}
 use Rattle.policy.specs.Answers.{valueIn, ReadAs}
 use Rattle.policy.specs.Limits.{textBytes}
@@ -52,7 +52,7 @@ module _ {k : ℕ} where
   cond-line true o q h g = h
   cond-line false o q h g = g
 
-lines-line : (s : State) (n : ℕ) (ls : List Line) → lineIn (readLines s n ls) ≤ n + length ls
+lines-line : (s : State) (n : ℕ) (ls : List TextLine) → lineIn (readLines s n ls) ≤ n + length ls
 unfolding readLines ending
 lines-line s n [] = cond-line (given (s .before) false (isKind End)) (Accepted (s .policy)) (Refused 10 n) (omega arith) (omega arith)
 lines-line s n (l ∷ ls) = given-line (lineRefusal s l) (readLines (lineAfter s l) (suc n) ls) n (omega (arith, lines-line (lineAfter s l) (suc n) ls)) (omega arith)

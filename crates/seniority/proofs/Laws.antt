@@ -17,7 +17,8 @@ use Rattle.basis.proofs.Lists.{any-at, any-of, getD-in}
 use Rattle.sets.specs.Set.{has, union, within}
 use Rattle.sets.proofs.Laws.{has-union, has-one, has-none, has-setOf, has-setOf-none, same-set, within-iff}
 use Rattle.seniority.specs.declared.Direct.{Direct}
-use Rattle.seniority.specs.Seniority.{direct, Senior, chain, senior, heldOrSenior, heldOrJunior, reach, From, Ordered, extended}
+use Rattle.seniority.specs.Seniority.{direct, Senior, chain, senior, heldOrSenior, heldOrJunior, reach}
+use Rattle.seniority.specs.Inner.{From, Ordered, extended}
 use Rattle.seniority.specs.Seniority.Senior.{one, more}
 
 -- ---- what the order says of each line

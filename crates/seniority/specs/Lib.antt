@@ -1,1 +1,2 @@
 pub mod Seniority
+pub mod Inner

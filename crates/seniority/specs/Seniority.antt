@@ -1,10 +1,10 @@
 -- Seniority. "Senior means a chain of one or more direct lines; junior is the converse."
-use Prim.Native.Nat.{ℕ, zero, suc, _^_, _≤_, _<_}
-use mathlib.Core.Bool.{Bool, false, cond, _&&_, _||_}
-use mathlib.Core.List.{List, [], _∷_, List·Memᴰ}
+use Prim.Native.Nat.{ℕ, zero, suc}
+use mathlib.Core.Bool.{Bool, false, _&&_, _||_}
+use mathlib.Core.List.{List, List·Memᴰ}
 use lib.Dec.{eqb}
 use Rattle.basis.specs.Lists.{any}
-use Rattle.sets.specs.Set.{has, setOf, union}
+use Rattle.sets.specs.Set.{has, setOf}
 use Rattle.seniority.specs.declared.Direct.{Direct}
 
 abbrev pub direct : ℕ → ℕ → Direct
@@ -39,23 +39,3 @@ heldOrJunior ls s v = has s v || any (λ l. has s (l .junior) && senior ls v (l 
 unfoldable pub reach : List Direct → ℕ → ℕ → ℕ
 unfolding heldOrSenior
 reach ls n s = setOf (heldOrSenior ls s) n
-
--- ---- what the code asks of its lines and does at each
-
--- the bits of a number that holds a set
-abbrev pub wordBits : ℕ
-wordBits = 32
-
--- no line has an upper value below v
-abbrev pub From : ℕ → List Direct → Type 0
-From v [] = Unit {0}
-From v (l ∷ ls) = (v ≤ l .senior) × From v ls
-
--- each line goes down, from a value below n, and the upper values do not fall: what reading ensures of usen and osen lines
-abbrev pub Ordered : ℕ → List Direct → Type 0
-Ordered n [] = Unit {0}
-Ordered n (l ∷ ls) = (l .junior < l .senior) × (l .senior < n) × From (l .senior) ls × Ordered n ls
-
--- s, with b where it holds a
-abbrev pub extended : ℕ → ℕ → ℕ → ℕ
-extended s a b = cond (has s a) (union s (2 ^ b)) s

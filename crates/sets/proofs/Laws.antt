@@ -3,12 +3,12 @@ use mathlib.Core.Path.{_≡_, refl, sym, ap, ap₂, _∙_}
 use mathlib.Core.Bool.{Bool, true, false, not, cond, _&&_, _||_, and-true, and-false, or-false}
 use mathlib.Core.Logic.{_↔_, ⊎-elim}
 use Prim.Native.Nat.{ℕ, zero, suc, _+_, _-_, _*_, _/_, _%_, _^_, _<_, _≤_, zero-le}
-use native.Mathlib.Nat.{mod-lt, mod-eq-of-lt, div-eq-of-lt, lt-of-lt-of-le, div-add-mod', div-one, pow-suc, mul-mod-left, mul-div-cancel, one-mul}
+use native.Mathlib.Nat.{mod-lt, div-eq-of-lt, lt-of-lt-of-le, div-add-mod', div-one, pow-suc, mul-mod-left, mul-div-cancel, one-mul}
 use native.Mathlib.Numerals.{one-add, add-one}
 use native.Mathlib.Decide.{ℕ-discrete, decLt}
 use native.Mathlib.Omega.{arith}
 use lib.Arith.{lt-one}
-use lib.Bits.{bitOr, bitAnd, bitXor, or-shr, or-mod, and-shr, and-mod, xor-shr, xor-mod, or-shifted-r, or-zero-r, and-mask, and-le-r}
+use lib.Bits.{bitOr, bitAnd, bitXor, or-shr, or-mod, and-shr, and-mod, xor-shr, xor-mod, or-shifted-r, or-zero-r, and-le-r}
 use lib.Dec.{eqb, ltb, lit<, eqb·suc-zero, eqb·zero-suc, eqb·suc-suc}
 use lib.Pow.{pow-mono, pow-pos, shr-shr, shr-lt, field, mod-mod-pow, low as lowPart, high as highPart}
 use borrow.Author.Tests.{eqb-true, eq-eqb, ne-eqb, lt-ltb, le-ltb}
@@ -205,14 +205,6 @@ setOf-same f g n h = setOf-is f n (setOf g n) (setOf-lt g n) (λ v l. has-setOf 
 pub setOf-has : (n s : ℕ) → s < 2 ^ n → setOf (has s) n ≡ s
 setOf-has n s h = setOf-is (has s) n s h (λ v l. refl)
 
--- a set with nothing from n on is one of the first n values
-pub lt-of-none : (n s : ℕ) → ((v : ℕ) → n ≤ v → has s v ≡ false) → s < 2 ^ n
-lt-of-none n s e =
-    rw (same-set (setOf (has s) n) s (λ v. elim (decLt v n) [
-      | yes l ↦ has-setOf (has s) n v l
-      | no l ↦ has-setOf-none (has s) n v (omega arith) ∙ sym (e v (omega arith))
-    ])) at (setOf-lt (has s) n)
-
 -- ---- the first k values
 
 mask-setOf : (k : ℕ) → mask k ≡ setOf (λ v. true) k
@@ -227,10 +219,3 @@ has-mask k v =
       | yes l ↦ has-setOf (λ w. true) k v l ∙ sym (lt-ltb v k l)
       | no l ↦ has-setOf-none (λ w. true) k v (omega arith) ∙ sym (le-ltb v k (omega arith))
     ]
-
--- the sets of the first k values are the numbers below 2^k
-pub below-iff : (k s : ℕ) → (s < 2 ^ k) ↔ (within s (mask k) ≡ true)
-below-iff k s = (
-  (λ h. eq-eqb (bitAnd s (mask k)) s (and-mask s k ∙ mod-eq-of-lt h)),
-  (λ e. rw (sym (and-mask s k) ∙ eqb-true (bitAnd s (mask k)) s e) at (mod-lt s (pow-pos k))),
-)

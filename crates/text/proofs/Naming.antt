@@ -4,7 +4,7 @@ use mathlib.Core.Bool.{Bool, true, false}
 use mathlib.Core.List.{List, [], _∷_}
 use Prim.Native.Nat.{ℕ, _<_}
 use lib.Dec.{eqb, lit<}
-use lib.ListN.{getD}
+use lib.ListN.{length, getD}
 use Rattle.basis.specs.Lists.{same}
 use Rattle.basis.proofs.Table.{everyEntry, at}
 use Rattle.text.specs.Kind.{wordOf, kinds, namedIn, placeOf}
@@ -29,7 +29,7 @@ none f = refl
 
 -- ---- a kind by its place
 
-pub place-lt : (k : Kind) → placeOf k < 9
+pub place-lt : (k : Kind) → placeOf k < length kinds
 place-lt Policy = lit< tt
 place-lt Uattr = lit< tt
 place-lt Oattr = lit< tt

@@ -1,10 +1,10 @@
 -- A number, fields, lines and a kind word are read back from what they are written as, and are written as what they were read from.
 use Prim.Native.Nat.{ℕ, zero, suc, _+_, _*_, _-_, _/_, _%_, _^_, _≤_, _<_}
-use mathlib.Core.Path.{_≡_, refl, ap, _∙_, subst}
+use mathlib.Core.Path.{_≡_, refl, sym, ap, _∙_, subst}
 use mathlib.Core.Bool.{Bool, true, false, cond, not, _&&_, _||_, or-true, false≢true}
 use mathlib.Core.Logic.{_⊎_, inl, inr, ⊎-elim}
 use mathlib.Core.List.{List, [], _∷_, _++_, map, append-nil}
-use native.Mathlib.Nat.{pow-suc, pow-le-pow-right, zero-lt-suc}
+use native.Mathlib.Nat.{pow-suc}
 use native.Mathlib.Decide.{decLt}
 use native.Mathlib.Omega.{arith}
 use borrow.Author.Tests.{lt-ltb, le-ltb, le-leb, eq-eqb, ne-eqb, leb-true, eqb-true, eqb-false, not-true}
@@ -16,7 +16,7 @@ use Rattle.basis.proofs.Bools.{and-left, and-right, or-cases, never}
 use Rattle.basis.proofs.Lists.{all-at, all-of}
 use Rattle.basis.proofs.Same.{same-eq}
 use Rattle.text.specs.Number.{mostDigits, isDigit, digitOf, valueFrom, valueOf, isNumber, numeral, digitsBefore, decimal}
-use Rattle.text.specs.Parts.{lineFeed, comma, onto, split, join, Line, linesOf, lines, textOf}
+use Rattle.text.specs.Parts.{lineFeed, comma, onto, split, join, TextLine, linesOf, lines, textOf}
 use Rattle.text.specs.Kind.{wordOf, kinds, namedIn, named}
 use Rattle.text.specs.declared.number.Numeral.the-variants.{Value, Malformed}
 use Rattle.text.specs.declared.kind.Kind.{Kind}
@@ -46,7 +46,56 @@ value-digit v d ds =
     let e : byte "0" + d - byte "0" ≡ d = omega arith in
     rw e
 
--- at most k digits more, for any number
+-- ---- as many digits as there are
+
+-- enough places for a number are as good as more
+places-enough : (j k n : ℕ) (ds : List ℕ) → n < 10 ^ suc j → n < 10 ^ suc k → digitsBefore (suc j) n ds ≡ digitsBefore (suc k) n ds
+places-enough zero k n ds h g = let l : n < 10 = rw (pow-suc 10 0) at h in last-digit 0 n ds l ∙ sym (last-digit k n ds l)
+places-enough (suc j) zero n ds h g = let l : n < 10 = rw (pow-suc 10 0) at g in last-digit (suc j) n ds l ∙ sym (last-digit 0 n ds l)
+places-enough (suc j) (suc k) n ds h g =
+    elim (decLt n 10) [
+      | yes l ↦ last-digit (suc j) n ds l ∙ sym (last-digit (suc k) n ds l)
+      | no l ↦
+          let m : 10 ≤ n = omega (arith, l) in
+          more-digits (suc j) n ds m
+          ∙ places-enough j k (n / 10) ((byte "0" + n % 10) ∷ ds) (omega (arith, pow-suc 10 (suc j))) (omega (arith, pow-suc 10 (suc k)))
+          ∙ sym (more-digits (suc k) n ds m)
+    ]
+
+below-power : (n : ℕ) → n < 10 ^ n
+below-power zero = lit< tt
+below-power (suc n) = omega (arith, pow-suc 10 n, below-power n)
+
+pub decimal-places : (k n : ℕ) → 0 < k → n < 10 ^ k → decimal n ≡ digitsBefore k n []
+unfolding decimal
+decimal-places zero n p h = absurd (omega arith)
+decimal-places (suc k) n p h = places-enough n k n [] (omega (arith, pow-suc 10 n, below-power n)) h
+
+-- a number below 10 is one digit, and any other the digits of its tens and then one
+pub decimal-one : (n : ℕ) → n < 10 → decimal n ≡ (byte "0" + n) ∷ []
+unfolding decimal
+decimal-one n h = last-digit n n [] h
+
+before-more : (k n : ℕ) (ds es : List ℕ) → digitsBefore k n (ds ++ es) ≡ digitsBefore k n ds ++ es
+unfolding digitsBefore
+before-more zero n ds es = refl
+before-more (suc k) n ds es =
+    elim (decLt n 10) [
+      | yes l ↦ rw (lt-ltb n 10 l)
+      | no l ↦
+          let m : 10 ≤ n = omega (arith, l) in
+          rw (le-ltb n 10 m) (before-more k (n / 10) ((byte "0" + n % 10) ∷ ds) es)
+    ]
+
+pub decimal-more : (n : ℕ) → 10 ≤ n → decimal n ≡ decimal (n / 10) ++ ((byte "0" + n % 10) ∷ [])
+unfolding decimal
+decimal-more n h =
+    let l : n / 10 < 10 ^ n = omega (arith, below-power n) in
+    more-digits n n [] h
+    ∙ before-more n (n / 10) [] ((byte "0" + n % 10) ∷ [])
+    ∙ ap (λ (ds : List ℕ). ds ++ ((byte "0" + n % 10) ∷ [])) (sym (decimal-places n (n / 10) (omega arith) l))
+
+-- at most k digits more
 record Few (k : ℕ) (ds l : List ℕ) : Type 0 where
   most : length l ≤ k + length ds
   digits : all isDigit ds ≡ true → all isDigit l ≡ true
@@ -64,13 +113,12 @@ few (suc k) n ds =
           (record { most = omega (arith, s .most); digits = λ h. s .digits (rw (digit-is (n % 10) m, h)) })
     ]
 
-pub decimal-short : (n : ℕ) → length (decimal n) ≤ mostDigits
-unfolding decimal
-decimal-short n = omega (arith, few mostDigits n [] .most)
+pub decimal-short : (k n : ℕ) → 0 < k → n < 10 ^ k → length (decimal n) ≤ k
+decimal-short k n p h = rw (decimal-places k n p h) (omega (arith, few k n [] .most))
 
 pub decimal-digits : (n : ℕ) → all isDigit (decimal n) ≡ true
 unfolding decimal all
-decimal-digits n = few mostDigits n [] .digits refl
+decimal-digits n = few (suc n) n [] .digits refl
 
 -- enough digits for the number: their value, and that several do not start with 0
 record Whole (n : ℕ) (ds l : List ℕ) : Type 0 where
@@ -104,13 +152,13 @@ whole (suc k) n ds h =
           })
     ]
 
-whole-decimal : (n : ℕ) → n < 10 ^ mostDigits → Whole n [] (decimal n)
+whole-decimal : (n : ℕ) → Whole n [] (decimal n)
 unfolding decimal
-whole-decimal n h = whole 4 n [] h
+whole-decimal n = whole n n [] (omega (arith, pow-suc 10 n, below-power n))
 
-pub decimal-value : (n : ℕ) → n < 10 ^ mostDigits → valueOf (decimal n) ≡ n
+pub decimal-value : (n : ℕ) → valueOf (decimal n) ≡ n
 unfolding valueFrom
-decimal-value n h = whole-decimal n h .value
+decimal-value n = whole-decimal n .value
 
 no-lead : (n : ℕ) (l : List ℕ) → Whole n [] l → (eqb (length l) 1 || not (eqb (getD l 0 0) (byte "0"))) ≡ true
 no-lead zero l w = rw (w .alone (omega arith))
@@ -119,15 +167,11 @@ no-lead (suc n) l w = rw (ne-eqb (getD l 0 0) (byte "0") (w .lead (omega arith))
 pub decimal-number : (n : ℕ) → n < 10 ^ mostDigits → isNumber (decimal n) ≡ true
 unfolding isNumber
 decimal-number n h =
-    let w = whole-decimal n h in
+    let w = whole-decimal n in
     let l : 1 ≤ length (decimal n) = omega (arith, w .some) in
-    rw (le-leb 1 (length (decimal n)) l, le-leb (length (decimal n)) mostDigits (decimal-short n), decimal-digits n, no-lead n (decimal n) w)
+    rw (le-leb 1 (length (decimal n)) l, le-leb (length (decimal n)) mostDigits (decimal-short mostDigits n (lit< tt) h), decimal-digits n, no-lead n (decimal n) w)
 
-pub numeral-decimal : (n : ℕ) → n < 10 ^ mostDigits → numeral (decimal n) ≡ Value n
-unfolding numeral
-numeral-decimal n h = rw (decimal-number n h, decimal-value n h)
-
--- what a number field says is below 10 ^ 5, and the number's digits are the field
+-- the digits of what a number field says are the field
 
 pub digit-bounds : (d : ℕ) → isDigit d ≡ true → (byte "0" ≤ d) × (d ≤ byte "9")
 digit-bounds d e =
@@ -161,24 +205,23 @@ digits-after k v (d ∷ ds) es h e =
     let t = and-right (isDigit d) (all isDigit ds) e in
     rw z (digits-after (suc k) w ds es (omega arith) t ∙ more-digits k w (ds ++ es) (omega arith) ∙ rw (q, m))
 
-digits-of : (d : ℕ) (ds : List ℕ) → length ds ≤ 4 → isDigit d ≡ true → all isDigit ds ≡ true → (0 < length ds → d ≡ byte "0" → ⊥)
+digits-of : (d : ℕ) (ds : List ℕ) → isDigit d ≡ true → all isDigit ds ≡ true → (0 < length ds → d ≡ byte "0" → ⊥)
     → decimal (valueOf (d ∷ ds)) ≡ d ∷ ds
-unfolding decimal valueFrom
-digits-of d [] l e f z =
+unfolding valueFrom all
+digits-of d [] e f z =
     let b = digit-bounds d e in
     let v = 0 * 10 + digitOf d in
     let q : byte "0" + v ≡ d = omega arith in
-    last-digit 4 v [] (omega arith) ∙ rw q
-digits-of d (x ∷ ds) l e f z =
+    decimal-places 1 v (lit< tt) (rw (pow-suc 10 0) (omega arith)) ∙ last-digit 0 v [] (omega arith) ∙ rw q
+digits-of d (x ∷ ds) e f z =
     let b = digit-bounds d e in
     let p : d ≡ byte "0" → ⊥ = z (omega arith) in
     let v = 0 * 10 + digitOf d in
-    let k = 3 - length ds in
-    let s : mostDigits ≡ suc k + length (x ∷ ds) = omega arith in
     let q : byte "0" + v ≡ d = omega arith in
-    ap (λ (j : ℕ). digitsBefore j (valueOf (d ∷ x ∷ ds)) []) s
-    ∙ digits-after (suc k) v (x ∷ ds) [] (omega (arith, p)) f
-    ∙ last-digit k v ((x ∷ ds) ++ []) (omega arith)
+    let l : v < 10 ^ 1 = rw (pow-suc 10 0) (omega arith) in
+    decimal-places (1 + length (x ∷ ds)) (valueFrom v (x ∷ ds)) (omega arith) (value-lt v 1 (x ∷ ds) f l)
+    ∙ digits-after 1 v (x ∷ ds) [] (omega (arith, p)) f
+    ∙ last-digit 0 v ((x ∷ ds) ++ []) (omega arith)
     ∙ rw (q, append-nil)
 
 record Number (f : List ℕ) : Type 0 where
@@ -213,15 +256,8 @@ value-decimal (d ∷ ds) e =
     let n = number-is (d ∷ ds) e in
     let h = and-left (isDigit d) (all isDigit ds) (n .digits) in
     let t = and-right (isDigit d) (all isDigit ds) (n .digits) in
-    digits-of d ds (omega (arith, n .most)) h t
+    digits-of d ds h t
     (λ h. ⊎-elim (λ p. absurd (omega arith)) (λ p. p) (n .lead))
-
-pub value-small : (f : List ℕ) → isNumber f ≡ true → valueOf f < 10 ^ mostDigits
-value-small f e =
-    let n = number-is f e in
-    let l : 0 + length f ≤ mostDigits = omega (arith, n .most) in
-    let p : 10 ^ (0 + length f) ≤ 10 ^ mostDigits = pow-le-pow-right (zero-lt-suc 9) l in
-    omega (arith, value-lt 0 0 f (n .digits) (lit< tt))
 
 said : (b : Bool) (v n : ℕ) → cond b (Value v) Malformed ≡ Value n → (b ≡ true) × (v ≡ n)
 said true v n e = (refl, cc)
@@ -294,7 +330,7 @@ join-split b (x ∷ t) = join-onto (eqb x b) b x (split b t) refl (split-pos b t
 
 -- ---- lines
 
-abbrev pub endedLine : List ℕ → Line
+abbrev pub endedLine : List ℕ → TextLine
 endedLine l = record { bytes = l; ended = true }
 
 pub lines-cons : (p : List ℕ) (ps : List (List ℕ)) → 0 < length ps → linesOf (p ∷ ps) ≡ endedLine p ∷ linesOf ps
@@ -361,6 +397,3 @@ word-lacks-comma k = each-kind (λ j. lacks comma (wordOf j)) refl k
 pub word-lacks-feed : (k : Kind) → lacks lineFeed (wordOf k) ≡ true
 unfolding all
 word-lacks-feed k = each-kind (λ j. lacks lineFeed (wordOf j)) refl k
-
-pub word-short : (k : Kind) → length (wordOf k) ≤ 6
-word-short k = leb-true (length (wordOf k)) 6 (each-kind (λ j. leb (length (wordOf j)) 6) refl k)

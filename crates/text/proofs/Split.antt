@@ -11,7 +11,8 @@ use borrow.Author.Tests.{eq-eqb, ne-eqb}
 use lib.Dec.{eqb}
 use lib.ListN.{length, getD, take, drop, length-drop, drop-of-length-le}
 use lib.Seq.{drop-cons, drop-drop, take-all}
-use Rattle.text.specs.Parts.{split, onto, indexOf, after, Found}
+use Rattle.text.specs.Parts.{split, onto}
+use Rattle.text.specs.Inner.{indexOf, after, Found}
 
 -- ---- one byte more
 

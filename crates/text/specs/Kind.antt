@@ -7,6 +7,8 @@ use Rattle.basis.specs.Bytes.{bytes}
 use Rattle.basis.specs.Lists.{same}
 use Rattle.text.specs.declared.kind.Kind.{Kind}
 use Rattle.text.specs.declared.kind.Kind.the-variants.{Policy, Uattr, Oattr, Usen, Osen, User, Object, Rule, End}
+use Rattle.text.specs.declared.kind.Layout.{Layout}
+use Rattle.text.specs.declared.kind.Layout.the-variants.{Bare, One, Two, Formula}
 use Rattle.text.specs.declared.kind.Named.{Named}
 use Rattle.text.specs.declared.kind.Named.the-variants.{Is, Unknown}
 
@@ -32,6 +34,18 @@ namedIn (k ∷ ks) f = cond (same eqb f (wordOf k)) (Is k) (namedIn ks f)
 
 abbrev pub named : List ℕ → Named
 named f = namedIn kinds f
+
+-- what stands behind a kind's word: nothing, one, two or three numbers, or an action and the words of a formula
+abbrev pub layoutOf : Kind → Layout
+layoutOf Policy = One
+layoutOf Uattr = One
+layoutOf Oattr = One
+layoutOf Usen = Two
+layoutOf Osen = Two
+layoutOf User = Two
+layoutOf Object = Two
+layoutOf Rule = Formula
+layoutOf End = Bare
 
 -- a kind's place in the list of nine
 abbrev pub placeOf : Kind → ℕ

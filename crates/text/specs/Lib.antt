@@ -1,3 +1,4 @@
 pub mod Number
 pub mod Parts
 pub mod Kind
+pub mod Inner

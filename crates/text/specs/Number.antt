@@ -37,12 +37,12 @@ unfoldable pub numeral : List ℕ → Numeral
 unfolding isNumber
 numeral f = cond (isNumber f) (Value (valueOf f)) Malformed
 
--- the digits of n that are needed, at most k of them, in front of others
+-- the digits of n, at most k of them, in front of others
 unfoldable pub digitsBefore : ℕ → ℕ → List ℕ → List ℕ
 digitsBefore zero n ds = ds
 digitsBefore (suc k) n ds = cond (ltb n 10) ((byte "0" + n) ∷ ds) (digitsBefore k (n / 10) ((byte "0" + n % 10) ∷ ds))
 
--- a number as it is written
+-- a number as it is written; it has no more than n + 1 digits
 unfoldable pub decimal : ℕ → List ℕ
 unfolding digitsBefore
-decimal n = digitsBefore mostDigits n []
+decimal n = digitsBefore (suc n) n []

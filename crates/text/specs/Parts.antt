@@ -1,10 +1,8 @@
 -- "Bytes in lines, each ended by byte 10. Fields stand in a fixed order, parted by commas, without quoting."
-use Prim.Native.Nat.{ℕ, zero, suc, _+_, _≤_}
-use mathlib.Core.Path.{_≡_}
+use Prim.Native.Nat.{ℕ}
 use mathlib.Core.Bool.{Bool, true, false}
 use mathlib.Core.List.{List, [], _∷_, _++_}
 use lib.Dec.{eqb}
-use lib.ListN.{length, drop}
 use Rattle.basis.specs.Bytes.{byte}
 
 abbrev pub lineFeed : ℕ
@@ -35,39 +33,21 @@ join b (p ∷ []) = p
 join b (p ∷ q ∷ ps) = p ++ b ∷ join b (q ∷ ps)
 
 -- a line of a text: its bytes, and whether a line feed ends it
-pub record Line : Type 0 where
+pub record TextLine : Type 0 where
   pub bytes : List ℕ
   pub ended : Bool
 
 -- the lines of a text that is parted at its line feeds: all parts but the last are ended, and nothing after the last line feed is no line
-unfoldable pub linesOf : List (List ℕ) → List Line
+unfoldable pub linesOf : List (List ℕ) → List TextLine
 linesOf [] = []
 linesOf ([] ∷ []) = []
 linesOf ((x ∷ p) ∷ []) = record { bytes = x ∷ p; ended = false } ∷ []
 linesOf (p ∷ q ∷ ps) = record { bytes = p; ended = true } ∷ linesOf (q ∷ ps)
 
-abbrev pub lines : List ℕ → List Line
+abbrev pub lines : List ℕ → List TextLine
 lines t = linesOf (split lineFeed t)
 
 -- lines as a text, each ended by a line feed
 unfoldable pub textOf : List (List ℕ) → List ℕ
 textOf [] = []
 textOf (l ∷ ls) = l ++ lineFeed ∷ textOf ls
-
--- ---- positions, inside two functions
-
--- one more, or 0 where the separator is met
-abbrev pub after : Bool → ℕ → ℕ
-after true k = zero
-after false k = suc k
-
--- the index of the first separator, or the length where there is none
-unfoldable pub indexOf : ℕ → List ℕ → ℕ
-indexOf b [] = zero
-indexOf b (x ∷ xs) = after (eqb x b) (indexOf b xs)
-
--- r is where b first stands at or after a place of s, or the end of s
-pub record Found (s : List ℕ) (from b r : ℕ) : Type 0 where
-  pub low : from ≤ r
-  pub high : r ≤ length s
-  pub at : r ≡ from + indexOf b (drop from s)

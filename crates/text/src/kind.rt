@@ -3,7 +3,8 @@ ghost use mathlib.Core.Path.{_≡_};
 ghost use lib.Dec.{eqb};
 ghost use lib.ListN.{drop};
 ghost use Rattle.basis.specs.Lists.{same};
-ghost use Rattle.text.specs.Kind.{kinds, namedIn, named, placeOf, isKind, follows};
+ghost use Rattle.text.specs.Kind.{kinds, namedIn, named, layoutOf, placeOf, isKind, follows};
+ghost use Rattle.text.specs.declared.kind.Kind.the-variants.{User};
 
 pub enum Kind {
     Policy,
@@ -15,6 +16,34 @@ pub enum Kind {
     Object,
     Rule,
     End,
+}
+
+// The word of each kind, which the reader compares and the writer writes.
+pub const POLICY: [u8; 6] = *b"policy";
+
+pub const UATTR: [u8; 5] = *b"uattr";
+
+pub const OATTR: [u8; 5] = *b"oattr";
+
+pub const USEN: [u8; 4] = *b"usen";
+
+pub const OSEN: [u8; 4] = *b"osen";
+
+pub const USER: [u8; 4] = *b"user";
+
+pub const OBJECT: [u8; 6] = *b"object";
+
+pub const RULE: [u8; 4] = *b"rule";
+
+pub const END: [u8; 3] = *b"end";
+
+// What stands behind a kind's word: nothing, one, two or three numbers, or an action and the words of a formula.
+pub enum Layout {
+    Bare,
+    One,
+    Two,
+    Three,
+    Formula,
 }
 
 pub enum Named {
@@ -39,20 +68,20 @@ fn equal(a: &[u8], b: &[u8]) -> bool
     true
 }
 
-// The kind that a first field names, where it is none of the first five.
+// The kind that a first field names, where it is none of those before user.
 fn parse_later(f: &[u8]) -> Named
-    ensures { λ r. ⌜ r ≡ namedIn (drop 5 kinds) (now (f .entry)) ⌝ }
+    ensures { λ r. ⌜ r ≡ namedIn (drop (placeOf User) kinds) (now (f .entry)) ⌝ }
 {
-    if equal(f, b"user") {
+    if equal(f, &USER) {
         return Named::Is(Kind::User);
     }
-    if equal(f, b"object") {
+    if equal(f, &OBJECT) {
         return Named::Is(Kind::Object);
     }
-    if equal(f, b"rule") {
+    if equal(f, &RULE) {
         return Named::Is(Kind::Rule);
     }
-    if equal(f, b"end") {
+    if equal(f, &END) {
         return Named::Is(Kind::End);
     }
     Named::Unknown
@@ -62,19 +91,19 @@ fn parse_later(f: &[u8]) -> Named
 pub fn parse(f: &[u8]) -> Named
     ensures { λ r. ⌜ r ≡ named (now (f .entry)) ⌝ }
 {
-    if equal(f, b"policy") {
+    if equal(f, &POLICY) {
         return Named::Is(Kind::Policy);
     }
-    if equal(f, b"uattr") {
+    if equal(f, &UATTR) {
         return Named::Is(Kind::Uattr);
     }
-    if equal(f, b"oattr") {
+    if equal(f, &OATTR) {
         return Named::Is(Kind::Oattr);
     }
-    if equal(f, b"usen") {
+    if equal(f, &USEN) {
         return Named::Is(Kind::Usen);
     }
-    if equal(f, b"osen") {
+    if equal(f, &OSEN) {
         return Named::Is(Kind::Osen);
     }
     parse_later(f)
@@ -97,14 +126,32 @@ fn place(k: Kind) -> usize
     }
 }
 
+pub fn layout_of(k: Kind) -> Layout
+    ensures { λ r. ⌜ r ≡ layoutOf k ⌝ }
+{
+    match k {
+        Kind::Policy => Layout::One,
+        Kind::Uattr => Layout::One,
+        Kind::Oattr => Layout::One,
+        Kind::Usen => Layout::Two,
+        Kind::Osen => Layout::Two,
+        Kind::User => Layout::Two,
+        Kind::Object => Layout::Two,
+        Kind::Rule => Layout::Formula,
+        Kind::End => Layout::Bare,
+    }
+}
+
 pub fn same(j: Kind, k: Kind) -> bool
     ensures { λ r. ⌜ r ≡ isKind j k ⌝ }
 {
     place(j) == place(k)
 }
 
+const KINDS: usize = 9;
+
 // Row by the kind before, column by the kind after.
-const FOLLOWS: [[bool; 9]; 9] = [
+const FOLLOWS: [[bool; KINDS]; KINDS] = [
     [false, true, false, false, false, false, false, false, false],
     [false, true, true, false, false, false, false, false, false],
     [false, false, true, true, true, true, true, true, true],
@@ -113,7 +160,7 @@ const FOLLOWS: [[bool; 9]; 9] = [
     [false, false, false, false, false, true, true, true, true],
     [false, false, false, false, false, false, true, true, true],
     [false, false, false, false, false, false, false, true, true],
-    [false; 9],
+    [false; KINDS],
 ];
 
 // Whether a line of kind k may follow one of kind j.

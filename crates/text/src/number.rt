@@ -7,9 +7,19 @@ ghost use Rattle.basis.specs.Lists.{all};
 ghost use Rattle.text.specs.Number.{numeral, isDigit, valueOf, mostDigits};
 ghost use Rattle.text.specs.declared.number.Numeral.the-variants.{Value, Malformed};
 
+// The most digits of a number field.
+pub const MOST_DIGITS: usize = 5;
+
 pub enum Numeral {
     Value(u32),
     Malformed,
+}
+
+// The numbers of a line, in the order of its fields; 0 where it has none.
+pub struct Numbers {
+    pub first: u32,
+    pub second: u32,
+    pub third: u32,
 }
 
 // The value of a run of few enough digits.
@@ -40,7 +50,7 @@ pub fn parse(f: &[u8]) -> Numeral
     if f.len() == 0 {
         return Numeral::Malformed;
     }
-    if 5 < f.len() {
+    if MOST_DIGITS < f.len() {
         return Numeral::Malformed;
     }
     if f.len() == 1 {

@@ -1,9 +1,9 @@
 // Parting a text into lines and a line into fields.
 ghost use mathlib.Core.Path.{_≡_};
-ghost use mathlib.Core.List.{[]};
 ghost use Prim.Native.Nat.{_≤_};
-ghost use lib.ListN.{length, getD};
-ghost use Rattle.text.specs.Parts.{fields, Found};
+ghost use lib.ListN.{length};
+ghost use Rattle.text.specs.Parts.{fields};
+ghost use Rattle.text.specs.Inner.{Found};
 
 // Where b first stands at or after `from`; the length where it does not.
 pub fn find(s: &[u8], from: usize, b: u8) -> usize
@@ -33,22 +33,4 @@ pub fn count(line: &[u8]) -> usize
         i += 1;
     }
     n
-}
-
-// Field k of a line; an empty one where there is none.
-pub fn field(line: &[u8], k: usize) -> &[u8]
-    ensures { λ r. ⌜ now r ≡ getD (fields (now (line .entry))) k [] ⌝ }
-{
-    let mut i = 0;
-    let mut j = 0;
-    while j < k {
-        let e = find(line, i, b',');
-        if e == line.len() {
-            return &line[e..];
-        }
-        i = e + 1;
-        j += 1;
-    }
-    let to = find(line, i, b',');
-    &line[i..to]
 }

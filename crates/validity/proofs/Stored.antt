@@ -24,12 +24,12 @@ use Rattle.words.specs.declared.Comparison.the-variants.{Dominates, Equals}
 use Rattle.policy.specs.Policy.{Side}
 use Rattle.policy.specs.Value.{widthPlaces, entryPlaces, wordPlaces, slot, noEntry, noRule, entriesOf, register, ruleValue, ruleOf, linePlaces}
 use Rattle.policy.specs.Valid.{sameLine, sameEntry, sameSlot, sameRegister, sameRule}
+use Rattle.policy.specs.Inner.Sound.{widthsSound}
 use Rattle.policy.specs.declared.value.Entry.{Entry}
 use Rattle.policy.specs.declared.value.RuleValue.{RuleValue}
 use Rattle.policy.proofs.Same.{exact-number, exact-line, exact-entry, exact-slot}
 use Rattle.policy.proofs.Parts.{lineFits, lineAbove, numberFits, numberAbove, lines-rising, entries-rising}
 use Rattle.policy.proofs.Rising.{rising}
-use Rattle.policy.proofs.Sound.{widthsSound}
 use Rattle.validity.specs.Parts.{holds, widthsValid, linesValid, registerValid}
 
 -- ---- any list

@@ -17,6 +17,7 @@ use Rattle.policy.specs.Policy.{Side, Policy, total}
 use Rattle.policy.specs.Checks.{wordFits, widthsEqual, balanced}
 use Rattle.policy.specs.Value.{widthPlaces, wordPlaces, rulePlaces, noRule, register, sideOf, sideValue, entriesOf, ruleOf, ruleValue, rulesOf, rulesValue, policyOf, valueOf}
 use Rattle.policy.specs.Valid.{sameSide, sameRegister, sameRule, sameRules, sameValue, valid}
+use Rattle.policy.specs.Inner.Sound.{widthsSound, sideSound, entriesSound, ruleSound, listsSound, sound}
 use Rattle.policy.specs.declared.value.SideValue.{SideValue}
 use Rattle.policy.specs.declared.value.RuleValue.{RuleValue}
 use Rattle.policy.specs.declared.value.Rules.{Rules}
@@ -24,7 +25,6 @@ use Rattle.policy.specs.declared.value.PolicyValue.{PolicyValue}
 use Rattle.policy.proofs.Parts.{actionAbove, rules-rising}
 use Rattle.policy.proofs.Rising.{rising}
 use Rattle.policy.proofs.Valid.{valid-sound}
-use Rattle.policy.proofs.Sound.{widthsSound, sideSound, entriesSound, ruleSound, listsSound, sound}
 use Rattle.checks.specs.Sides.{Shaped, wordsIn}
 use Rattle.checks.specs.declared.side.Shape.{Shape}
 use Rattle.checks.proofs.Laws.{measured-places, measured-total}

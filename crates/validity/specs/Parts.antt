@@ -13,12 +13,12 @@ use Rattle.policy.specs.Limits.{values, actions, userNumbers, objectNumbers, mo
 use Rattle.policy.specs.Policy.{Side, Policy}
 use Rattle.policy.specs.Value.{widthPlaces, sideValue, register, ruleValue, rulesValue, sideOf, entriesOf, ruleOf, rulesOf, policyOf, linePlaces}
 use Rattle.policy.specs.Valid.{sameLine, sameSide, sameRegister, sameRule, sameRules}
+use Rattle.policy.specs.Inner.Sound.{widthsSound, linesSound, sideSound, entriesSound, ruleSound, rulesSound}
 use Rattle.policy.specs.declared.value.SideValue.{SideValue}
 use Rattle.policy.specs.declared.value.Register.{Register}
 use Rattle.policy.specs.declared.value.RuleValue.{RuleValue}
 use Rattle.policy.specs.declared.value.Rules.{Rules}
 use Rattle.policy.specs.declared.value.PolicyValue.{PolicyValue}
-use Rattle.policy.proofs.Sound.{widthsSound, linesSound, sideSound, entriesSound, ruleSound, rulesSound}
 use Rattle.checks.specs.Sides.{Shaped}
 use Rattle.checks.specs.declared.side.Shape.{Shape}
 

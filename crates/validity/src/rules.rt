@@ -7,7 +7,7 @@ ghost use Rattle.words.specs.declared.Word.the-variants as word;
 ghost use Rattle.policy.specs.Policy.{Policy};
 ghost use Rattle.policy.specs.Value.{widthPlaces, wordPlaces, slot, noRule, ruleOf};
 ghost use Rattle.policy.specs.Valid.{sameSlot, sameRule};
-ghost use Rattle.policy.proofs.Sound.{ruleSound};
+ghost use Rattle.policy.specs.Inner.Sound.{ruleSound};
 ghost use Rattle.validity.specs.Parts.{ShapedBy, ruleValid, rulesValid};
 use checks::side::Shape;
 use policy::value::RULE_PLACES;

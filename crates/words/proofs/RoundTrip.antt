@@ -13,7 +13,8 @@ use Rattle.basis.proofs.Bools.{and-left, and-right}
 use Rattle.text.specs.Number.{isDigit, digitOf}
 use Rattle.text.specs.Parts.{comma, lineFeed}
 use Rattle.text.proofs.RoundTrip.{digit-is, digit-bounds, lacks, lacks-failing}
-use Rattle.words.specs.Word.{letter, holding, comparison, parsed, written, inDigits}
+use Rattle.words.specs.Word.{letter, holding, comparison, parsed, written}
+use Rattle.words.specs.Inner.{inDigits}
 use Rattle.words.specs.declared.Holding.the-variants.{User, Object}
 use Rattle.words.specs.declared.Comparison.the-variants.{Dominates, Equals}
 use Rattle.words.specs.declared.Word.{Word}
@@ -138,7 +139,11 @@ written-parsed (c ∷ i ∷ j ∷ x ∷ xs) w e = none (c ∷ i ∷ j ∷ x ∷ 
 
 -- ---- a word is short, and its bytes are letters and digits
 
-pub written-short : (w : Word) → length (written w) ≤ 3
+-- the most bytes of a word
+abbrev pub mostLetters : ℕ
+mostLetters = 3
+
+pub written-short : (w : Word) → length (written w) ≤ mostLetters
 unfolding written
 written-short True = lit≤ tt
 written-short False = lit≤ tt

@@ -2,7 +2,7 @@
 use Prim.Native.Nat.{ℕ, _+_}
 use mathlib.Core.Bool.{Bool, true, false, cond, _&&_}
 use mathlib.Core.List.{List, [], _∷_}
-use lib.Dec.{eqb, ltb}
+use lib.Dec.{eqb}
 use Rattle.basis.specs.Bytes.{byte}
 use Rattle.text.specs.Number.{isDigit, digitOf}
 use Rattle.words.specs.declared.Holding.the-variants.{User, Object}
@@ -66,15 +66,3 @@ written (Compares (Equals i j)) = byte "q" ∷ (byte "0" + i) ∷ (byte "0" + j)
 written Not = byte "n" ∷ []
 written And = byte "a" ∷ []
 written Or = byte "r" ∷ []
-
--- the numbers of a word are digits
-unfoldable pub inDigits : Word → Bool
-inDigits True = true
-inDigits False = true
-inDigits (Holds (User v)) = ltb v 10
-inDigits (Holds (Object v)) = ltb v 10
-inDigits (Compares (Dominates i j)) = ltb i 10 && ltb j 10
-inDigits (Compares (Equals i j)) = ltb i 10 && ltb j 10
-inDigits Not = true
-inDigits And = true
-inDigits Or = true

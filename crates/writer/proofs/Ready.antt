@@ -7,16 +7,15 @@ use lib.ListN.{length}
 use Rattle.basis.proofs.Lists.{all-of, all-map}
 use Rattle.basis.proofs.Padded.{take-padded-map}
 use Rattle.words.specs.declared.Word.the-variants.{True}
-use Rattle.words.specs.Word.{inDigits}
+use Rattle.words.specs.Inner.{inDigits}
 use Rattle.policy.specs.Limits.{textBytes}
 use Rattle.policy.specs.Policy.{Side, Rule, Policy}
 use Rattle.policy.specs.Text.{textOf}
 use Rattle.policy.specs.Valid.{valid}
 use Rattle.policy.specs.Value.{wordPlaces, rulePlaces, slot, noRule, sideValue, register, ruleValue, rulesValue, valueOf, policyOf}
 use Rattle.policy.specs.declared.value.PolicyValue.{PolicyValue}
-use Rattle.policy.proofs.Sound.{WithinSide}
 use Rattle.policy.proofs.Parts.{RuleParts, Parts, parts, whole}
-use Rattle.policy.proofs.Bounds.{rule-bounds, rule-digits, parts-within}
+use Rattle.policy.proofs.Bounds.{WithinSide, rule-bounds, rule-digits, parts-within}
 use Rattle.policy.proofs.RoundTrip.{text-short}
 use Rattle.policy.proofs.Valid.{valid-stored}
 use Rattle.writer.specs.Put.{ruleWritable}

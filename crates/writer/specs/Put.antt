@@ -10,7 +10,8 @@ use Rattle.basis.specs.Lists.{all, over}
 use Rattle.seniority.specs.declared.Direct.{Direct}
 use Rattle.text.specs.Number.{decimal}
 use Rattle.text.specs.Parts.{comma, lineFeed}
-use Rattle.words.specs.Word.{written, inDigits}
+use Rattle.words.specs.Word.{written}
+use Rattle.words.specs.Inner.{inDigits}
 use Rattle.policy.specs.Value.{wordPlaces}
 use Rattle.policy.specs.declared.value.Entry.{Entry}
 use Rattle.policy.specs.declared.value.RuleValue.{RuleValue}

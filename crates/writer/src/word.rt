@@ -1,7 +1,8 @@
 // A word field, put at the start of a buffer.
 ghost use mathlib.Core.Path.{_≡_};
 ghost use mathlib.Core.Bool.{true};
-ghost use Rattle.words.specs.Word.{written, inDigits};
+ghost use Rattle.words.specs.Word.{written};
+ghost use Rattle.words.specs.Inner.{inDigits};
 ghost use Rattle.writer.specs.Put.{Room, Put, field, Spelt};
 use crate::bytes;
 use words::Comparison;

@@ -6,7 +6,7 @@ use lib.ListN.{length, take, drop, drop-of-length-le}
 use lib.Seq.{length-take-le}
 use borrow.Author.Needs.{needs}
 use Rattle.basis.proofs.Lists.{long}
-use Rattle.seniority.specs.Seniority.{wordBits}
+use Rattle.seniority.specs.Inner.{wordBits}
 use Rattle.seniority.proofs.Laws.{lowered, has-lowered, line-bounds, lower-line}
 use Rattle.policy.specs.Value.{linePlaces}
 use Rattle.board.proofs.juniors.with_juniors.Statement.{statement}

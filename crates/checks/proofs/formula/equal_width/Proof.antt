@@ -1,6 +1,5 @@
 -- `checks::formula::equal_width` meets its contract: both widths are those of the sides.
 use borrow.Author.Needs.{needs}
-use Rattle.checks.proofs.Words.{both-widths}
 use Rattle.checks.proofs.formula.equal_width.Statement.{statement}
 use Rattle.checks.proofs.formula.equal_width.Tie as tie
 
@@ -11,7 +10,7 @@ width-requires-2 : tie.Need-width-requires-2
 width-requires-2 c κs = search needs
 
 returns : tie.Need-returns
-returns c = search both-widths
+returns c = rw (c .before .width .ensures, c .width2 .ensures)
 
 pub equal-width-spec : {M : Type 1} → statement M
 equal-width-spec = tie.close (tie.spec width-requires width-requires-2 returns)

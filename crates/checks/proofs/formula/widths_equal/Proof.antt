@@ -38,13 +38,13 @@ enum-told-6 : tie.Need-enum-told-6
 enum-told-6 c = search needs
 
 returns : tie.Need-returns
-returns c = λ p x y. rw (c .enum-told .given .1)
+returns c = rw (c .enum-told .given .1)
 
 returns-2 : tie.Need-returns-2
-returns-2 c = λ p x y. rw (c .enum-told2 .given .1)
+returns-2 c = rw (c .enum-told2 .given .1)
 
 returns-3 : tie.Need-returns-3
-returns-3 c = λ p x y. rw (c .enum-told3 .given .1)
+returns-3 c = rw (c .enum-told3 .given .1)
 
 returns-4 : tie.Need-returns-4
 returns-4 c = search equal-dominates
@@ -53,13 +53,13 @@ returns-5 : tie.Need-returns-5
 returns-5 c = search equal-equals
 
 returns-6 : tie.Need-returns-6
-returns-6 c = λ p x y. rw (c .enum-told4 .given .1)
+returns-6 c = rw (c .enum-told4 .given .1)
 
 returns-7 : tie.Need-returns-7
-returns-7 c = λ p x y. rw (c .enum-told5 .given .1)
+returns-7 c = rw (c .enum-told5 .given .1)
 
 returns-8 : tie.Need-returns-8
-returns-8 c = λ p x y. rw (c .enum-told6 .given .1)
+returns-8 c = rw (c .enum-told6 .given .1)
 
 pub widths-equal-spec : {M : Type 1} → statement M
 widths-equal-spec =

@@ -50,10 +50,10 @@ enum-told-5 : tie.Need-enum-told-5
 enum-told-5 c = search needs
 
 returns : tie.Need-returns
-returns c = λ p x y. rw (c .enum-told .given .1)
+returns c = rw (c .enum-told .given .1)
 
 returns-2 : tie.Need-returns-2
-returns-2 c = λ p x y. rw (c .enum-told2 .given .1)
+returns-2 c = rw (c .enum-told2 .given .1)
 
 returns-3 : tie.Need-returns-3
 returns-3 c = search fits-user
@@ -68,13 +68,13 @@ returns-6 : tie.Need-returns-6
 returns-6 c = search fits-equals
 
 returns-7 : tie.Need-returns-7
-returns-7 c = λ p x y. rw (c .enum-told3 .given .1)
+returns-7 c = rw (c .enum-told3 .given .1)
 
 returns-8 : tie.Need-returns-8
-returns-8 c = λ p x y. rw (c .enum-told4 .given .1)
+returns-8 c = rw (c .enum-told4 .given .1)
 
 returns-9 : tie.Need-returns-9
-returns-9 c = λ p x y. rw (c .enum-told5 .given .1)
+returns-9 c = rw (c .enum-told5 .given .1)
 
 pub word-fits-spec : {M : Type 1} → statement M
 word-fits-spec =

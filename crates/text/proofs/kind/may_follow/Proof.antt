@@ -1,8 +1,8 @@
 -- `text::kind::may_follow` meets its contract: one computed test over the whole table, and the law that gives it at each entry.
-use Prim.Native.Nat.{ℕ, _<_}
-use mathlib.Core.Path.{_≡_, refl, _∙_}
+use Prim.Native.Nat.{ℕ}
+use mathlib.Core.Path.{_≡_, _∙_}
 use mathlib.Core.Bool.{Bool, true, false, _&&_}
-use mathlib.Core.List.{List, [], _∷_}
+use mathlib.Core.List.{List, []}
 use native.Mathlib.Omega.{arith}
 use borrow.Author.Needs.{needs}
 use borrow.Author.Tests.{eqb-true}
@@ -12,40 +12,31 @@ use Rattle.basis.specs.Numbers.{agree}
 use Rattle.basis.proofs.Bools.{and-left, and-right}
 use Rattle.basis.proofs.Same.{agree-eq}
 use Rattle.basis.proofs.Table.{everyEntry, at}
-use Rattle.text.specs.Kind.{placeOf, follows}
+use Rattle.text.specs.Kind.{kinds, placeOf, follows}
+use Rattle.text.specs.declared.kind.Kind.{Kind}
 use Rattle.text.proofs.Naming.{place-lt, kindAt, kind-at}
 use Rattle.text.proofs.kind.may_follow.Statement.{statement}
 use Rattle.text.proofs.kind.may_follow.Tie as tie
 
-table : List (List Bool)
-table =
-    (false ∷ true ∷ false ∷ false ∷ false ∷ false ∷ false ∷ false ∷ false ∷ []) ∷
-    (false ∷ true ∷ true ∷ false ∷ false ∷ false ∷ false ∷ false ∷ false ∷ []) ∷
-    (false ∷ false ∷ true ∷ true ∷ true ∷ true ∷ true ∷ true ∷ true ∷ []) ∷
-    (false ∷ false ∷ false ∷ true ∷ true ∷ true ∷ true ∷ true ∷ true ∷ []) ∷
-    (false ∷ false ∷ false ∷ false ∷ true ∷ true ∷ true ∷ true ∷ true ∷ []) ∷
-    (false ∷ false ∷ false ∷ false ∷ false ∷ true ∷ true ∷ true ∷ true ∷ []) ∷
-    (false ∷ false ∷ false ∷ false ∷ false ∷ false ∷ true ∷ true ∷ true ∷ []) ∷
-    (false ∷ false ∷ false ∷ false ∷ false ∷ false ∷ false ∷ true ∷ true ∷ []) ∷
-    (false ∷ false ∷ false ∷ false ∷ false ∷ false ∷ false ∷ false ∷ false ∷ []) ∷ []
-
 -- the row of a kind says which kinds follow it
-entry : ℕ → ℕ → Bool → Bool
-unfolding follows
+abbrev entry : ℕ → ℕ → Bool → Bool
 entry i j b = agree b (follows (kindAt i) (kindAt j))
 
-row : ℕ → List Bool → Bool
-unfolding entry
-row i r = eqb (length r) 9 && everyEntry (entry i) 0 r
+abbrev row : ℕ → List Bool → Bool
+row i r = eqb (length r) (length kinds) && everyEntry (entry i) 0 r
 
-rule : (i j : ℕ) → i < 9 → j < 9 → getD (getD table i []) j false ≡ follows (kindAt i) (kindAt j)
-unfolding table row entry follows
-rule i j h g =
+-- a table for every two kinds whose rows pass the test says which kind may follow which
+successors : (table : List (List Bool)) → everyEntry row 0 table ≡ true → length table ≡ length kinds
+    → (j k : Kind) (a b : ℕ) → a ≡ placeOf j → b ≡ placeOf k → getD (getD table a []) b false ≡ follows j k
+successors table e l j k a b p q =
+    let i = placeOf j in
     let r = getD table i [] in
-    let t : row i r ≡ true = at row [] table refl i h in
-    let l : length r ≡ 9 = eqb-true (length r) 9 (and-left (eqb (length r) 9) (everyEntry (entry i) 0 r) t) in
-    agree-eq (getD r j false) (follows (kindAt i) (kindAt j))
-    (at (entry i) false r (and-right (eqb (length r) 9) (everyEntry (entry i) 0 r) t) j (omega arith))
+    let t : row i r ≡ true = at row [] table e i (rw l (place-lt j)) in
+    let g = eqb-true (length r) (length kinds) (and-left (eqb (length r) (length kinds)) (everyEntry (entry i) 0 r) t) in
+    rw (p, q)
+    (agree-eq (getD r (placeOf k) false) (follows (kindAt i) (kindAt (placeOf k)))
+    (at (entry i) false r (and-right (eqb (length r) (length kinds)) (everyEntry (entry i) 0 r) t) (placeOf k) (rw g (place-lt k)))
+    ∙ rw (kind-at j, kind-at k))
 
 place-requires : tie.Need-place-requires
 place-requires c κs = search needs
@@ -63,12 +54,8 @@ index-2-result : tie.Need-index-2-result
 index-2-result c = omega (arith, place-lt (c .before .before .args .k))
 
 returns : tie.Need-returns
-unfolding table
-returns c =
-    let j = c .before .before .before .args .j in
-    let k = c .before .before .before .args .k in
-    rw (c .before .before .place .ensures, c .before .place2 .ensures)
-    (rule (placeOf j) (placeOf k) (place-lt j) (place-lt k) ∙ rw (kind-at j, kind-at k))
+unfolding follows
+returns c = search successors
 
 pub may-follow-spec : {M : Type 1} → statement M
 may-follow-spec =

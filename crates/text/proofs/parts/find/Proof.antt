@@ -5,7 +5,7 @@ use native.Mathlib.Omega.{arith}
 use borrow.Author.Needs.{needs}
 use denote.Ref.{now}
 use lib.ListN.{length, drop}
-use Rattle.text.specs.Parts.{indexOf}
+use Rattle.text.specs.Inner.{indexOf}
 use Rattle.text.proofs.Split.{index-hit, index-miss, index-end}
 use Rattle.text.proofs.parts.find.Statement.{statement}
 use Rattle.text.proofs.parts.find.Tie as tie

@@ -4,7 +4,8 @@ use mathlib.Core.List.{List}
 use native.Mathlib.Omega.{arith}
 use borrow.Author.Needs.{needs}
 use Rattle.basis.proofs.Lists.{long, all-taken}
-use Rattle.words.specs.Word.{written, inDigits}
+use Rattle.words.specs.Word.{written}
+use Rattle.words.specs.Inner.{inDigits}
 use Rattle.words.specs.declared.Word.the-variants.{True}
 use Rattle.policy.specs.Value.{slot}
 use Rattle.policy.specs.declared.value.Slot.{Slot}

@@ -7,7 +7,8 @@ use borrow.Author.Tests.{ltb-true}
 use borrow.Author.Needs.{needs}
 use lib.Dec.{ltb, lit≤}
 use Rattle.basis.proofs.Bools.{and-left, and-right}
-use Rattle.words.specs.Word.{written, inDigits}
+use Rattle.words.specs.Word.{written}
+use Rattle.words.specs.Inner.{inDigits}
 use Rattle.writer.proofs.word.spell.Statement.{statement}
 use Rattle.writer.proofs.word.spell.Tie as tie
 

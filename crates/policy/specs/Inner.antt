@@ -1,0 +1,2 @@
+-- What only code and proofs go by.
+pub mod Sound

@@ -1,0 +1,59 @@
+-- Policies whose lines pass checks 6 to 9 one after the other, by a test for each list. Reading yields exactly these, and check 11 tests for
+-- them; nothing here is needed to say what reading or check 11 means.
+use Prim.Native.Nat.{ℕ, _+_}
+use mathlib.Core.Bool.{Bool, true, _&&_}
+use mathlib.Core.List.{List, [], _∷_}
+use mathlib.Core.Option.{Option, none, some}
+use lib.Dec.{leb, ltb}
+use lib.ListN.{length}
+use Rattle.basis.specs.Choice.{given}
+use Rattle.basis.specs.Lists.{all}
+use Rattle.seniority.specs.declared.Direct.{Direct}
+use Rattle.policy.specs.Limits.{isForm, values, actions, userNumbers, objectNumbers, mostWords}
+use Rattle.policy.specs.Policy.{Side, Rule, Policy, total}
+use Rattle.policy.specs.Checks.{sideSizes, sizes, widthFits, pairFits, pairAbove, entryFits, wordFits, widthsEqual, balanced}
+use Rattle.policy.specs.declared.value.Entry.{Entry}
+
+-- widths after others that sum to n
+unfoldable pub widthsSound : ℕ → ℕ → List ℕ → Bool
+widthsSound most n [] = true
+widthsSound most n (w ∷ ws) = widthFits most n w && widthsSound most (n + w) ws
+
+-- lines of a side after another
+unfoldable pub linesSound : Side → Option Direct → List Direct → Bool
+linesSound s before [] = true
+linesSound s before (l ∷ ls) =
+    pairFits (sideSizes s) (l .senior) (l .junior) && (given before true (pairAbove (l .senior) (l .junior)) && linesSound s (some l) ls)
+
+-- users or objects after another
+unfoldable pub entriesSound : ℕ → Side → Option Entry → List Entry → Bool
+entriesSound most s before [] = true
+entriesSound most s before (e ∷ es) =
+    entryFits most (total s) (e .number) (e .set) && (given before true (λ b. ltb (b .number) (e .number)) && entriesSound most s (some e) es)
+
+-- a rule, and rules after another
+unfoldable pub ruleSound : Policy → Rule → Bool
+ruleSound p r =
+    leb (length (r .words)) mostWords
+    && (ltb (r .action) (actions (p .form))
+    && (all (wordFits (sizes p)) (r .words) && (all (widthsEqual (sizes p)) (r .words) && balanced 0 (r .words))))
+
+unfoldable pub rulesSound : Policy → Option Rule → List Rule → Bool
+rulesSound p before [] = true
+rulesSound p before (r ∷ rs) = ruleSound p r && (given before true (λ b. ltb (b .action) (r .action)) && rulesSound p (some r) rs)
+
+unfoldable pub sideSound : ℕ → Side → Bool
+sideSound most s = widthsSound most 0 (s .widths) && linesSound s none (s .lines)
+
+-- every list is sound: what holds while a text is read, from the first line on
+unfoldable pub listsSound : Policy → Bool
+listsSound p =
+    sideSound (values (p .form)) (p .user)
+    && (sideSound (values (p .form)) (p .object)
+    && (entriesSound userNumbers (p .user) none (p .users)
+    && (entriesSound objectNumbers (p .object) none (p .objects) && rulesSound p none (p .rules))))
+
+-- and the form and both sides are there: what holds of an accepted text's policy
+unfoldable pub sound : Policy → Bool
+sound p =
+    isForm (p .form) && (leb 1 (length (p .user .widths)) && (leb 1 (length (p .object .widths)) && listsSound p))
