@@ -18,9 +18,9 @@ use Rattle.policy.specs.declared.value.PolicyValue.{PolicyValue}
 use Rattle.policy.specs.declared.value.Entry.{Entry}
 use Rattle.policy.specs.declared.value.RuleValue.{RuleValue}
 use Rattle.policy.specs.declared.value.Slot.{Slot}
-use Rattle.writer.specs.Put.{each, ended, field, wordFields, oneLine, twoLine, pairLine, entryLine}
-use Rattle.writer.specs.Put as Put
-use Rattle.writer.specs.Whole.{widthsText, seniorityText, registeredText, rulesText}
+use Rattle.writer.specs.Inner.Put.{each, ended, field, wordFields, oneLine, twoLine, pairLine, entryLine}
+use Rattle.writer.specs.Inner.Put as Put
+use Rattle.writer.specs.Inner.Whole.{widthsText, seniorityText, registeredText, rulesText}
 
 -- ---- a line
 

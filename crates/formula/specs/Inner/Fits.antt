@@ -2,7 +2,7 @@
 use Prim.Native.Nat.{ℕ, _≤_, _<_}
 use mathlib.Core.List.{List·Memᴰ}
 use lib.ListN.{take}
-use Rattle.seniority.specs.Seniority.{Ordered}
+use Rattle.seniority.specs.Inner.{Ordered}
 use Rattle.policy.specs.Limits.{mostValues, mostActions}
 use Rattle.policy.specs.Policy.{total}
 use Rattle.policy.specs.Value.{wordPlaces, rulePlaces, sideOf, linePlaces}

@@ -13,7 +13,7 @@ use Rattle.policy.specs.Valid.{valid}
 use Rattle.policy.specs.Value.{policyOf}
 use Rattle.policy.specs.Write.{write, writeBuffer}
 use Rattle.policy.specs.declared.value.PolicyValue.{PolicyValue}
-use Rattle.writer.specs.Put.{Room, Put}
+use Rattle.writer.specs.Inner.Put.{Room, Put}
 use Rattle.writer.proofs.Ready.{valid-writable, valid-short}
 use Rattle.writer.proofs.write.Statement.{statement}
 use Rattle.writer.proofs.write.Tie as tie

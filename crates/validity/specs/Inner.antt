@@ -1,5 +1,5 @@
 -- The parts of check 11, a test for each list of a policy value: it is what the lists read from it are stored as, and these pass their checks.
-use Prim.Native.Nat.{ℕ, _≤_, _<_}
+use Prim.Native.Nat.{ℕ}
 use mathlib.Core.Path.{_≡_}
 use mathlib.Core.Bool.{Bool, true, _&&_}
 use mathlib.Core.List.{List}
@@ -9,8 +9,9 @@ use lib.ListN.{length, take}
 use Rattle.basis.specs.Lists.{same, padded}
 use Rattle.seniority.specs.Seniority.{direct}
 use Rattle.seniority.specs.declared.Direct.{Direct}
-use Rattle.policy.specs.Limits.{values, actions, userNumbers, objectNumbers, mostValues}
+use Rattle.policy.specs.Limits.{values, actions, userNumbers, objectNumbers}
 use Rattle.policy.specs.Policy.{Side, Policy}
+use Rattle.policy.specs.Checks.{sizes}
 use Rattle.policy.specs.Value.{widthPlaces, sideValue, register, ruleValue, rulesValue, sideOf, entriesOf, ruleOf, rulesOf, policyOf, linePlaces}
 use Rattle.policy.specs.Valid.{sameLine, sameSide, sameRegister, sameRule, sameRules}
 use Rattle.policy.specs.Inner.Sound.{widthsSound, linesSound, sideSound, entriesSound, ruleSound, rulesSound}
@@ -19,7 +20,7 @@ use Rattle.policy.specs.declared.value.Register.{Register}
 use Rattle.policy.specs.declared.value.RuleValue.{RuleValue}
 use Rattle.policy.specs.declared.value.Rules.{Rules}
 use Rattle.policy.specs.declared.value.PolicyValue.{PolicyValue}
-use Rattle.checks.specs.Sides.{Shaped}
+use Rattle.checks.specs.Inner.{bothIn}
 use Rattle.checks.specs.declared.side.Shape.{Shape}
 
 -- an array of m places holds n elements and is blank behind them
@@ -37,12 +38,6 @@ linesValid s ls n = holds sameLine linePlaces (direct 0 0) ls n && linesSound s 
 unfoldable pub sideValid : ℕ → SideValue → Bool
 sideValid most x = sameSide (sideValue (sideOf x)) x && (leb 1 (length (sideOf x .widths)) && sideSound most (sideOf x))
 
--- the shape of a valid side: its attributes are in their places, and its sum has a mask
-pub record SmallShape (x : Shape) (s : Side) : Type 0 where
-  pub shape : Shaped x s
-  pub places : x .attributes ≤ widthPlaces
-  pub small : x .total ≤ mostValues
-
 -- ---- users or objects
 
 unfoldable pub registerValid : ℕ → Side → Register → Bool
@@ -53,8 +48,7 @@ registerValid most s x = sameRegister (register (entriesOf x)) x && entriesSound
 -- a policy of so many actions whose sides have these shapes
 pub record ShapedBy (n : ℕ) (u o : Shape) (p : Policy) : Type 0 where
   pub actions : n ≡ actions (p .form)
-  pub user : Shaped u (p .user)
-  pub object : Shaped o (p .object)
+  pub sizes : bothIn u o ≡ sizes p
 
 unfoldable pub ruleValid : Policy → RuleValue → Bool
 ruleValid p x = sameRule (ruleValue (ruleOf x)) x && ruleSound p (ruleOf x)

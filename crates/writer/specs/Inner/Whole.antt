@@ -2,17 +2,17 @@
 use Prim.Native.Nat.{ℕ, _≤_}
 use mathlib.Core.Path.{_≡_}
 use mathlib.Core.Bool.{true}
-use mathlib.Core.List.{List, [], _∷_, _++_}
+use mathlib.Core.List.{List, _++_}
 use lib.ListN.{take}
-use Rattle.basis.specs.Bytes.{bytes}
 use Rattle.basis.specs.Lists.{all}
-use Rattle.text.specs.Parts.{lineFeed}
+use Rattle.text.specs.Kind.{wordOf}
+use Rattle.text.specs.declared.kind.Kind.the-variants.{Policy, Uattr, Oattr, Usen, Osen, User, Object, Rule, End}
 use Rattle.policy.specs.Value.{widthPlaces, entryPlaces, rulePlaces, linePlaces}
 use Rattle.policy.specs.declared.value.SideValue.{SideValue}
 use Rattle.policy.specs.declared.value.Register.{Register}
 use Rattle.policy.specs.declared.value.Rules.{Rules}
 use Rattle.policy.specs.declared.value.PolicyValue.{PolicyValue}
-use Rattle.writer.specs.Put.{each, oneLine, pairLine, entryLine, ruleLine, ruleWritable}
+use Rattle.writer.specs.Inner.Put.{each, bareLine, oneLine, pairLine, entryLine, ruleLine, ruleWritable}
 
 -- counts are within their arrays, and words can be spelt
 pub record SideWithin (s : SideValue) : Type 0 where
@@ -33,19 +33,16 @@ pub record Writable (v : PolicyValue) : Type 0 where
   pub objects : RegisterWithin (v .objects)
   pub rules : RulesWithin (v .rules)
 
--- the parts of the text
-abbrev pub widthsText : ℕ → SideValue → SideValue → List ℕ
-widthsText form u o =
-    (oneLine (bytes "policy") form ++ each (oneLine (bytes "uattr")) (take (u .attributes) (u .widths)))
-    ++ each (oneLine (bytes "oattr")) (take (o .attributes) (o .widths))
+-- the text up to the seniorities, and the rest of it
+abbrev pub sidesText : ℕ → SideValue → SideValue → List ℕ
+sidesText form u o =
+    oneLine (wordOf Policy) form
+    ++ (each (oneLine (wordOf Uattr)) (take (u .attributes) (u .widths))
+    ++ (each (oneLine (wordOf Oattr)) (take (o .attributes) (o .widths))
+    ++ (each (pairLine (wordOf Usen)) (take (u .lines) (u .seniority)) ++ each (pairLine (wordOf Osen)) (take (o .lines) (o .seniority)))))
 
-abbrev pub seniorityText : SideValue → SideValue → List ℕ
-seniorityText u o =
-    each (pairLine (bytes "usen")) (take (u .lines) (u .seniority)) ++ each (pairLine (bytes "osen")) (take (o .lines) (o .seniority))
-
-abbrev pub registeredText : Register → Register → List ℕ
-registeredText us os =
-    each (entryLine (bytes "user")) (take (us .count) (us .entries)) ++ each (entryLine (bytes "object")) (take (os .count) (os .entries))
-
-abbrev pub rulesText : Rules → List ℕ
-rulesText rs = each (ruleLine (bytes "rule")) (take (rs .count) (rs .entries)) ++ (bytes "end" ++ (lineFeed ∷ []))
+abbrev pub listsText : Register → Register → Rules → List ℕ
+listsText us os rs =
+    each (entryLine (wordOf User)) (take (us .count) (us .entries))
+    ++ (each (entryLine (wordOf Object)) (take (os .count) (os .entries))
+    ++ (each (ruleLine (wordOf Rule)) (take (rs .count) (rs .entries)) ++ bareLine (wordOf End)))
