@@ -1,5 +1,6 @@
--- Demand 3's list of calls: where the labels decide as the formulas do, the board answers as the plain machine and holds its sessions.
--- The two share each call's checks and what becomes of its session's entry, so that both go by one entry, and one induction serves all.
+-- Demand 3's list of calls: where the labels decide as the formulas do, the board answers as the plain machine and
+-- holds its sessions. The two share each call's checks and what becomes of its session's entry, so that both go by one
+-- entry, and one induction serves all.
 use Prim.Native.Nat.{ℕ, _<_}
 use mathlib.Core.Path.{_≡_, refl, ap, _∙_}
 use mathlib.Core.Bool.{Bool, true, false, cond}
@@ -243,7 +244,7 @@ module _ (p : Policy) (l : Labels) (objects : ObjectsFit p) (serves : Serves p l
 
     -- ---- every list of calls
 
-    agreement : (calls : List Call) → RanAlike (Same (Sound p) entryAt) (run (boardStep v l) calls fresh) (run (step p) calls empty)
+    pub agreement : (calls : List Call) → RanAlike (Same (Sound p) entryAt) (run (boardStep v l) calls fresh) (run (step p) calls empty)
     agreement calls = run-same p (Sound p) entryAt (boardStep v l) board-by-entry calls fresh empty (record { sound = sound-fresh p; entries = entries-fresh })
 
     -- "Each answer equals the machine's"

@@ -1,5 +1,5 @@
--- A call looks at one session's entry and changes no other: its answer and what it leaves go by that entry alone. What goes by entries as the
--- plain machine does, from the same entries, answers every list of calls as the machine and ends with its entries.
+-- A call looks at one session's entry and changes no other: its answer and what it leaves go by that entry alone. So
+-- does the plain machine, and what goes by entries as it does answers every list of calls as it does.
 use Prim.Native.Nat.{ℕ}
 use mathlib.Core.Path.{_≡_, refl, sym, ap, _∙_}
 use mathlib.Core.Bool.{Bool, true, false, cond}

@@ -1,5 +1,6 @@
--- Demand 3's last sentence, of one request with any board, policy value, buffers, NU and NO: what is not refused is granted exactly when the
--- bit at the labels is set, and a place past its buffer's end gets 20. By cases on the lower refusals and on the places.
+-- Demand 3's last sentence, of one request with any board, policy value, buffers, NU and NO: what is not refused is
+-- granted exactly when the bit at the labels is set, and a place past its buffer's end gets 20. By cases on the lower
+-- refusals and on the places.
 use Prim.Native.Nat.{ℕ, _≤_}
 use mathlib.Core.Path.{_≡_, refl, sym, ap, _∙_}
 use mathlib.Core.Bool.{Bool, true, false, cond, _||_}

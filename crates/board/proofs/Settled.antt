@@ -1,4 +1,4 @@
--- The calls that change a session: check 11 first, then a ruling; what it and the session's next entry make of the board is the call's step.
+-- The calls that change a session: check 11, then a ruling, which with the session's next entry makes the call's step.
 use Prim.Native.Nat.{ℕ, _≤_, _<_}
 use mathlib.Core.Path.{_≡_, refl, sym, ap, _∙_}
 use mathlib.Core.Bool.{Bool, true, false, not, cond}

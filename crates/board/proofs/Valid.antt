@@ -1,4 +1,4 @@
--- What check 11 on the policy value gives the board: reach can be worked out, and registered sets are sets of their side.
+-- What check 11 on the policy value gives the board: reach can be worked out, and registered sets are their side's.
 use Prim.Native.Nat.{ℕ, _≤_, _<_}
 use mathlib.Core.Path.{_≡_, refl, ap}
 use mathlib.Core.Bool.{Bool, true, false, cond}

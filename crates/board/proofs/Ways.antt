@@ -1,4 +1,4 @@
--- One law for each way out of a ruling: the checks before it pass, and its own is broken; where the call is allowed, none is.
+-- One law for each way out of a ruling: the checks before it pass and its own is broken; where it allows, none is.
 use Prim.Native.Nat.{ℕ, _≤_, _<_}
 use mathlib.Core.Path.{_≡_, sym, ap, _∙_}
 use mathlib.Core.Bool.{Bool, true, false, not}

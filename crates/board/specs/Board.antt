@@ -132,7 +132,7 @@ boardChecks v l c b =
     ∷ checks (policyOf v) c (entryAt b (sessionOf c))
     ++ lookUp (policyOf v) l c (entryAt b (sessionOf c))
 
--- a request leaves the board as it is; of the others only the session's entry changes, and of a refused call nothing does
+-- a request leaves the board as it is; of the others only the session's entry changes
 unfoldable pub boardAfter : Call → Board → Board
 boardAfter (opens u s set) b = store b s (entryAfter (opens u s set) (entryAt b s))
 boardAfter (adds u s set) b = store b s (entryAfter (adds u s set) (entryAt b s))

@@ -1,5 +1,5 @@
--- The plain machine, "fed the text and the calls with the arguments listed below, and nothing of the board, the lent buffers, NU or NO".
--- Its session functions are those of source document 002, Tables 5 and 6.
+-- The plain machine, "fed the text and the calls with the arguments listed below, and nothing of the board, the lent
+-- buffers, NU or NO". Its session functions are those of source document 002, Tables 5 and 6.
 use Prim.Native.Nat.{ℕ}
 use mathlib.Core.Bool.{Bool, false, cond, not}
 use mathlib.Core.List.{List, [], _∷_}
@@ -76,7 +76,8 @@ ofAnother u e = given e false (λ x. not (eqb (x .user) u))
 abbrev pub outOfReach : Policy → ℕ → ℕ → Bool
 outOfReach p u set = not (within set (reachOf p u))
 
--- "A session is open while the map has its number": 16, "Open: the session is open already", 17, "Any other session call: it is not open"
+-- 16: "Open: the session is open already"; 17: "Any other session call: it is not open". "A session is open while the
+-- map has its number"
 abbrev pub isOpen : Option Entry → Bool
 isOpen e = there e
 
@@ -108,8 +109,8 @@ checks p (requests s a n) e =
 abbrev pub entry : ℕ → ℕ → Entry
 entry u held = record { user = u; held = held }
 
--- what becomes of the session's entry: "the map gains (user, set)"; "the held set gains or loses these values"; "the entry goes"; "the
--- map is unchanged"
+-- what becomes of the session's entry: "the map gains (user, set)"; "the held set gains or loses these values"; "the
+-- entry goes"; "the map is unchanged"
 unfoldable pub entryAfter : Call → Option Entry → Option Entry
 entryAfter (opens u s set) e = some (entry u set)
 entryAfter (adds u s set) e = given e none (λ x. some (entry (x .user) (union (x .held) set)))
@@ -120,8 +121,8 @@ entryAfter (requests s a n) e = e
 abbrev pub heldIn : Option Entry → ℕ
 heldIn e = given e 0 (λ x. x .held)
 
--- "Its answer is the refusal; else granted or denied for a request, and done for the other calls." "the machine decides by the action's
--- formula on the held set and the object's set"
+-- "Its answer is the refusal; else granted or denied for a request, and done for the other calls." "the machine decides
+-- by the action's formula on the held set and the object's set"
 unfoldable pub reply : Policy → Call → Option Entry → Reply
 reply p (opens u s set) e = done
 reply p (adds u s set) e = done

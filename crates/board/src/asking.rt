@@ -1,4 +1,4 @@
-// What a request comes to before any label is looked up: the sets that it is about, or refusals 12 to 17.
+// What a request comes to before any label is looked up: the sets that it is about, or one of refusals 12 to 17.
 ghost use mathlib.Core.Path.{_≡_};
 ghost use Prim.Native.Nat.{ℕ, _≤_};
 ghost use lib.ListN.{getD};
@@ -22,7 +22,7 @@ pub enum Asked {
     Refused(Refusal),
 }
 
-// A request of an action, of which the policy has so many, where this is the session's entry and this is found for the object.
+// A request, by how many actions there are, the session's entry and what is found for the object.
 fn judge(actions: u32, entry: Session, found: Found, session: u32, action: u32) -> Asked
     ensures { λ r. ⌜ ((p : policy.Policy) (n : ℕ) → actions ≡ limits.actions (p .form) → FoundAs (policy.setOfNumber (p .objects) n) found → askedOf r ≡ asked p session action n (entryOf entry)) ⌝ }
 {
@@ -42,7 +42,7 @@ fn judge(actions: u32, entry: Session, found: Found, session: u32, action: u32) 
     }
 }
 
-// A request on these sessions and objects, where the policy has so many actions.
+// A request on these sessions and objects.
 pub fn ask(
     sessions: [Session; SESSION_PLACES],
     objects: Register,

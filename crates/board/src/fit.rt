@@ -1,4 +1,4 @@
-// Check 11: a valid policy value, and on the board no session whose user is not registered or whose set is out of reach.
+// Check 11: a valid policy value, and no session whose user is not registered or whose set is out of reach.
 ghost use mathlib.Core.Path.{_≡_};
 ghost use mathlib.Core.Bool.{true};
 ghost use Prim.Native.Nat.{_<_};

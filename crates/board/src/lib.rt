@@ -163,7 +163,7 @@ pub fn close(board: Board, policy: PolicyValue, user: u32, session: u32) -> Step
     steps::settle(board, session, ruling, gone)
 }
 
-// Grants or denies an action on an object by the labels of the held set and the object's set: reads one byte of each lent buffer.
+// Grants or denies by the labels of the held set and the object's set: reads one byte of each lent buffer.
 pub fn request(
     board: Board,
     policy: PolicyValue,

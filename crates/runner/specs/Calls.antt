@@ -14,7 +14,8 @@ abbrev pub itemOf : Item → Option Call
 itemOf (Is c) = some (callOf c)
 itemOf NoCall = none
 
--- the call that four numbers are, if they are one: kind 0 is open, 1 add, 2 drop, 3 close, 4 request; close has 0 for a third argument
+-- the call that four numbers are, if they are one: kind 0 is open, 1 add, 2 drop, 3 close, 4 request; close has 0 for a
+-- third argument
 unfoldable pub callIn : ℕ → ℕ → ℕ → ℕ → Option Call
 callIn kind a b c =
     cond (eqb kind 0) (some (opens a b c))
