@@ -17,3 +17,4 @@ pub mod policy;
 pub mod stored;
 pub mod text;
 pub mod tuples;
+pub mod wrong;

@@ -1,6 +1,7 @@
 // A line taken apart: refusals 3 to 5, but for the words of a rule.
 ghost use mathlib.Core.Path.{_≡_};
-ghost use Rattle.text.specs.Parts.{fields, comma, Found};
+ghost use Rattle.text.specs.Parts.{fields, comma};
+ghost use Rattle.text.specs.Inner.{Found};
 ghost use Rattle.policy.specs.Line.{allowed, plain};
 ghost use Rattle.policy.specs.Read.{kindOf};
 ghost use Rattle.line.specs.Line.{beforeOf, held, faulty, noneIn, oneIn, bothIn, twoIn, actionIn, numbersIn, parsedAs};

@@ -1,30 +1,15 @@
 -- The digits of a number, worked out from the last one on.
-use Prim.Native.Nat.{ℕ, zero, suc, _+_, _-_, _/_, _%_, _^_, _≤_, _<_}
-use mathlib.Core.Path.{_≡_, refl, sym, ap, _∙_}
-use mathlib.Core.List.{List, [], _∷_}
+use Prim.Native.Nat.{ℕ, suc, _+_, _-_, _/_, _%_, _^_, _≤_, _<_}
+use mathlib.Core.Path.{_≡_, sym, _∙_}
+use mathlib.Core.List.{List, _∷_, _++_, [], append-nil, append-assoc}
 use native.Mathlib.Nat.{pow-suc}
 use native.Mathlib.Decide.{decLt}
 use native.Mathlib.Omega.{arith}
-use borrow.Author.Tests.{lt-ltb, le-ltb}
 use lib.ListN.{length, take, drop, set, length-drop, length-set, drop-of-length-le}
 use lib.Seq.{drop-cons, drop-set-lt, getD-set-same, take-all}
 use Rattle.basis.specs.Bytes.{byte}
-use Rattle.text.specs.Number.{digitsBefore, decimal}
-
-decimal-is : (n : ℕ) → decimal n ≡ digitsBefore (suc n) n []
-unfolding decimal
-decimal-is n = ?
-
--- a number below j has no more than j digits
-enough : (j k n : ℕ) (ds : List ℕ) → n < j → n < k → digitsBefore j n ds ≡ digitsBefore k n ds
-unfolding digitsBefore
-enough zero k n ds g h = absurd (omega arith)
-enough (suc j) zero n ds g h = absurd (omega arith)
-enough (suc j) (suc k) n ds g h =
-    elim (decLt n 10) [
-      | yes l ↦ rw (lt-ltb n 10 l)
-      | no l ↦ rw (le-ltb n 10 (omega (arith, l))) (enough j k (n / 10) ((byte "0" + n % 10) ∷ ds) (omega (arith, l)) (omega (arith, l)))
-    ]
+use Rattle.text.specs.Number.{decimal}
+use Rattle.text.proofs.RoundTrip.{decimal-one, decimal-more}
 
 -- a byte in front of what stands behind a place
 set-drop : (ds : List ℕ) (i d : ℕ) → i < length ds → drop i (set ds i d) ≡ d ∷ drop (suc i) ds
@@ -32,23 +17,23 @@ set-drop ds i d h =
     let l : i < length (set ds i d) = omega (arith, length-set ds i d) in
     drop-cons (set ds i d) i 0 l ∙ rw (getD-set-same ds i d 0 h, drop-set-lt (suc i) ds i d (omega arith))
 
--- in an array of m places the digits of n behind `from` are worked out, and those of rest, which stand before them, are not
+-- in an array of m places the last digits of n stand behind `from`, and those of rest are still to come before them
 pub record Behind (m n : ℕ) (digits : List ℕ) (from rest : ℕ) : Type 0 where
   pub places : length digits ≡ m
   pub inside : from < m
   pub few : rest < 10 ^ suc from
-  pub are : decimal n ≡ digitsBefore (suc rest) rest (drop (suc from) digits)
+  pub are : decimal n ≡ decimal rest ++ drop (suc from) digits
 
 pub behind-start : (m n : ℕ) (digits : List ℕ) → length digits ≡ suc m → n < 10 ^ suc m → Behind (suc m) n digits m n
 behind-start m n digits e h =
     let l : length digits ≤ suc m = omega arith in
-    record { places = e; inside = omega arith; few = h; are = rw (drop-of-length-le digits l) (decimal-is n) }
+    record { places = e; inside = omega arith; few = h; are = rw (drop-of-length-le digits l) (sym (append-nil (decimal n))) }
 
 module _ {m n : ℕ} {digits : List ℕ} {from rest : ℕ} (x : Behind m n digits from rest) where
   -- the last digit of rest
   module _ (h : 10 ≤ rest) where
-    pub more : 0 < from
-    more = elim (decLt 0 from) [
+    pub behind-more : 0 < from
+    behind-more = elim (decLt 0 from) [
       | yes l ↦ l
       | no l ↦
           let z : from ≡ 0 = omega (arith, l) in
@@ -57,17 +42,16 @@ module _ {m n : ℕ} {digits : List ℕ} {from rest : ℕ} (x : Behind m n digit
     ]
 
     pub behind-next : {d : ℕ} → d ≡ byte "0" + rest % 10 → Behind m n (set digits from d) (from - 1) (rest / 10)
-    unfolding digitsBefore
     behind-next {d} e =
-        let z : suc (from - 1) ≡ from = omega (arith, more) in
+        let z : suc (from - 1) ≡ from = omega (arith, behind-more) in
         record {
           places = length-set digits from d ∙ x .places;
           inside = omega (arith, x .inside);
           few = rw z (omega (arith, x .few, pow-suc 10 from));
           are =
               x .are
-              ∙ rw (le-ltb rest 10 h, ← e, z, set-drop digits from d (omega (arith, x .places, x .inside)))
-              (enough rest (suc (rest / 10)) (rest / 10) (d ∷ drop (suc from) digits) (omega arith) (omega arith));
+              ∙ rw (decimal-more rest h, ← e, z, set-drop digits from d (omega (arith, x .places, x .inside)))
+              (append-assoc (decimal (rest / 10)) (d ∷ []) (drop (suc from) digits));
         }
 
   -- the first digit
@@ -76,10 +60,9 @@ module _ {m n : ℕ} {digits : List ℕ} {from rest : ℕ} (x : Behind m n digit
     behind-long = omega (arith, length-set digits from d, x .places)
 
     pub behind-end : rest < 10 → take (m - from) (drop from (set digits from d)) ≡ decimal n
-    unfolding digitsBefore
     behind-end h =
         let l : length (drop from (set digits from d)) ≤ m - from = omega (arith, length-drop from (set digits from d), length-set digits from d, x .places) in
         let r : rest % 10 ≡ rest = omega arith in
         take-all (m - from) (drop from (set digits from d)) l
         ∙ set-drop digits from d (omega (arith, x .places, x .inside))
-        ∙ sym (x .are ∙ rw (lt-ltb rest 10 h, e, r))
+        ∙ sym (x .are ∙ rw (decimal-one rest h, e, r))

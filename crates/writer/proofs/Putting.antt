@@ -152,8 +152,8 @@ module _ {A : Type 0} {f : A → List ℕ} {xs : List A} {n start : ℕ} {b : Li
       run-part = part-room run-room
 
       module _ {ys : List ℕ} {q : ℕ} (y : Put (f (getD xs i d)) 0 (take (length m - at) (drop at m)) ys q) where
-        pub run-sum : at + q ≤ length m
-        run-sum = part-sum run-room y
+        pub run-sum : at + q ≤ length b
+        run-sum = omega (arith, part-sum run-room y, put-long (x .put))
 
         pub run-line : Run f xs n start b (i + 1) (putMid at (length m - at) m ys) (at + q)
         run-line = run-next (part-put run-room y)

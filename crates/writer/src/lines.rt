@@ -5,7 +5,7 @@ ghost use Prim.Native.Nat.{_≤_};
 ghost use lib.ListN.{take};
 ghost use Rattle.basis.specs.Lists.{all};
 ghost use Rattle.policy.specs.Value.{widthPlaces, entryPlaces, rulePlaces, linePlaces};
-ghost use Rattle.writer.specs.Inner.Put.{Room, Put, each, oneLine, pairLine, entryLine, ruleLine, ruleWritable};
+ghost use Rattle.writer.specs.Inner.Put.{Room, Put, each, bareLine, oneLine, pairLine, entryLine, ruleLine, ruleWritable};
 use crate::line;
 use policy::value::ENTRY_PLACES;
 use policy::value::Entry;
@@ -77,4 +77,13 @@ pub fn put_rules(word: &[u8], rules: [RuleValue; RULE_PLACES], n: usize, buf: &m
         i += 1;
     }
     at
+}
+
+// A line of a word alone.
+pub fn put_bare(word: &[u8], buf: &mut [u8], start: usize) -> usize
+    requires { ⌜ Room (bareLine (now word)) start (now buf) ⌝ }
+    ensures { λ r. ⌜ Put (bareLine (now (word .entry))) start (now (buf .entry)) (now (buf .exit)) r ⌝ }
+{
+    let m = line::put_bare(word, &mut buf[start..]);
+    start + m
 }

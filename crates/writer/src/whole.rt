@@ -15,6 +15,7 @@ use policy::value::PolicyValue;
 use policy::value::Register;
 use policy::value::Rules;
 use policy::value::SideValue;
+use text::kind;
 
 // The form and the sides, from the policy line to the osen lines.
 fn put_sides(form: u32, user: SideValue, object: SideValue, buf: &mut [u8]) -> usize
@@ -25,11 +26,11 @@ fn put_sides(form: u32, user: SideValue, object: SideValue, buf: &mut [u8]) -> u
     let object_widths = object.widths;
     let user_pairs = user.seniority;
     let object_pairs = object.seniority;
-    let mut at = line::put_one(b"policy", form, buf);
-    at = lines::put_widths(b"uattr", user_widths, user.attributes, buf, at);
-    at = lines::put_widths(b"oattr", object_widths, object.attributes, buf, at);
-    at = lines::put_pairs(b"usen", user_pairs, user.lines, buf, at);
-    lines::put_pairs(b"osen", object_pairs, object.lines, buf, at)
+    let mut at = line::put_one(&kind::POLICY, form, buf);
+    at = lines::put_widths(&kind::UATTR, user_widths, user.attributes, buf, at);
+    at = lines::put_widths(&kind::OATTR, object_widths, object.attributes, buf, at);
+    at = lines::put_pairs(&kind::USEN, user_pairs, user.lines, buf, at);
+    lines::put_pairs(&kind::OSEN, object_pairs, object.lines, buf, at)
 }
 
 // The registers and the rules, from the user lines to the end line.
@@ -40,11 +41,10 @@ fn put_lists(users: Register, objects: Register, rules: Rules, buf: &mut [u8], s
     let user_entries = users.entries;
     let object_entries = objects.entries;
     let rule_entries = rules.entries;
-    let mut at = lines::put_entries(b"user", user_entries, users.count, buf, start);
-    at = lines::put_entries(b"object", object_entries, objects.count, buf, at);
-    at = lines::put_rules(b"rule", rule_entries, rules.count, buf, at);
-    let m = line::put_bare(b"end", &mut buf[at..]);
-    at + m
+    let mut at = lines::put_entries(&kind::USER, user_entries, users.count, buf, start);
+    at = lines::put_entries(&kind::OBJECT, object_entries, objects.count, buf, at);
+    at = lines::put_rules(&kind::RULE, rule_entries, rules.count, buf, at);
+    lines::put_bare(&kind::END, buf, at)
 }
 
 // The text of v.

@@ -36,7 +36,7 @@ abbrev μ-loop : tie.MeasureT-loop
 μ-loop s buf₀ at i₀ buf i = length s - i
 
 loop-holds : tie.Need-loop-holds Inv-loop μ-loop
-loop-holds c = (search needs, first-none _ _ (c .before .before .pre))
+loop-holds c = (search needs, first-none _ _ (c .pre))
 
 shared-slice-read-buf : tie.Need-shared-slice-read-buf Inv-loop μ-loop
 shared-slice-read-buf c = search needs

@@ -7,11 +7,11 @@ use Rattle.writer.proofs.line.put_bare.Tie as tie
 
 put-requires : tie.Need-put-requires
 unfolding bareLine
-put-requires c κs = search (room-first, room-next)
+put-requires c κs = room-first _ _ (c .before .before .before .pre)
 
 put-feed-requires : tie.Need-put-feed-requires
 unfolding bareLine
-put-feed-requires c κs = search (room-first, room-next)
+put-feed-requires c κs = room-next (c .before .before .before .before .before .before .before .pre) (c .before .before .before .put .ensures)
 
 returns : tie.Need-returns
 unfolding bareLine

@@ -7,19 +7,19 @@ use Rattle.writer.proofs.line.put_formula.Tie as tie
 
 put-requires : tie.Need-put-requires
 unfolding formulaLine
-put-requires c κs = search (room-first, room-next)
+put-requires c κs = room-first _ _ (c .before .before .before .pre .2)
 
 put-requires-2 : tie.Need-put-requires-2
 unfolding formulaLine
-put-requires-2 c κs = search (room-first, room-next)
+put-requires-2 c κs = room-first _ _ (room-next (c .before .before .before .before .before .before .before .pre .2) (c .before .before .before .put .ensures))
 
 put-words-requires : tie.Need-put-words-requires
 unfolding formulaLine
-put-words-requires c κs = search (room-first, room-next)
+put-words-requires c κs = (c .before .before .before .before .before .before .before .before .before .before .before .pre .0, c .before .before .before .before .before .before .before .before .before .before .before .pre .1, room-first _ _ (room-next (room-next (c .before .before .before .before .before .before .before .before .before .before .before .pre .2) (c .before .before .before .before .before .before .before .put .ensures)) (c .before .before .before .put2 .ensures)))
 
 put-feed-requires : tie.Need-put-feed-requires
 unfolding formulaLine
-put-feed-requires c κs = search (room-first, room-next)
+put-feed-requires c κs = room-next (room-next (room-next (c .before .before .before .before .before .before .before .before .before .before .before .before .before .before .before .pre .2) (c .before .before .before .before .before .before .before .before .before .before .before .put .ensures)) (c .before .before .before .before .before .before .before .put2 .ensures)) (c .before .before .before .put-words .ensures)
 
 returns : tie.Need-returns
 unfolding formulaLine

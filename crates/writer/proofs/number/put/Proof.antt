@@ -1,6 +1,6 @@
 -- `writer::number::put` meets its contract: the digits behind `from` are worked out, and then the first of them.
 use borrow.Author.Needs.{needs}
-use Rattle.writer.proofs.Digits.{Behind, behind-start, more, behind-next, behind-long, behind-end}
+use Rattle.writer.proofs.Digits.{Behind, behind-start, behind-more, behind-next, behind-long, behind-end}
 use Rattle.writer.proofs.number.put.Statement.{statement}
 use Rattle.writer.proofs.number.put.Tie as tie
 
@@ -23,7 +23,7 @@ array-write-digits : tie.Need-array-write-digits Inv-loop μ-loop
 array-write-digits c = search needs
 
 sub-from-2 : tie.Need-sub-from-2 Inv-loop μ-loop
-sub-from-2 c = more (c .before .before .loop .inv) (search needs)
+sub-from-2 c = behind-more (c .before .before .loop .inv) (search needs)
 
 loop-less : tie.Need-loop-less Inv-loop μ-loop
 loop-less c = search needs
