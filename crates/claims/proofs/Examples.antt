@@ -20,7 +20,7 @@ use Rattle.policy.specs.Valid.{sameSide, sameRegister, sameRule, sameRules, sam
 use Rattle.policy.specs.Value.{sideValue, register, noRule, ruleValue, rulesValue, valueOf, sideOf, entriesOf, ruleOf, rulesOf, policyOf}
 use Rattle.formula.specs.Truth.{step, run, truth, grants}
 use Rattle.tuples.specs.Tuples.{tuples, decideByTuples}
-use Rattle.labels.specs.Compile.{likeUsers, likeObjects, NU, NO, entry, userResult, objectResult, tableResult}
+use Rattle.labels.specs.Compile.{likeUsers, likeObjects, NU, NO, entryOf, entry, userResult, objectResult, tableResult}
 use Rattle.labels.specs.Labelling.{usersAlike, objectsAlike}
 use Rattle.labels.specs.Labels.{lowestLike, leads, labelCount, label, leader}
 use Rattle.board.specs.Board.{entryAt, store, fresh, boardFits, fits, pastEnd, grantsByLabels, lookUp, boardReply, boardChecks, boardAfter, boardStep}
@@ -28,5 +28,5 @@ use Rattle.board.specs.Machine.{empty, put, reachOf, objectSet, checks, entryAf
 use Rattle.claims.specs.Examples.{table, holds}
 
 pub examples-hold : all holds table ≡ true
-unfolding lowest all any same last sum padded over every first count select upTo setOf chain senior heldOrSenior heldOrJunior reach values actions namedIn follows valueFrom isNumber digitsBefore decimal split join linesOf textOf letter holding comparison parsed written widthFits pairFits entryFits inRange pairRises entryRises ruleRises rises balanced balances extended allowed countFits formFits lineOf blank total start attributeOf setOfNumber formulaIn checksOf refusalOf after ending readLines readText linesOf-text laterFields lineText textOf-text sameSide sameRegister sameRule sameRules sameValue valid sideValue register noRule ruleValue rulesValue valueOf sideOf entriesOf ruleOf rulesOf policyOf step run truth grants tuples decideByTuples likeUsers likeObjects NU NO entry userResult objectResult tableResult usersAlike objectsAlike lowestLike leads labelCount label leader entryAt store fresh boardFits fits pastEnd grantsByLabels lookUp boardReply boardChecks boardAfter boardStep empty put reachOf objectSet checks entryAfter reply step-machine run-machine machine
+unfolding lowest all any same last sum padded over every first count select upTo setOf chain senior heldOrSenior heldOrJunior reach values actions namedIn follows valueFrom isNumber digitsBefore decimal split join linesOf textOf letter holding comparison parsed written widthFits pairFits entryFits inRange pairRises entryRises ruleRises rises balanced balances extended allowed countFits formFits lineOf blank total start attributeOf setOfNumber formulaIn checksOf refusalOf after ending readLines readText linesOf-text laterFields lineText textOf-text sameSide sameRegister sameRule sameRules sameValue valid sideValue register noRule ruleValue rulesValue valueOf sideOf entriesOf ruleOf rulesOf policyOf step run truth grants tuples decideByTuples likeUsers likeObjects NU NO entryOf entry userResult objectResult tableResult usersAlike objectsAlike lowestLike leads labelCount label leader entryAt store fresh boardFits fits pastEnd grantsByLabels lookUp boardReply boardChecks boardAfter boardStep empty put reachOf objectSet checks entryAfter reply step-machine run-machine machine
 examples-hold = refl
