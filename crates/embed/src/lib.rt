@@ -99,7 +99,7 @@ pub extern "C" fn helvemoik_compile(
     ensures answer { λ r. ⌜ r ≡ packedCounts (compile (unpackedPolicy policy) (lent (now (users .entry)) (now (objects .entry)) (now (table .entry)))) ⌝ }
     ensures buffers { λ r. ⌜ lent (now (users .exit)) (now (objects .exit)) (now (table .exit)) ≡ compileBuffers (unpackedPolicy policy) (lent (now (users .entry)) (now (objects .entry)) (now (table .entry))) ⌝ }
 {
-    answer::counts(labels::compiler::compile(
+    answer::counts(labels::compile(
         packing::unpack::unpack(policy),
         users,
         objects,
@@ -112,7 +112,7 @@ pub extern "C" fn helvemoik_compile(
 pub extern "C" fn helvemoik_apart(policy: PackedPolicy, one: u32, other: u32) -> Separation
     ensures { λ r. ⌜ ((a : Apartness) × Tells (unpackedPolicy policy) one other a × (r ≡ separation a)) ⌝ }
 {
-    answer::separation(labels::apart::apart(packing::unpack::unpack(policy), one, other))
+    answer::separation(labels::apart(packing::unpack::unpack(policy), one, other))
 }
 
 // A board that holds no session.
