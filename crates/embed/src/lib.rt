@@ -99,12 +99,7 @@ pub extern "C" fn helvemoik_compile(
     ensures answer { λ r. ⌜ r ≡ packedCounts (compile (unpackedPolicy policy) (lent (now (users .entry)) (now (objects .entry)) (now (table .entry)))) ⌝ }
     ensures buffers { λ r. ⌜ lent (now (users .exit)) (now (objects .exit)) (now (table .exit)) ≡ compileBuffers (unpackedPolicy policy) (lent (now (users .entry)) (now (objects .entry)) (now (table .entry))) ⌝ }
 {
-    answer::counts(labels::compile(
-        packing::unpack::unpack(policy),
-        users,
-        objects,
-        table,
-    ))
+    answer::counts(labels::compile(packing::unpack::unpack(policy), users, objects, table))
 }
 
 // Whether something tells two user sets apart.

@@ -251,5 +251,5 @@ module _ (least form : ℕ) (s : Sizes) (a : ℕ) (fs : List (List ℕ)) (y : Ru
   unfolding admittedRule ruleIn ruleFault inRange
   rule-taken h =
       let z = tested-none from (areWords (drop 2 fs)) (inRange RuleKind form s (oneNumber a) (from .words)) (leb least a) (all (widthsEqual s) (from .words)) (balanced 0 (from .words))
-          (sym (ap (λ (z : RuleLine). z .fault) q) ∙ h) in
+      (sym (ap (λ (z : RuleLine). z .fault) q) ∙ h) in
       (leb-true least a (z .1), ltb-true a (actions form) (and-left _ _ (z .0)))

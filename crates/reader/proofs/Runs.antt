@@ -84,7 +84,7 @@ module _ (t : List ℕ) (k : Kind) {A : Type 0} (Fits : Listed k A → Policy �
                 let r = f x p g z in
                 let l = lineOf k (fieldsAt t d) in
                 let q : withLineOf l (x .with xs p) ≡ x .with (xs ++ (a ∷ [])) p =
-                    x .extends (x .with xs p) (l .numbers) (l .words) ∙ rw (x .got xs p, r .1) (x .again xs (xs ++ (a ∷ [])) p) in
+                x .extends (x .with xs p) (l .numbers) (l .words) ∙ rw (x .got xs p, r .1) (x .again xs (xs ++ (a ∷ [])) p) in
                 i .left x p g z ∙ left-taken t d k b e n (x .with xs p) (r .0) ∙ ap (left t b) q;
           }
 
