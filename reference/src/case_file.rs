@@ -6,13 +6,16 @@
 //! comma; fields are decimal numbers below 2^32. Behind a line `C` stand the
 //! bytes of a text as they are, and a line feed. Each line after it can be
 //! compared by itself, with nothing but that text. Its first two numbers are an
-//! answer and a count that stands beside the answer, or 0.
+//! answer and a count that stands beside the answer, or 0. A line with a `!`
+//! behind its tag is wrong on purpose, and must be found different.
 //!
 //! ```text
 //! C,case,length               a case begins, with a text of so many bytes
 //! R,refusal,line              the text is refused so, or
 //! Y                           it is accepted
-//! W,answer,length,room        writing into a buffer of room bytes: the text
+//! V,answer                    check 11 on what reading yields
+//! W,answer,length,room,bytes  writing into a buffer of room bytes: so many
+//!                             bytes of the text stand there afterwards
 //! u,answer,NU,users,objects,table,label,..
 //! o,answer,NO,users,objects,table,label,..
 //! g,answer,NO,users,objects,table,byte,..
@@ -26,11 +29,14 @@
 //!                             deciding by tuples; the listing handed in is the
 //!                             action's, in a buffer of 16384 entries
 //! P,answer,0,us,us            apart, for two user sets
-//! S,0,calls,NU,NO,users,objects,table,call,..,answer,..,session,user,set,..
+//! D,answer,0,us,us,action,os  whether this action and object set tell two user
+//!                             sets apart, as what apart names must
+//! S,0,count,NU,NO,users,objects,table,calls,call,..,answer,..,session,user,set,..
 //!                             a list of calls on a fresh board, each request
 //!                             with this NU and NO and so many bytes of the
-//!                             compiler's buffers; the answers; and all
-//!                             sessions that are open afterwards, rising
+//!                             compiler's buffers; how many are answered; the
+//!                             answers; and all sessions that are open
+//!                             afterwards, rising
 //! ```
 //!
 //! An answer is 0 done, 1 granted, 2 denied, 3 alike, 4 told apart, or the
@@ -62,8 +68,8 @@ const MOST_PAIRS: usize = 16384;
 const BLANK: u8 = 170;
 const BLANK_ENTRY: Stored = 65_535;
 /// Refused by check 11, on what a refused text yields.
-const WITHOUT_POLICY: [&str; 9] = [
-    "W,11,0,8192",
+pub(crate) const WITHOUT_POLICY: [&str; 9] = [
+    "W,11,0,8192,0",
     "u,11,0,128,128,16384",
     "o,11,0,128,128,16384",
     "g,11,0,128,128,16384",
@@ -71,7 +77,7 @@ const WITHOUT_POLICY: [&str; 9] = [
     "F,11,0,0,0,0",
     "B,11,0,0,0,0,0",
     "P,11,0,0,0",
-    "S,0,2,0,0,128,128,16384,0,0,0,0,4,0,0,0,11,11",
+    "S,0,2,0,0,128,128,16384,2,0,0,0,0,4,0,0,0,11,11",
 ];
 
 /// A made case. No number handed to a call is above `largest`.
@@ -82,10 +88,12 @@ pub fn made(seed: u64, case: u64, largest: u32) -> Vec<u8> {
     match read(&text) {
         Err(refused) => {
             line(&mut out, format!("R,{},{}", refused.refusal, refused.line));
+            line(&mut out, "V,11".to_string());
             line(&mut out, rng.pick(&WITHOUT_POLICY).to_string());
         }
         Ok(policy) => {
             line(&mut out, "Y".to_string());
+            line(&mut out, "V,0".to_string());
             accepted(&mut out, &mut rng, &policy, largest);
         }
     }
@@ -122,9 +130,9 @@ pub fn accepted(out: &mut String, rng: &mut Rng, policy: &Policy, largest: u32) 
 /// Writing into a buffer that is too short, and into one that is not.
 fn write_lines(out: &mut String, rng: &mut Rng, policy: &Policy) {
     let length = write(policy).len();
-    line(out, format!("W,20,0,{}", short(rng, length)));
+    line(out, format!("W,20,0,{},0", short(rng, length)));
     let room = enough(rng, length, MOST_TEXT);
-    line(out, format!("W,0,{length},{room}"));
+    line(out, format!("W,0,{length},{room},{length}"));
 }
 
 /// A length that is too short, most often by one.
@@ -294,10 +302,11 @@ fn list_line(out: &mut String, lent: &Lent, calls: &[Call], answers: &[u32], hel
     line(
         out,
         format!(
-            "S,0,{}{}{}{}{}{}",
-            calls.len(),
+            "S,0,{}{}{},{}{}{}{}",
+            answers.len(),
             fields(lent.counts),
             fields(lent.rooms),
+            calls.len(),
             fields(calls.iter().flat_map(call_numbers)),
             fields(answers),
             fields(entries)

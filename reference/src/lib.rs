@@ -6,6 +6,7 @@
 
 #![forbid(unsafe_code)]
 
+pub mod card_calls;
 pub mod case_file;
 pub mod cases;
 pub mod formula;
@@ -16,3 +17,4 @@ pub mod policy;
 pub mod stored;
 pub mod text;
 pub mod tuples;
+pub mod wrong;

@@ -1,7 +1,9 @@
 //! The case files that are stored with the product: the requirement's examples
-//! with the requirement's answers, and made cases from one seed.
+//! with the requirement's answers, made cases from one seed, and lines that are
+//! wrong on purpose.
 
 use crate::case_file::{case_of, made};
+use crate::wrong;
 
 const SEED: u64 = 3;
 const CASES: u64 = 700;
@@ -14,7 +16,7 @@ const LARGE_SUM: usize = 350_000;
 const LABEL_PER_SET: u64 = 690;
 
 /// The text of the requirement.
-const TEXT: &str = "policy,1
+pub(crate) const TEXT: &str = "policy,1
 uattr,2
 oattr,1
 usen,1,0
@@ -26,15 +28,16 @@ end
 ";
 
 /// What the requirement says of its text: labels, table, tuples, and calls.
-const ANSWERS: &str = "Y
-W,0,85,85
+pub(crate) const ANSWERS: &str = "Y
+V,0
+W,0,85,85,85
 u,0,3,4,2,6,0,1,2,2
 o,0,2,4,2,6,0,1
 g,0,2,4,2,6,8,8,8,9,0,1
 T,0,3,0,3,3,3,5,5,7,7
 T,0,4,3,4,0,3
 F,2,0,3,3,0
-S,0,10,3,2,4,2,6,\
+S,0,10,3,2,4,2,6,10,\
 0,0,0,1,0,0,1,3,0,0,2,4,2,0,0,4,\
 4,0,1,0,4,0,8,0,4,0,3,0,4,1,3,0,\
 2,0,1,2,1,0,1,2,\
@@ -63,7 +66,8 @@ const EDGES: [(&str, &str, &str); 16] = [
     ("end\n", "", "R,10,8"),
 ];
 
-/// The files by their numbers: the examples, then the made cases.
+/// The files by their numbers: the examples, the made cases, then the lines that
+/// are wrong on purpose.
 pub fn files() -> Vec<Vec<u8>> {
     let mut files = vec![examples(), Vec::new()];
     let mut large = 0;
@@ -80,6 +84,7 @@ pub fn files() -> Vec<Vec<u8>> {
             _ => files.push(lines),
         }
     }
+    files.push(wrong::file());
     files
 }
 
@@ -93,21 +98,28 @@ fn examples() -> Vec<u8> {
 /// Texts, each with the answers' lines, of which the first is the reading's.
 fn example_cases() -> Vec<(String, String)> {
     let no_rules = TEXT.replace("rule,0,u0,o0,a\nrule,3,u1,n\n", "");
-    let all_alike = "Y\nu,0,1,4,2,1,0,0,0,0\no,0,1,4,2,1,0,0\ng,0,1,4,2,1,0\n";
+    let all_alike = "Y\nV,0\nu,0,1,4,2,1,0,0,0,0\no,0,1,4,2,1,0,0\ng,0,1,4,2,1,0\n";
     let mut cases = vec![
         (TEXT.to_string(), ANSWERS.to_string()),
         (no_rules, all_alike.to_string()),
-        (String::new(), "R,10,0\n".to_string()),
+        (String::new(), read_as("R,10,0")),
     ];
     for (old, new, answer) in EDGES {
-        cases.push((TEXT.replace(old, new), format!("{answer}\n")));
+        cases.push((TEXT.replace(old, new), read_as(answer)));
     }
     for (words, answer) in [(32, "Y"), (33, "R,4,6")] {
         let rule = format!("rule,0,t{}\n", ",n".repeat(words - 1));
         let text = TEXT.replace("rule,0,u0,o0,a\n", &rule);
-        cases.push((text, format!("{answer}\n")));
+        cases.push((text, read_as(answer)));
     }
     cases
+}
+
+/// What reading answers; check 11 passes what an accepted text yields, and
+/// nothing else.
+fn read_as(answer: &str) -> String {
+    let check = if answer == "Y" { "V,0" } else { "V,11" };
+    format!("{answer}\n{check}\n")
 }
 
 #[cfg(test)]

@@ -40,8 +40,8 @@ fn call_answers() -> BTreeSet<u32> {
     let lists = lists.iter().filter_map(|line| numbers(line, 'S'));
     lists
         .flat_map(|list| {
-            let calls = list[1] as usize;
-            list[7 + 4 * calls..7 + 5 * calls].to_vec()
+            let calls = list[7] as usize;
+            list[8 + 4 * calls..8 + 5 * calls].to_vec()
         })
         .collect()
 }
@@ -72,6 +72,7 @@ fn every_refusal_comes_up() {
     let calls = call_answers();
     let all = [0, 1, 2].into_iter().chain(11..=20);
     assert!(calls.iter().copied().eq(all), "{calls:?}");
+    assert_eq!(answers("V"), BTreeSet::from([0, 11]));
     for tag in ["u", "o", "g", "W"] {
         assert_eq!(answers(tag), BTreeSet::from([0, 11, 20]), "{tag}");
     }

@@ -1,5 +1,5 @@
--- A buffer that is filled from its start, one place a turn, with f 0, f 1, ..: after k turns it has the first k of these at its start, and
--- what lies past them stays.
+-- A buffer that is filled from its start, one place a turn, with f 0, f 1, ..: after k turns it has the first k of
+-- these at its start, and what lies past them stays.
 use Prim.Native.Nat.{ℕ, zero, suc, _+_, _-_, _*_, _/_, _%_, _≤_, _<_}
 use mathlib.Core.Path.{_≡_, refl, sym, ap, _∙_}
 use mathlib.Core.List.{List}

@@ -1,4 +1,5 @@
--- Laws of lists, by induction: `all` and `any` pass exactly where their test does at each element, or at some; what stands at a place is an element.
+-- Laws of lists, by induction: `all` and `any` pass exactly where their test does at each element, or at some; what
+-- stands at a place is an element.
 use mathlib.Core.Path.{_≡_, refl, sym, _∙_}
 use mathlib.Core.Bool.{Bool, true, false≢true}
 use mathlib.Core.Logic.{⊎-elim}

@@ -1,5 +1,5 @@
--- Laws of `padded`, an array that starts with a list and is blank behind it: its list again, one element more, and that it is compared with
--- another array by the list and the blank.
+-- Laws of `padded`, an array that starts with a list and is blank behind it: its list again, one element more, and that
+-- it is compared with another array by the list and the blank.
 use Prim.Native.Nat.{ℕ, suc, _-_, _≤_, _<_}
 use mathlib.Core.Path.{_≡_, refl, sym}
 use mathlib.Core.Bool.{Bool, _&&_, and-assoc}

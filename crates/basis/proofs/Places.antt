@@ -1,4 +1,5 @@
--- Places of a list: what is stored place by place holds of each place passed, and what stands at one of the first n places is one of them; elements of a mapped list.
+-- Places of a list: what is stored place by place holds of each place passed, and what stands at one of the first n
+-- places is one of them; elements of a mapped list.
 use Prim.Native.Nat.{ℕ, _+_, _≤_, _<_}
 use mathlib.Core.Path.{refl, sym, subst}
 use mathlib.Core.List.{List, [], _∷_, map, List·Memᴰ, List·Memᴰ·head, List·Memᴰ·tail, List·Memᴰ·not-nil}

@@ -1,4 +1,5 @@
--- A list, or its first n places, walked place by place: what is left at a place is the element there and what is left behind it.
+-- A list, or its first n places, walked place by place: what is left at a place is the element there and what is left
+-- behind it.
 use Prim.Native.Nat.{ℕ, _+_, _≤_, _<_}
 use mathlib.Core.Path.{_≡_}
 use mathlib.Core.Bool.{Bool, true, false}

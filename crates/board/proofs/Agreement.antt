@@ -1,5 +1,6 @@
--- Demand 3's list of calls: where the labels decide as the formulas do, the board answers as the plain machine and holds its sessions.
--- The two share each call's checks and what becomes of its session's entry, so one law of a call and one induction serve all five.
+-- Demand 3's list of calls: where the labels decide as the formulas do, the board answers as the plain machine and
+-- holds its sessions. The two share each call's checks and what becomes of its session's entry, so that both go by one
+-- entry, and one induction serves all.
 use Prim.Native.Nat.{ℕ, _<_}
 use mathlib.Core.Path.{_≡_, refl, ap, _∙_}
 use mathlib.Core.Bool.{Bool, true, false, cond}
@@ -19,25 +20,25 @@ use Rattle.basis.proofs.Lists.{all-getD, all-set, all-replicate, getD-blank}
 use Rattle.sets.specs.Set.{within}
 use Rattle.sets.proofs.Laws.{setOf-lt, within-union, within-minus, within-le}
 use Rattle.seniority.specs.Seniority.{reach, heldOrSenior}
-use Rattle.policy.specs.Limits.{actions}
+use Rattle.policy.specs.Limits.{actions, sessionNumbers}
 use Rattle.policy.specs.Policy.{Policy, total, sets, setOfNumber}
 use Rattle.policy.specs.Value.{policyOf}
 use Rattle.policy.specs.Valid.{valid}
 use Rattle.policy.specs.Answers.{refused, decided}
 use Rattle.policy.specs.declared.value.PolicyValue.{PolicyValue}
-use Rattle.formula.specs.Truth.{grants}
+use Rattle.formula.specs.Truth.{Sets, grants}
 use Rattle.board.specs.declared.Board.{Board}
-use Rattle.policy.specs.Limits.{sessionNumbers}
-use Rattle.board.specs.Machine.{Entry, Map, empty, put, Call, opens, adds, drops, closes, requests, sessionOf, reachOf, objectSet, checks, entryAfter, heldIn, reply, step, run}
+use Rattle.board.specs.Machine.{Entry, empty, put, Call, opens, adds, drops, closes, requests, sessionOf, reachOf, objectSet, checks, entryAfter, heldIn, setsAsked, reply, Out, step, run}
 use Rattle.board.specs.Board.{closed, entryOf, sessionFor, entryAt, store, fresh, entryFits, boardFits, fits, Labels, pastEnd, grantsByLabels, lookUp, boardReply, boardAfter, boardStep}
 use Rattle.board.proofs.Refusals.{allowed, step-is, lower-good}
-use Rattle.board.proofs.Run.{Alike, RanAlike, run-alike}
+use Rattle.board.proofs.Run.{RanAlike}
+use Rattle.board.proofs.OneEntry.{ended, entryStep, ByEntry, put-same, Same, run-same}
 
--- the labels lead every two sets to what the formulas say
+-- the labels lead all sets to what the formulas say
 pub record Serves (p : Policy) (l : Labels) : Type 0 where
-  pub inside : (u o : ℕ) → u < sets (p .user) → o < sets (p .object) → pastEnd l u o ≡ false
-  pub decides : (a u o : ℕ) → a < actions (p .form) → u < sets (p .user) → o < sets (p .object)
-      → grantsByLabels l a u o ≡ grants p a u o
+  pub inside : (s : Sets) → s .user < sets (p .user) → s .object < sets (p .object) → pastEnd l s ≡ false
+  pub decides : (a : ℕ) (s : Sets) → a < actions (p .form) → s .user < sets (p .user) → s .object < sets (p .object)
+      → grantsByLabels l a s ≡ grants p a s
 
 -- each registered object's set is one of its side's
 abbrev pub ObjectsFit : Policy → Type 0
@@ -100,78 +101,78 @@ kept p (drops u s set) (some x) f h =
 kept p (closes u s) e f h = refl
 kept p (requests s a n) e f h = f
 
--- ---- a board and the map that it holds
+-- ---- a board that check 11 passes
 
-pub record Holds (p : Policy) (b : Board) (m : Map) : Type 0 where
+pub record Sound (p : Policy) (b : Board) : Type 0 where
   pub size : length (b .sessions) ≡ sessionNumbers
-  pub entries : (k : ℕ) → entryAt b k ≡ m k
   pub fitted : boardFits p b ≡ true
+
+pub sound-fresh : (p : Policy) → Sound p fresh
+unfolding fresh boardFits
+sound-fresh p =
+    record { size = length-replicate sessionNumbers closed; fitted = all-replicate (λ x. fitting p (entryOf x)) closed refl sessionNumbers }
+
+pub entries-fresh : (k : ℕ) → entryAt fresh k ≡ empty k
+unfolding fresh entryAt empty
+entries-fresh k = ap entryOf (getD-blank sessionNumbers k closed)
 
 back : (e : Option Entry) → entryOf (sessionFor e) ≡ e
 back none = refl
 back (some x) = refl
 
-pub holds-fresh : (p : Policy) → Holds p fresh empty
-unfolding fresh entryAt empty boardFits
-holds-fresh p =
-    record {
-      size = length-replicate sessionNumbers closed;
-      entries = λ k. ap entryOf (getD-blank sessionNumbers k closed);
-      fitted = all-replicate (λ x. fitting p (entryOf x)) closed refl sessionNumbers;
-    }
-
--- an entry stored in both
-module _ (p : Policy) (b : Board) (m : Map) (h : Holds p b m) where
-  holds-entry : (s : ℕ) → fitting p (m s) ≡ true
+module _ (p : Policy) (b : Board) (h : Sound p b) where
+  sound-entry : (s : ℕ) → fitting p (entryAt b s) ≡ true
   unfolding boardFits entryAt
-  holds-entry s = rw (← h .entries s) (all-getD (λ x. fitting p (entryOf x)) closed refl (b .sessions) s (h .fitted))
+  sound-entry s = all-getD (λ x. fitting p (entryOf x)) closed refl (b .sessions) s (h .fitted)
 
-  holds-fits : (v : PolicyValue) → policyOf v ≡ p → valid v ≡ true → fits v b ≡ true
+  sound-fits : (v : PolicyValue) → policyOf v ≡ p → valid v ≡ true → fits v b ≡ true
   unfolding fits
-  holds-fits v e ok = rw (ok, e) (h .fitted)
+  sound-fits v e ok = rw (ok, e) (h .fitted)
 
-  stored-at : (s : ℕ) (e : Option Entry) → s < sessionNumbers → (k : ℕ) → entryAt (store b s e) k ≡ put m s e k
+  -- an entry stored
+  stored-at : (s : ℕ) (e : Option Entry) → s < sessionNumbers → (k : ℕ) → entryAt (store b s e) k ≡ put (entryAt b) s e k
   unfolding entryAt store put
   stored-at s e near k = go (eqb k s) refl
     where
-      go : (t : Bool) → eqb k s ≡ t → entryOf (getD (set (b .sessions) s (sessionFor e)) k closed) ≡ cond t e (m k)
+      go : (t : Bool) → eqb k s ≡ t
+          → entryOf (getD (set (b .sessions) s (sessionFor e)) k closed) ≡ cond t e (entryOf (getD (b .sessions) k closed))
       go true q = rw (eqb-true k s q, getD-set-same (b .sessions) s (sessionFor e) closed (omega (arith, h .size))) (back e)
-      go false q = rw (getD-set-other (b .sessions) s k (sessionFor e) closed (eqb-false k s q)) (h .entries k)
+      go false q = rw (getD-set-other (b .sessions) s k (sessionFor e) closed (eqb-false k s q))
 
-  holds-store : (s : ℕ) (e : Option Entry) → s < sessionNumbers → fitting p e ≡ true → Holds p (store b s e) (put m s e)
+  sound-stored : (s : ℕ) (e : Option Entry) → fitting p e ≡ true → Sound p (store b s e)
   unfolding store boardFits
-  holds-store s e near f =
+  sound-stored s e f =
       record {
         size = length-set (b .sessions) s (sessionFor e) ∙ h .size;
-        entries = stored-at s e near;
         fitted = all-set (λ x. fitting p (entryOf x)) (sessionFor e) (rw (back e) f) (b .sessions) s (h .fitted);
       }
 
-  -- a request puts back what is there
-  holds-same : (s : ℕ) → Holds p b (put m s (m s))
-  unfolding put
-  holds-same s = record { size = h .size; entries = λ k. h .entries k ∙ go k (eqb k s) refl; fitted = h .fitted }
-    where
-      go : (k : ℕ) (t : Bool) → eqb k s ≡ t → m k ≡ cond t (m s) (m k)
-      go k true q = ap m (eqb-true k s q)
-      go k false q = refl
-
   -- what a call that is not refused leaves
-  holds-stored : (c : Call) → lowest (checks p c (m (sessionOf c))) ≡ none
-      → Holds p (store b (sessionOf c) (entryAfter c (entryAt b (sessionOf c)))) (put m (sessionOf c) (entryAfter c (m (sessionOf c))))
-  holds-stored c q =
-      rw (h .entries (sessionOf c))
-      (holds-store (sessionOf c) (entryAfter c (m (sessionOf c))) (near p c (m (sessionOf c)) q)
-      (kept p c (m (sessionOf c)) (holds-entry (sessionOf c)) q))
+  module _ (c : Call) (q : lowest (checks p c (entryAt b (sessionOf c))) ≡ none) where
+    sound-done : Sound p (store b (sessionOf c) (entryAfter c (entryAt b (sessionOf c))))
+    sound-done = sound-stored (sessionOf c) _ (kept p c (entryAt b (sessionOf c)) (sound-entry (sessionOf c)) q)
 
-  holds-after : (c : Call) → lowest (checks p c (m (sessionOf c))) ≡ none
-      → Holds p (boardAfter c b) (put m (sessionOf c) (entryAfter c (m (sessionOf c))))
+    entries-done : (k : ℕ)
+        → entryAt (store b (sessionOf c) (entryAfter c (entryAt b (sessionOf c)))) k
+        ≡ put (entryAt b) (sessionOf c) (entryAfter c (entryAt b (sessionOf c))) k
+    entries-done = stored-at (sessionOf c) _ (near p c (entryAt b (sessionOf c)) q)
+
+  sound-after : (c : Call) → lowest (checks p c (entryAt b (sessionOf c))) ≡ none → Sound p (boardAfter c b)
+  unfolding boardAfter
+  sound-after (opens u s set) q = sound-done (opens u s set) q
+  sound-after (adds u s set) q = sound-done (adds u s set) q
+  sound-after (drops u s set) q = sound-done (drops u s set) q
+  sound-after (closes u s) q = sound-done (closes u s) q
+  sound-after (requests s a n) q = h
+
+  entries-after : (c : Call) → lowest (checks p c (entryAt b (sessionOf c))) ≡ none → (k : ℕ)
+      → entryAt (boardAfter c b) k ≡ put (entryAt b) (sessionOf c) (entryAfter c (entryAt b (sessionOf c))) k
   unfolding boardAfter entryAfter
-  holds-after (opens u s set) q = holds-stored (opens u s set) q
-  holds-after (adds u s set) q = holds-stored (adds u s set) q
-  holds-after (drops u s set) q = holds-stored (drops u s set) q
-  holds-after (closes u s) q = holds-stored (closes u s) q
-  holds-after (requests s a n) q = holds-same s
+  entries-after (opens u s set) q k = entries-done (opens u s set) q k
+  entries-after (adds u s set) q k = entries-done (adds u s set) q k
+  entries-after (drops u s set) q k = entries-done (drops u s set) q k
+  entries-after (closes u s) q k = entries-done (closes u s) q k
+  entries-after (requests s a n) q k = put-same (entryAt b) s k
 
 -- ---- one call
 
@@ -183,7 +184,7 @@ module _ (p : Policy) (l : Labels) (objects : ObjectsFit p) (serves : Serves p l
   found (adds u s set) e f = refl
   found (drops u s set) e f = refl
   found (closes u s) e f = refl
-  found (requests s a n) e f = rw (serves .inside (heldIn e) (objectSet p n) (held-lt p e f) (objectSet-lt p objects n))
+  found (requests s a n) e f = rw (serves .inside (setsAsked p n e) (held-lt p e f) (objectSet-lt p objects n))
 
   answered : (c : Call) (e : Option Entry) → fitting p e ≡ true → lowest (checks p c e) ≡ none → boardReply p l c e ≡ reply p c e
   unfolding boardReply reply checks
@@ -194,34 +195,57 @@ module _ (p : Policy) (l : Labels) (objects : ObjectsFit p) (serves : Serves p l
   answered (requests s a n) e f q =
       let t = unbroken (checks p (requests s a n) e) q in
       ap decided
-      (serves .decides a (heldIn e) (objectSet p n) (leb-false (actions (p .form)) a (t .0)) (held-lt p e f) (objectSet-lt p objects n))
+      (serves .decides a (setsAsked p n e) (leb-false (actions (p .form)) a (t .0)) (held-lt p e f) (objectSet-lt p objects n))
 
   module _ (v : PolicyValue) (e : policyOf v ≡ p) (ok : valid v ≡ true) where
-    let-through : (c : Call) (b : Board) (m : Map) → Holds p b m → lowest (checks p c (m (sessionOf c))) ≡ none
-        → Alike (Holds p) (allowed v l c b)
-        (record { reply = reply p c (m (sessionOf c)); state = put m (sessionOf c) (entryAfter c (m (sessionOf c))) })
-    unfolding allowed
-    let-through c b m h q =
-        rw (e, h .entries (sessionOf c), found c (m (sessionOf c)) (holds-entry p b m h (sessionOf c)))
-        (record { reply = answered c (m (sessionOf c)) (holds-entry p b m h (sessionOf c)) q; state = holds-after p b m h c q })
+    module _ (c : Call) (b : Board) (h : Sound p b) where
+      let-through : lowest (checks p c (entryAt b (sessionOf c))) ≡ none
+          → allowed v l c b ≡ record { reply = reply p c (entryAt b (sessionOf c)); state = boardAfter c b }
+      unfolding allowed
+      let-through q =
+          let f = sound-entry p b h (sessionOf c) in
+          rw (e, found c (entryAt b (sessionOf c)) f, answered c (entryAt b (sessionOf c)) f q)
 
-    pub step-alike : (c : Call) (b : Board) (m : Map) → Holds p b m → Alike (Holds p) (boardStep v l c b) (step p c m)
-    unfolding step
-    step-alike c b m h =
-        rw (step-is v l c b, lower-good v c b (holds-fits p b m h v e ok), e, h .entries (sessionOf c)) (go (lowest (checks p c (m (sessionOf c)))) refl)
+      -- a step is its machine's refusal, or let through
+      stepped : (r : Option ℕ) → lowest (checks p c (entryAt b (sessionOf c))) ≡ r
+          → boardStep v l c b ≡ ended r (reply p c (entryAt b (sessionOf c))) (boardAfter c b) b
+      stepped r q = step-is v l c b ∙ rw (lower-good v c b (sound-fits p b h v e ok), e, q) (go r q)
+        where
+          go : (r : Option ℕ) → lowest (checks p c (entryAt b (sessionOf c))) ≡ r
+              → given {B = Out Board} r (allowed v l c b) (λ n. record { reply = refused n; state = b })
+              ≡ ended r (reply p c (entryAt b (sessionOf c))) (boardAfter c b) b
+          go none q = let-through q
+          go (some n) q = refl
+
+    -- the board's calls go by one entry each
+    pub board-by-entry : ByEntry p (Sound p) entryAt (boardStep v l)
+    unfolding entryStep
+    board-by-entry =
+        record {
+          reply = λ c b h. replied c b h (lowest (checks p c (entryAt b (sessionOf c)))) refl;
+          entries = λ c b h k. changed c b h k (lowest (checks p c (entryAt b (sessionOf c)))) refl;
+          sound = λ c b h. stays c b h (lowest (checks p c (entryAt b (sessionOf c)))) refl;
+        }
       where
-        go : (r : Option ℕ) → lowest (checks p c (m (sessionOf c))) ≡ r
-            → Alike (Holds p) (given r (allowed v l c b) (λ n. record { reply = refused n; state = b }))
-            (given r
-            (record { reply = reply p c (m (sessionOf c)); state = put m (sessionOf c) (entryAfter c (m (sessionOf c))) })
-            (λ n. record { reply = refused n; state = m }))
-        go (some n) q = record { reply = refl; state = h }
-        go none q = let-through c b m h q
+        replied : (c : Call) (b : Board) → Sound p b → (r : Option ℕ) → lowest (checks p c (entryAt b (sessionOf c))) ≡ r
+            → boardStep v l c b .reply ≡ entryStep p c (entryAt b (sessionOf c)) .reply
+        replied c b h none q = rw (stepped c b h none q, q)
+        replied c b h (some n) q = rw (stepped c b h (some n) q, q)
+
+        changed : (c : Call) (b : Board) → Sound p b → (k : ℕ) (r : Option ℕ) → lowest (checks p c (entryAt b (sessionOf c))) ≡ r
+            → entryAt (boardStep v l c b .state) k ≡ put (entryAt b) (sessionOf c) (entryStep p c (entryAt b (sessionOf c)) .state) k
+        changed c b h k none q = rw (stepped c b h none q, q) (entries-after p b h c q k)
+        changed c b h k (some n) q = rw (stepped c b h (some n) q, q) (put-same (entryAt b) (sessionOf c) k)
+
+        stays : (c : Call) (b : Board) → Sound p b → (r : Option ℕ) → lowest (checks p c (entryAt b (sessionOf c))) ≡ r
+            → Sound p (boardStep v l c b .state)
+        stays c b h none q = rw (stepped c b h none q) (sound-after p b h c q)
+        stays c b h (some n) q = rw (stepped c b h (some n) q) h
 
     -- ---- every list of calls
 
-    pub agreement : (calls : List Call) → RanAlike (Holds p) (run (boardStep v l) calls fresh) (run (step p) calls empty)
-    agreement calls = run-alike (boardStep v l) (step p) (Holds p) step-alike calls fresh empty (holds-fresh p)
+    pub agreement : (calls : List Call) → RanAlike (Same (Sound p) entryAt) (run (boardStep v l) calls fresh) (run (step p) calls empty)
+    agreement calls = run-same p (Sound p) entryAt (boardStep v l) board-by-entry calls fresh empty (record { sound = sound-fresh p; entries = entries-fresh })
 
     -- "Each answer equals the machine's"
     pub replies-agree : (calls : List Call) → run (boardStep v l) calls fresh .replies ≡ run (step p) calls empty .replies

@@ -26,7 +26,7 @@ use Rattle.board.proofs.Users.{set-here, set-later}
 
 -- the places of the user numbers, and one more
 abbrev pub places : ℕ
-places = 33
+places = userNumbers + 1
 
 -- ---- filling
 

@@ -17,7 +17,7 @@ use Rattle.policy.specs.declared.value.PolicyValue.{PolicyValue}
 use Rattle.board.specs.declared.Session.{Session}
 use Rattle.board.specs.declared.Board.{Board}
 use Rattle.board.specs.declared.reach.Found.{Found}
-use Rattle.board.specs.Board.{closed, entryOf, entryFits, boardFits, fits}
+use Rattle.board.specs.Board.{closed, entryOf, entryFits, sessionsFit, boardFits, fits}
 use Rattle.board.specs.Inner.{FoundAs}
 use Rattle.board.proofs.Users.{reachIn, covers-user}
 
@@ -57,8 +57,8 @@ module _ (v : PolicyValue) (b : Board) where
   fits-valid e = and-left (valid v) _ e
 
   pub fits-entries : valid v ≡ true → (t : Bool)
-      → ((p : Policy) → p .users ≡ entriesOf (v .users) → p .user ≡ sideOf (v .user) → t ≡ boardFits p b) → t ≡ fits v b
-  unfolding fits policyOf
+      → ((p : Policy) → p .users ≡ entriesOf (v .users) → p .user ≡ sideOf (v .user) → t ≡ sessionsFit p (b .sessions)) → t ≡ fits v b
+  unfolding fits boardFits policyOf
   fits-entries e t h = rw e (h (policyOf v) refl refl)
 
   pub fits-invalid : valid v ≡ false → false ≡ fits v b

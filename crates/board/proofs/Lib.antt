@@ -1,4 +1,5 @@
 pub mod Run
+pub mod OneEntry
 pub mod Refusals
 pub mod Agreement
 pub mod OneRequest

@@ -1,4 +1,4 @@
--- Two machines that answer each call alike, and stay related by it, answer every list of calls alike: by induction over the list.
+-- Two machines that answer each call alike, and stay related by it, answer every list alike: by induction over it.
 use mathlib.Core.List.{List, [], _∷_}
 use mathlib.Core.Path.{_≡_, refl, ap₂}
 use Rattle.policy.specs.Answers.{Reply}

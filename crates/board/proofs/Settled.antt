@@ -1,25 +1,30 @@
--- The calls that change a session: what a ruling and the session's next entry make of the board is the call's step.
-use Prim.Native.Nat.{ℕ, _<_}
-use mathlib.Core.Path.{_≡_, refl, sym, _∙_}
+-- The calls that change a session: check 11, then a ruling, which with the session's next entry makes the call's step.
+use Prim.Native.Nat.{ℕ, _≤_, _<_}
+use mathlib.Core.Path.{_≡_, refl, sym, ap, _∙_}
 use mathlib.Core.Bool.{Bool, true, false, not, cond}
 use mathlib.Core.Option.{Option, none, some}
 use native.Mathlib.Omega.{arith}
-use borrow.Author.Tests.{not-false}
-use lib.ListN.{set}
+use borrow.Author.Tests.{not-true, not-false}
+use lib.ListN.{getD, set}
 use Rattle.basis.specs.Choice.{given, there, lowest}
 use Rattle.basis.proofs.Choice.{unbroken}
 use Rattle.sets.specs.Set.{union, minus}
-use Rattle.policy.specs.Value.{policyOf}
+use Rattle.policy.specs.Limits.{sessionNumbers}
+use Rattle.policy.specs.Policy.{Policy, setOfNumber}
+use Rattle.policy.specs.Value.{entryPlaces, entriesOf, sideOf, policyOf}
 use Rattle.policy.specs.Answers.{done, refused}
 use Rattle.policy.specs.declared.value.PolicyValue.{PolicyValue}
 use Rattle.board.specs.declared.Session.{Session}
 use Rattle.board.specs.declared.Board.{Board}
-use Rattle.policy.specs.Limits.{sessionNumbers}
+use Rattle.board.specs.declared.reach.Found.{Found}
+use Rattle.board.specs.declared.rulings.Ruling.{Ruling}
 use Rattle.board.specs.Machine.{Entry, Call, opens, adds, drops, closes, sessionOf, checks, entryAfter, Out}
 use Rattle.board.specs.Board.{closed, entryOf, entryAt, sessionFor, store, fits, Labels, lookUp, boardReply, boardAfter, boardStep}
-use Rattle.board.specs.Inner.{lower, settled}
-use Rattle.board.proofs.Refusals.{allowed, step-is}
+use Rattle.board.specs.Inner.{refusalOf, FoundAs, Reaches, Reachable, lower, invalid, settled}
+use Rattle.board.proofs.Refusals.{allowed, step-is, lower-bad, lower-good}
+use Rattle.board.proofs.Fitting.{fits-valid}
 use Rattle.board.proofs.Agreement.{near}
+use Rattle.board.proofs.Valid.{reachable, objects-within}
 
 -- what passes the checks passes the machine's
 lower-none : (v : PolicyValue) (c : Call) (b : Board) → lower v c b ≡ none → lowest (checks (policyOf v) c (entryAt b (sessionOf c))) ≡ none
@@ -61,12 +66,22 @@ live-of x e = go (x .live) e
     go false f = cc
 
 -- add or drop: the session is open, or the call is refused
-module _ (v : PolicyValue) (b : Board) (u s set : ℕ) (x : Session) (hx : entryOf x ≡ entryAt b s) where
-  live : lower v (adds u s set) b ≡ none → x .live ≡ true
+module _ (v : PolicyValue) (b : Board) (u s set : ℕ) (x : Session) (hx : x ≡ getD (b .sessions) s closed) where
+  at-entry : entryOf x ≡ entryAt b s
+  unfolding entryAt
+  at-entry = ap entryOf hx
+
+  live-add : lower v (adds u s set) b ≡ none → x .live ≡ true
   unfolding checks
-  live e =
+  live-add e =
       live-of x
-      (rw hx (not-false (there (entryAt b s)) (unbroken (checks (policyOf v) (adds u s set) (entryAt b s)) (lower-none v (adds u s set) b e) .1 .1 .0)))
+      (rw at-entry (not-false (there (entryAt b s)) (unbroken (checks (policyOf v) (adds u s set) (entryAt b s)) (lower-none v (adds u s set) b e) .1 .1 .0)))
+
+  live-drop : lower v (drops u s set) b ≡ none → x .live ≡ true
+  unfolding checks
+  live-drop e =
+      live-of x
+      (rw at-entry (not-false (there (entryAt b s)) (unbroken (checks (policyOf v) (drops u s set) (entryAt b s)) (lower-none v (drops u s set) b e) .1 .1 .0)))
 
 module _ (l : Labels) (v : PolicyValue) (b : Board) (u s : ℕ) (r : Option ℕ) where
   pub opened : (set : ℕ) → r ≡ lower v (opens u s set) b
@@ -78,13 +93,54 @@ module _ (l : Labels) (v : PolicyValue) (b : Board) (u s : ℕ) (r : Option ℕ)
   unfolding allowed lookUp boardReply boardAfter entryAfter lowest
   closed-again h x e = settled-step v (closes u s) b r h l refl x (λ q. e)
 
-  module _ (set : ℕ) (h : r ≡ lower v (adds u s set) b) (x : Session) (hx : entryOf x ≡ entryAt b s) (held : ℕ) where
-    pub added : held ≡ union (x .held) set
+  module _ (set : ℕ) (x : Session) (hx : x ≡ getD (b .sessions) s closed) (held : ℕ) where
+    pub added : r ≡ lower v (adds u s set) b → held ≡ union (x .held) set
         → settled b s r (record { live = true; user = x .user; held = held }) ≡ boardStep v l (adds u s set) b
     unfolding allowed lookUp boardReply boardAfter entryAfter lowest
-    added e = settled-step v (adds u s set) b r h l refl _ (λ q. rw (← hx, live v b u s set x hx (sym h ∙ q), e))
+    added h e =
+        settled-step v (adds u s set) b r h l refl _
+        (λ q. rw (← at-entry v b u s set x hx, live-add v b u s set x hx (sym h ∙ q), e))
 
-    pub dropped : held ≡ minus (x .held) set
+    pub dropped : r ≡ lower v (drops u s set) b → held ≡ minus (x .held) set
         → settled b s r (record { live = true; user = x .user; held = held }) ≡ boardStep v l (drops u s set) b
-    unfolding allowed lookUp boardReply boardAfter entryAfter lowest lower checks
-    dropped e = settled-step v (drops u s set) b r h l refl _ (λ q. rw (← hx, live v b u s set x hx (sym h ∙ q), e))
+    unfolding allowed lookUp boardReply boardAfter entryAfter lowest
+    dropped h e =
+        settled-step v (drops u s set) b r h l refl _
+        (λ q. rw (← at-entry v b u s set x hx, live-drop v b u s set x hx (sym h ∙ q), e))
+
+-- ---- check 11 first
+
+module _ (v : PolicyValue) (b : Board) (t : Bool) (ht : t ≡ fits v b) where
+  pub stopped : (l : Labels) (c : Call) → not t ≡ true → (o : Out Board) → o ≡ invalid b → o ≡ boardStep v l c b
+  stopped l c n o e = e ∙ sym (step-is v l c b ∙ rw (lower-bad v c b (sym ht ∙ not-true t n)))
+
+  module _ (n : not t ≡ false) where
+    pub ready : Reachable (v .user) (v .users)
+    ready = reachable v (fits-valid v b (sym ht ∙ not-false t n))
+
+    pub objects-ready : v .objects .count ≤ entryPlaces
+    objects-ready = objects-within v (fits-valid v b (sym ht ∙ not-false t n))
+
+    -- then the machine's checks, on the session's entry
+    ruled : (c : Call) (x : Session) → x ≡ getD (b .sessions) (sessionOf c) closed
+        → (r : Option ℕ) → r ≡ lowest (checks (policyOf v) c (entryOf x)) → r ≡ lower v c b
+    unfolding entryAt
+    ruled c x h r e = e ∙ rw h (sym (lower-good v c b (sym ht ∙ not-false t n)))
+
+    module _ (u s : ℕ) (x : Session) (hx : x ≡ getD (b .sessions) s closed) (y : Ruling) where
+      pub close-ruled : (f : Found) → FoundAs (setOfNumber (entriesOf (v .users)) u) f
+          → ((p : Policy) → f .registered ≡ there (setOfNumber (p .users) u) → refusalOf y ≡ lowest (checks p (closes u s) (entryOf x)))
+          → refusalOf y ≡ lower v (closes u s) b
+      unfolding policyOf
+      close-ruled f hf hy = ruled (closes u s) x hx (refusalOf y) (hy (policyOf v) (hf .registered))
+
+      module _ (f : Found) (hf : (p : Policy) → p .users ≡ entriesOf (v .users) → p .user ≡ sideOf (v .user) → Reaches p u f) where
+        pub open-ruled : (set : ℕ) → ((p : Policy) (w : ℕ) → Reaches p w f → refusalOf y ≡ lowest (checks p (opens w s set) (entryOf x)))
+            → refusalOf y ≡ lower v (opens u s set) b
+        unfolding policyOf
+        open-ruled set hy = ruled (opens u s set) x hx (refusalOf y) (hy (policyOf v) u (hf (policyOf v) refl refl))
+
+        pub change-ruled : (c : Call) → sessionOf c ≡ s → ((p : Policy) → Reaches p u f → refusalOf y ≡ lowest (checks p c (entryOf x)))
+            → refusalOf y ≡ lower v c b
+        unfolding policyOf
+        change-ruled c e hy = ruled c x (rw e hx) (refusalOf y) (hy (policyOf v) (hf (policyOf v) refl refl))

@@ -1,4 +1,4 @@
--- What check 11 on the policy value gives the board: reach can be worked out, and registered sets are sets of their side.
+-- What check 11 on the policy value gives the board: reach can be worked out, and registered sets are their side's.
 use Prim.Native.Nat.{ℕ, _≤_, _<_}
 use mathlib.Core.Path.{_≡_, refl, ap}
 use mathlib.Core.Bool.{Bool, true, false, cond}
@@ -17,7 +17,7 @@ use Rattle.policy.specs.declared.value.Entry.{Entry}
 use Rattle.policy.specs.declared.value.PolicyValue.{PolicyValue}
 use Rattle.policy.proofs.Parts.{numberFits, numberAbove, Parts, parts, whole}
 use Rattle.policy.proofs.Rising.{rising}
-use Rattle.policy.proofs.Bounds.{Within, total-most, lines-ordered, entry-bounds, parts-within, sound-within}
+use Rattle.policy.proofs.Bounds.{Within, total-few, lines-ordered, entry-bounds, parts-within, sound-within}
 use Rattle.policy.proofs.Valid.{valid-stored}
 use Rattle.board.specs.Inner.{Reachable}
 use Rattle.board.proofs.Agreement.{ObjectsFit}
@@ -55,7 +55,7 @@ reachable v e =
     record {
       seniority = record {
         lines = rw (ap (λ (x : PolicyValue). x .user .lines) (q .0)) at (w .user .lines);
-        values = le-trans (total-most (values (p .form)) (p .user) (t .user)) (lit≤ tt);
+        values = le-trans (total-few (p .form) (p .user) (t .user)) (lit≤ tt);
         ordered = lines-ordered (values (p .form)) (p .user) (t .user);
       };
       count = rw (ap (λ (x : PolicyValue). x .users .count) (q .0)) at (w .users);

@@ -1,31 +1,25 @@
--- One law for each way out of a ruling: the checks before it pass, and its own is broken; where the call is allowed, none is.
+-- One law for each way out of a ruling: the checks before it pass and its own is broken; where it allows, none is.
 use Prim.Native.Nat.{ℕ, _≤_, _<_}
-use mathlib.Core.Path.{_≡_, refl, sym, ap, _∙_}
+use mathlib.Core.Path.{_≡_, sym, ap, _∙_}
 use mathlib.Core.Bool.{Bool, true, false, not}
 use mathlib.Core.List.{[], _∷_}
 use mathlib.Core.Option.{Option, none, some}
 use borrow.Author.Tests.{le-leb, lt-leb, eq-eqb, ne-eqb, not-true, not-false}
-use Rattle.basis.specs.Choice.{given, there, check, lowest}
+use Rattle.basis.specs.Choice.{given, there, gives, refuses, check, lowest}
 use Rattle.basis.proofs.Choice.{lowest-append}
 use Rattle.sets.specs.Set.{within}
-use Rattle.policy.specs.Limits.{actions}
+use Rattle.policy.specs.Limits.{actions, sessionNumbers}
 use Rattle.policy.specs.Policy.{Policy, setOfNumber}
-use Rattle.policy.specs.Value.{entriesOf, sideOf, policyOf}
-use Rattle.policy.specs.declared.value.PolicyValue.{PolicyValue}
 use Rattle.policy.specs.declared.refusal.Refusal.{Refusal}
+use Rattle.formula.specs.Truth.{at}
 use Rattle.formula.specs.Decide.{noAction}
 use Rattle.board.specs.declared.Session.{Session}
-use Rattle.board.specs.declared.Board.{Board}
 use Rattle.board.specs.declared.reach.Found.{Found}
 use Rattle.board.specs.declared.rulings.Ruling.{Ruling}
 use Rattle.board.specs.declared.rulings.Ruling.the-variants.{Allowed, Refused}
-use Rattle.policy.specs.Limits.{sessionNumbers}
-use Rattle.board.specs.Machine.{Call, sessionOf, opens, adds, closes, requests, outOfReach, changeChecks, checks}
-use Rattle.board.specs.Board.{entryOf, entryAt, fits}
-use Rattle.board.specs.Inner.{refusalOf, FoundAs, Reaches, Reachable, lower}
-use Rattle.board.proofs.Refusals.{lower-bad, lower-good}
-use Rattle.board.proofs.Fitting.{fits-valid}
-use Rattle.board.proofs.Valid.{reachable}
+use Rattle.board.specs.Machine.{opens, closes, objectSet, outOfReach, checks}
+use Rattle.board.specs.Board.{entryOf}
+use Rattle.board.specs.Inner.{refusalOf, FoundAs, Reaches, changeChecks, asked}
 
 -- ---- close
 
@@ -86,7 +80,6 @@ module _ (p : Policy) (u s set : ℕ) (x : Session) where
 module _ (p : Policy) (u s set : ℕ) (x : Session) (f : Found) (h : Reaches p u f) (y : Ruling)
     (hy : (p : Policy) → f .registered ≡ there (setOfNumber (p .users) u) → refusalOf y ≡ lowest (checks p (closes u s) (entryOf x))) where
   change-is : lowest (changeChecks p u s set (entryOf x)) ≡ given (refusalOf y) (lowest (check 19 (outOfReach p u set) ∷ [])) some
-  unfolding checks
   change-is =
       lowest-append (checks p (closes u s) (entryOf x)) (check 19 (outOfReach p u set) ∷ [])
       ∙ ap (λ (o : Option ℕ). given o (lowest (check 19 (outOfReach p u set) ∷ [])) some) (sym (hy p (h .registered)))
@@ -106,61 +99,28 @@ module _ (p : Policy) (u s set : ℕ) (x : Session) (f : Found) (h : Reaches p u
 -- ---- request
 
 module _ (p : Policy) (s a n : ℕ) (x : Session) (k : ℕ) (hk : k ≡ actions (p .form)) where
-  pub request-unknown : k ≤ a → some 12 ≡ lowest (checks p (requests s a n) (entryOf x))
-  unfolding checks lowest
+  pub request-unknown : k ≤ a → refuses 12 ≡ asked p s a n (entryOf x)
+  unfolding asked checks lowest
   request-unknown h = rw (le-leb (actions (p .form)) a (rw hk at h))
 
   module _ (h : a < k) where
     known : noAction p a ≡ false
     known = lt-leb (actions (p .form)) a (rw hk at h)
 
-    pub request-nowhere : sessionNumbers ≤ s → some 13 ≡ lowest (checks p (requests s a n) (entryOf x))
-    unfolding checks lowest
+    pub request-nowhere : sessionNumbers ≤ s → refuses 13 ≡ asked p s a n (entryOf x)
+    unfolding asked checks lowest
     request-nowhere m = rw (known, le-leb sessionNumbers s m)
 
-    module _ (m : s < sessionNumbers) (g : Bool) (hg : g ≡ there (setOfNumber (p .objects) n)) where
-      pub request-unregistered : not g ≡ true → some 15 ≡ lowest (checks p (requests s a n) (entryOf x))
-      unfolding checks lowest
-      request-unregistered r = rw (known, lt-leb sessionNumbers s m, sym hg ∙ not-true g r)
+    module _ (m : s < sessionNumbers) (f : Found) (hf : FoundAs (setOfNumber (p .objects) n) f) where
+      pub request-unregistered : not (f .registered) ≡ true → refuses 15 ≡ asked p s a n (entryOf x)
+      unfolding asked checks lowest
+      request-unregistered r = rw (known, lt-leb sessionNumbers s m, sym (hf .registered) ∙ not-true (f .registered) r)
 
-      module _ (r : not g ≡ false) where
-        pub request-allowed : x .live ≡ true → none ≡ lowest (checks p (requests s a n) (entryOf x))
-        unfolding checks lowest
-        request-allowed l = rw (known, lt-leb sessionNumbers s m, sym hg ∙ not-false g r, l)
+      module _ (r : not (f .registered) ≡ false) where
+        pub request-open : x .live ≡ true → gives (at (x .held) (f .set)) ≡ asked p s a n (entryOf x)
+        unfolding asked checks lowest objectSet
+        request-open l = rw (known, lt-leb sessionNumbers s m, sym (hf .registered) ∙ not-false (f .registered) r, l, hf .set)
 
-        pub request-closed : x .live ≡ false → some 17 ≡ lowest (checks p (requests s a n) (entryOf x))
-        unfolding checks lowest
-        request-closed l = rw (known, lt-leb sessionNumbers s m, sym hg ∙ not-false g r, l)
-
--- ---- with 11 before them
-
-module _ (v : PolicyValue) (b : Board) (t : Bool) (ht : t ≡ fits v b) where
-  pub ruled-bad : (c : Call) → not t ≡ true → some 11 ≡ lower v c b
-  ruled-bad c n = sym (lower-bad v c b (sym ht ∙ not-true t n))
-
-  module _ (n : not t ≡ false) where
-    pub ready : Reachable (v .user) (v .users)
-    ready = reachable v (fits-valid v b (sym ht ∙ not-false t n))
-
-    ruled : (c : Call) (x : Session) → entryOf x ≡ entryAt b (sessionOf c) → (r : Option ℕ) → r ≡ lowest (checks (policyOf v) c (entryOf x))
-        → r ≡ lower v c b
-    ruled c x h r e = e ∙ rw h (sym (lower-good v c b (sym ht ∙ not-false t n)))
-
-    module _ (u s : ℕ) (x : Session) (hx : entryOf x ≡ entryAt b s) (y : Ruling) where
-      module _ (set : ℕ) (f : Found)
-          (hf : (p : Policy) → p .users ≡ entriesOf (v .users) → p .user ≡ sideOf (v .user) → Reaches p u f) where
-        pub open-ruled : ((p : Policy) (w : ℕ) → Reaches p w f → refusalOf y ≡ lowest (checks p (opens w s set) (entryOf x)))
-            → refusalOf y ≡ lower v (opens u s set) b
-        unfolding policyOf
-        open-ruled hy = ruled (opens u s set) x hx (refusalOf y) (hy (policyOf v) u (hf (policyOf v) refl refl))
-
-        pub change-ruled : ((p : Policy) → Reaches p u f → refusalOf y ≡ lowest (changeChecks p u s set (entryOf x)))
-            → refusalOf y ≡ lower v (adds u s set) b
-        unfolding policyOf checks
-        change-ruled hy = ruled (adds u s set) x hx (refusalOf y) (hy (policyOf v) (hf (policyOf v) refl refl))
-
-      pub close-ruled : (f : Found) → FoundAs (setOfNumber (entriesOf (v .users)) u) f
-          → ((p : Policy) → f .registered ≡ there (setOfNumber (p .users) u) → refusalOf y ≡ lowest (checks p (closes u s) (entryOf x)))
-          → refusalOf y ≡ lower v (closes u s) b
-      unfolding policyOf
-      close-ruled f hf hy = ruled (closes u s) x hx (refusalOf y) (hy (policyOf v) (hf .registered))
+        pub request-closed : x .live ≡ false → refuses 17 ≡ asked p s a n (entryOf x)
+        unfolding asked checks lowest
+        request-closed l = rw (known, lt-leb sessionNumbers s m, sym (hf .registered) ∙ not-false (f .registered) r, l)

@@ -8,22 +8,32 @@ use lib.ListN.{length, getD, set, replicate}
 use Rattle.basis.specs.Choice.{given, there, Check, check, lowest}
 use Rattle.basis.specs.Lists.{all}
 use Rattle.sets.specs.Set.{has, within}
+use Rattle.policy.specs.Limits.{sessionNumbers}
 use Rattle.policy.specs.Policy.{Policy, setOfNumber}
 use Rattle.policy.specs.Value.{policyOf}
 use Rattle.policy.specs.Valid.{valid}
 use Rattle.policy.specs.Answers.{numberOf, Reply, done, granted, denied, refused, decided}
 use Rattle.policy.specs.declared.value.PolicyValue.{PolicyValue}
+use Rattle.formula.specs.Truth.{Sets}
 use Rattle.labels.specs.Compile.{Buffers}
 use Rattle.labels.specs.declared.Counts.{Counts}
-use Rattle.policy.specs.Limits.{sessionNumbers}
-use Rattle.board.specs.Machine.{Entry, Call, opens, adds, drops, closes, requests, sessionOf, reachOf, objectSet, checks, entry, entryAfter, heldIn, Out}
+use Rattle.board.specs.Machine.{Entry, Call, opens, adds, drops, closes, requests, sessionOf, reachOf, checks, entry, entryAfter, setsAsked, Out}
 use Rattle.board.specs.declared.Session.{Session}
 use Rattle.board.specs.declared.Board.{Board}
 use Rattle.board.specs.declared.Answer.{Answer}
 use Rattle.board.specs.declared.Answer.the-variants.{Done, Granted, Denied, Refused}
+use Rattle.board.specs.declared.Call.{Call as CodeCall}
+use Rattle.board.specs.declared.Call.the-variants.{Open, Add, Drop, Close, Request}
 use Rattle.board.specs.declared.Step.{Step}
 
--- what the code's answer and step stand for
+-- what the code's call, answer and step stand for
+abbrev pub callOf : CodeCall → Call
+callOf (Open u s set) = opens u s set
+callOf (Add u s set) = adds u s set
+callOf (Drop u s set) = drops u s set
+callOf (Close u s) = closes u s
+callOf (Request s a n) = requests s a n
+
 abbrev pub replyOf : Answer → Reply
 replyOf Done = done
 replyOf Granted = granted
@@ -60,8 +70,11 @@ fresh = record { sessions = replicate sessionNumbers closed }
 abbrev pub entryFits : Policy → Entry → Bool
 entryFits p e = there (setOfNumber (p .users) (e .user)) && within (e .held) (reachOf p (e .user))
 
+abbrev pub sessionsFit : Policy → List Session → Bool
+sessionsFit p xs = all (λ x. given (entryOf x) true (entryFits p)) xs
+
 unfoldable pub boardFits : Policy → Board → Bool
-boardFits p b = all (λ x. given (entryOf x) true (entryFits p)) (b .sessions)
+boardFits p b = sessionsFit p (b .sessions)
 
 unfoldable pub fits : PolicyValue → Board → Bool
 fits v b = valid v && boardFits (policyOf v) b
@@ -70,33 +83,31 @@ fits v b = valid v && boardFits (policyOf v) b
 
 -- the lent buffers with NU and NO as handed in
 pub record Labels : Type 0 where
+  pub counts : Counts
   pub buffers : Buffers
-  pub nu : ℕ
-  pub no : ℕ
 
-abbrev pub labelsOf : Counts → List ℕ → List ℕ → List ℕ → Labels
-labelsOf n users objects table =
-    record { buffers = record { users = users; objects = objects; table = table }; nu = n .users; no = n .objects }
+abbrev pub labelsOf : Counts → Buffers → Labels
+labelsOf n b = record { counts = n; buffers = b }
 
 -- "the held set's label ul, the object set's label ol, and the table byte at ul × NO + ol"
-abbrev pub userLabelAt : Labels → ℕ → ℕ
-userLabelAt l held = getD (l .buffers .users) held 0
+abbrev pub userLabelAt : Labels → Sets → ℕ
+userLabelAt l s = getD (l .buffers .users) (s .user) 0
 
-abbrev pub objectLabelAt : Labels → ℕ → ℕ
-objectLabelAt l object = getD (l .buffers .objects) object 0
+abbrev pub objectLabelAt : Labels → Sets → ℕ
+objectLabelAt l s = getD (l .buffers .objects) (s .object) 0
 
-abbrev pub placeAt : Labels → ℕ → ℕ → ℕ
-placeAt l held object = userLabelAt l held * l .no + objectLabelAt l object
+abbrev pub placeAt : Labels → Sets → ℕ
+placeAt l s = userLabelAt l s * l .counts .objects + objectLabelAt l s
 
 -- 20: "any of the three places lies past its buffer's end"
-unfoldable pub pastEnd : Labels → ℕ → ℕ → Bool
-pastEnd l held object =
-    leb (length (l .buffers .users)) held
-    || (leb (length (l .buffers .objects)) object || leb (length (l .buffers .table)) (placeAt l held object))
+unfoldable pub pastEnd : Labels → Sets → Bool
+pastEnd l s =
+    leb (length (l .buffers .users)) (s .user)
+    || (leb (length (l .buffers .objects)) (s .object) || leb (length (l .buffers .table)) (placeAt l s))
 
 -- "It grants action a exactly when bit a there is set."
-unfoldable pub grantsByLabels : Labels → ℕ → ℕ → ℕ → Bool
-grantsByLabels l a held object = has (getD (l .buffers .table) (placeAt l held object) 0) a
+unfoldable pub grantsByLabels : Labels → ℕ → Sets → Bool
+grantsByLabels l a s = has (getD (l .buffers .table) (placeAt l s) 0) a
 
 -- ---- the five calls
 
@@ -106,14 +117,14 @@ lookUp p l (opens u s set) e = []
 lookUp p l (adds u s set) e = []
 lookUp p l (drops u s set) e = []
 lookUp p l (closes u s) e = []
-lookUp p l (requests s a n) e = check 20 (pastEnd l (heldIn e) (objectSet p n)) ∷ []
+lookUp p l (requests s a n) e = check 20 (pastEnd l (setsAsked p n e)) ∷ []
 
 unfoldable pub boardReply : Policy → Labels → Call → Option Entry → Reply
 boardReply p l (opens u s set) e = done
 boardReply p l (adds u s set) e = done
 boardReply p l (drops u s set) e = done
 boardReply p l (closes u s) e = done
-boardReply p l (requests s a n) e = decided (grantsByLabels l a (heldIn e) (objectSet p n))
+boardReply p l (requests s a n) e = decided (grantsByLabels l a (setsAsked p n e))
 
 -- 11, then the machine's refusals, then 20
 unfoldable pub boardChecks : PolicyValue → Labels → Call → Board → List Check
@@ -122,7 +133,7 @@ boardChecks v l c b =
     ∷ checks (policyOf v) c (entryAt b (sessionOf c))
     ++ lookUp (policyOf v) l c (entryAt b (sessionOf c))
 
--- a request leaves the board as it is; of the others only the session's entry changes, and of a refused call nothing does
+-- a request leaves the board as it is; of the others only the session's entry changes
 unfoldable pub boardAfter : Call → Board → Board
 boardAfter (opens u s set) b = store b s (entryAfter (opens u s set) (entryAt b s))
 boardAfter (adds u s set) b = store b s (entryAfter (adds u s set) (entryAt b s))

@@ -2,11 +2,11 @@
 use Prim.Native.Nat.{ℕ, _≤_, _<_}
 use mathlib.Core.Path.{_≡_}
 use mathlib.Core.Bool.{false, cond, not}
-use mathlib.Core.List.{List, _∷_}
+use mathlib.Core.List.{List, [], _∷_, _++_}
 use mathlib.Core.Option.{Option, none, some}
 use lib.Dec.{ltb}
 use lib.ListN.{length, getD, set}
-use Rattle.basis.specs.Choice.{given, there, check, lowest}
+use Rattle.basis.specs.Choice.{given, there, Result, gives, refuses, Check, check, lowest, unlessRefused}
 use Rattle.seniority.specs.Inner.{Ordered, wordBits}
 use Rattle.policy.specs.Limits.{userNumbers}
 use Rattle.policy.specs.Policy.{Policy, total, sets, setOfNumber}
@@ -16,13 +16,16 @@ use Rattle.policy.specs.declared.value.Entry.{Entry}
 use Rattle.policy.specs.declared.value.SideValue.{SideValue}
 use Rattle.policy.specs.declared.value.Register.{Register}
 use Rattle.policy.specs.declared.value.PolicyValue.{PolicyValue}
-use Rattle.board.specs.Machine.{Call, sessionOf, reachOf, checks, Out}
+use Rattle.formula.specs.Truth.{Sets, at}
+use Rattle.board.specs.Machine.{Entry as SessionEntry, Call, closes, requests, sessionOf, reachOf, outOfReach, checks, setsAsked, Out}
 use Rattle.board.specs.Board.{entryAt, fits, Labels, pastEnd, grantsByLabels}
 use Rattle.board.specs.declared.Session.{Session}
 use Rattle.board.specs.declared.Board.{Board}
 use Rattle.board.specs.declared.reach.Found.{Found}
 use Rattle.board.specs.declared.rulings.Ruling.{Ruling}
 use Rattle.board.specs.declared.rulings.Ruling.the-variants.{Allowed, Refused}
+use Rattle.board.specs.declared.asking.Asked.{Asked}
+use Rattle.board.specs.declared.asking.Asked.the-variants.{Of, Refused as AskedRefused}
 use Rattle.board.specs.declared.buffers.Byte.{Byte}
 use Rattle.board.specs.declared.buffers.Byte.the-variants.{Past, At}
 
@@ -31,6 +34,10 @@ use Rattle.board.specs.declared.buffers.Byte.the-variants.{Past, At}
 abbrev pub refusalOf : Ruling → Option ℕ
 refusalOf Allowed = none
 refusalOf (Refused r) = some (numberOf r)
+
+abbrev pub askedOf : Asked → Result Sets
+askedOf (Of held object) = gives (at held object)
+askedOf (AskedRefused r) = refuses (numberOf r)
 
 abbrev pub byteOf : Byte → Option ℕ
 byteOf Past = none
@@ -66,12 +73,29 @@ unfoldable pub byteAt : List ℕ → ℕ → Option ℕ
 byteAt buffer place = cond (ltb place (length buffer)) (some (getD buffer place 0)) none
 
 -- what the labels of two sets say
-unfoldable pub lookedUp : Labels → ℕ → ℕ → ℕ → Reply
-lookedUp l a held object = cond (pastEnd l held object) (refused 20) (decided (grantsByLabels l a held object))
+unfoldable pub lookedUp : Labels → ℕ → Sets → Reply
+lookedUp l a s = cond (pastEnd l s) (refused 20) (decided (grantsByLabels l a s))
+
+-- the checks that add and drop share: those of close, then 19
+abbrev pub changeChecks : Policy → ℕ → ℕ → ℕ → Option SessionEntry → List Check
+changeChecks p u s set e = checks p (closes u s) e ++ (check 19 (outOfReach p u set) ∷ [])
+
+-- what a request comes to: the sets that it is decided on, or the lowest of 12 to 17
+unfoldable pub asked : Policy → ℕ → ℕ → ℕ → Option SessionEntry → Result Sets
+asked p s a n e = unlessRefused (checks p (requests s a n) e) (setsAsked p n e)
+
+-- the answer to it
+abbrev pub answered : Labels → ℕ → Result Sets → Reply
+answered l a (gives s) = lookedUp l a s
+answered l a (refuses n) = refused n
 
 -- the lowest refusal of a call below 20: 11, then the machine's
 unfoldable pub lower : PolicyValue → Call → Board → Option ℕ
 lower v c b = lowest (check 11 (not (fits v b)) ∷ checks (policyOf v) c (entryAt b (sessionOf c)))
+
+-- the step of a call that check 11 refuses
+abbrev pub invalid : Board → Out Board
+invalid b = record { reply = refused 11; state = b }
 
 -- a call done, with the entry that its session gets, or refused
 unfoldable pub settled : Board → ℕ → Option ℕ → Session → Out Board

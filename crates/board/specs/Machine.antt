@@ -1,5 +1,5 @@
--- The plain machine, "fed the text and the calls with the arguments listed below, and nothing of the board, the lent buffers, NU or NO".
--- Its session functions are those of source document 002, Tables 5 and 6.
+-- The plain machine, "fed the text and the calls with the arguments listed below, and nothing of the board, the lent
+-- buffers, NU or NO". Its session functions are those of source document 002, Tables 5 and 6.
 use Prim.Native.Nat.{ℕ}
 use mathlib.Core.Bool.{Bool, false, cond, not}
 use mathlib.Core.List.{List, [], _∷_}
@@ -12,7 +12,7 @@ use Rattle.policy.specs.Limits.{sessionNumbers}
 use Rattle.policy.specs.Policy.{Policy, blank, total, setOfNumber}
 use Rattle.policy.specs.Read.{Outcome, Accepted, Refused, readText}
 use Rattle.policy.specs.Answers.{Reply, done, refused, decided}
-use Rattle.formula.specs.Truth.{grants}
+use Rattle.formula.specs.Truth.{Sets, at, grants}
 use Rattle.formula.specs.Decide.{noAction}
 
 -- "(user, held set)"
@@ -76,33 +76,41 @@ ofAnother u e = given e false (λ x. not (eqb (x .user) u))
 abbrev pub outOfReach : Policy → ℕ → ℕ → Bool
 outOfReach p u set = not (within set (reachOf p u))
 
--- "A session is open while the map has its number": 16 is broken where it is, 17 where it is not
-abbrev pub changeChecks : Policy → ℕ → ℕ → ℕ → Option Entry → List Check
-changeChecks p u s set e =
+-- 16: "Open: the session is open already"; 17: "Any other session call: it is not open". "A session is open while the
+-- map has its number"
+abbrev pub isOpen : Option Entry → Bool
+isOpen e = there e
+
+-- each call's own list
+unfoldable pub checks : Policy → Call → Option Entry → List Check
+checks p (opens u s set) e =
+    check 13 (noSession s) ∷ check 14 (noUser p u) ∷ check 16 (isOpen e) ∷ check 19 (outOfReach p u set) ∷ []
+checks p (adds u s set) e =
     check 13 (noSession s)
     ∷ check 14 (noUser p u)
-    ∷ check 17 (not (there e))
+    ∷ check 17 (not (isOpen e))
     ∷ check 18 (ofAnother u e)
     ∷ check 19 (outOfReach p u set)
     ∷ []
-
-unfoldable pub checks : Policy → Call → Option Entry → List Check
-checks p (opens u s set) e =
-    check 13 (noSession s) ∷ check 14 (noUser p u) ∷ check 16 (there e) ∷ check 19 (outOfReach p u set) ∷ []
-checks p (adds u s set) e = changeChecks p u s set e
-checks p (drops u s set) e = changeChecks p u s set e
+checks p (drops u s set) e =
+    check 13 (noSession s)
+    ∷ check 14 (noUser p u)
+    ∷ check 17 (not (isOpen e))
+    ∷ check 18 (ofAnother u e)
+    ∷ check 19 (outOfReach p u set)
+    ∷ []
 checks p (closes u s) e =
-    check 13 (noSession s) ∷ check 14 (noUser p u) ∷ check 17 (not (there e)) ∷ check 18 (ofAnother u e) ∷ []
+    check 13 (noSession s) ∷ check 14 (noUser p u) ∷ check 17 (not (isOpen e)) ∷ check 18 (ofAnother u e) ∷ []
 checks p (requests s a n) e =
-    check 12 (noAction p a) ∷ check 13 (noSession s) ∷ check 15 (noObject p n) ∷ check 17 (not (there e)) ∷ []
+    check 12 (noAction p a) ∷ check 13 (noSession s) ∷ check 15 (noObject p n) ∷ check 17 (not (isOpen e)) ∷ []
 
 -- ---- a call that is not refused
 
 abbrev pub entry : ℕ → ℕ → Entry
 entry u held = record { user = u; held = held }
 
--- what becomes of the session's entry: "the map gains (user, set)"; "the held set gains or loses these values"; "the entry goes"; "the
--- map is unchanged"
+-- what becomes of the session's entry: "the map gains (user, set)"; "the held set gains or loses these values"; "the
+-- entry goes"; "the map is unchanged"
 unfoldable pub entryAfter : Call → Option Entry → Option Entry
 entryAfter (opens u s set) e = some (entry u set)
 entryAfter (adds u s set) e = given e none (λ x. some (entry (x .user) (union (x .held) set)))
@@ -113,14 +121,18 @@ entryAfter (requests s a n) e = e
 abbrev pub heldIn : Option Entry → ℕ
 heldIn e = given e 0 (λ x. x .held)
 
--- "Its answer is the refusal; else granted or denied for a request, and done for the other calls." "the machine decides by the action's
--- formula on the held set and the object's set"
+-- what a request is decided on: "the held set and the object's set"
+abbrev pub setsAsked : Policy → ℕ → Option Entry → Sets
+setsAsked p n e = at (heldIn e) (objectSet p n)
+
+-- "Its answer is the refusal; else granted or denied for a request, and done for the other calls." "the machine decides
+-- by the action's formula on the held set and the object's set"
 unfoldable pub reply : Policy → Call → Option Entry → Reply
 reply p (opens u s set) e = done
 reply p (adds u s set) e = done
 reply p (drops u s set) e = done
 reply p (closes u s) e = done
-reply p (requests s a n) e = decided (grants p a (heldIn e) (objectSet p n))
+reply p (requests s a n) e = decided (grants p a (setsAsked p n e))
 
 -- ---- a call, and a list of calls
 

@@ -1,83 +1,60 @@
-// What a request is answered: refusals 11 to 17, and then by the labels.
+// What a request comes to before any label is looked up: the sets that it is about, or one of refusals 12 to 17.
 ghost use mathlib.Core.Path.{_≡_};
-ghost use Prim.Native.Nat.{ℕ};
-ghost use Rattle.basis.specs.Choice.{there, lowest};
+ghost use Prim.Native.Nat.{ℕ, _≤_};
+ghost use lib.ListN.{getD};
 ghost use Rattle.policy.specs.Limits as limits;
 ghost use Rattle.policy.specs.Policy as policy;
-ghost use Rattle.board.specs.Machine.{requests, checks};
-ghost use Rattle.board.specs.Board.{entryOf, labelsOf, replyOf, boardStep};
-ghost use Rattle.board.specs.Inner.{refusalOf};
-use crate::Answer;
-use crate::Board;
+ghost use Rattle.policy.specs.Value.{entryPlaces, entriesOf};
+ghost use Rattle.board.specs.Board.{closed, entryOf};
+ghost use Rattle.board.specs.Inner.{FoundAs, askedOf, asked};
+use crate::SESSION_PLACES;
 use crate::Session;
-use crate::buffers;
 use crate::entries;
-use crate::fit;
 use crate::reach;
-use crate::rulings::Ruling;
-use labels::Counts;
+use crate::reach::Found;
 use policy::limits::SESSION_NUMBERS;
 use policy::refusal::Refusal;
-use policy::value::PolicyValue;
+use policy::value::Register;
 
-// Refusals 12 to 17, where the policy has so many actions and the object is registered or not.
-fn request_checks(
-    actions: u32,
-    entry: Session,
-    registered: bool,
-    session: u32,
-    action: u32,
-) -> Ruling
-    ensures { λ r. ⌜ ((p : policy.Policy) (n : ℕ) → actions ≡ limits.actions (p .form) → registered ≡ there (policy.setOfNumber (p .objects) n) → refusalOf r ≡ lowest (checks p (requests session action n) (entryOf entry))) ⌝ }
+// The set that the session holds and the object's set, or why the request is refused.
+pub enum Asked {
+    Of(u32, u32),
+    Refused(Refusal),
+}
+
+// A request, by how many actions there are, the session's entry and what is found for the object.
+fn judge(actions: u32, entry: Session, found: Found, session: u32, action: u32) -> Asked
+    ensures { λ r. ⌜ ((p : policy.Policy) (n : ℕ) → actions ≡ limits.actions (p .form) → FoundAs (policy.setOfNumber (p .objects) n) found → askedOf r ≡ asked p session action n (entryOf entry)) ⌝ }
 {
     if actions <= action {
-        return Ruling::Refused(Refusal::UnknownAction);
+        return Asked::Refused(Refusal::UnknownAction);
     }
     if SESSION_NUMBERS <= session {
-        return Ruling::Refused(Refusal::UnknownSession);
+        return Asked::Refused(Refusal::UnknownSession);
     }
-    if !registered {
-        return Ruling::Refused(Refusal::UnregisteredObject);
+    if !found.registered {
+        return Asked::Refused(Refusal::UnregisteredObject);
     }
     if entry.live {
-        Ruling::Allowed
+        Asked::Of(entry.held, found.set)
     } else {
-        Ruling::Refused(Refusal::SessionNotOpen)
+        Asked::Refused(Refusal::SessionNotOpen)
     }
 }
 
-// The answer to a request.
+// A request on these sessions and objects.
 pub fn ask(
-    board: Board,
-    policy: PolicyValue,
-    counts: Counts,
-    users: &[u8],
-    objects: &[u8],
-    table: &[u8],
+    sessions: [Session; SESSION_PLACES],
+    objects: Register,
+    actions: u32,
     session: u32,
     action: u32,
     object: u32,
-) -> Answer
-    ensures { λ r. ⌜ replyOf r ≡ boardStep policy (labelsOf counts (now (users .entry)) (now (objects .entry)) (now (table .entry))) (requests session action object) board .reply ⌝ }
+) -> Asked
+    requires { ⌜ objects .count ≤ entryPlaces ⌝ }
+    ensures { λ r. ⌜ ((p : policy.Policy) → p .objects ≡ entriesOf objects → actions ≡ limits.actions (p .form) → askedOf r ≡ asked p session action object (entryOf (getD sessions session closed))) ⌝ }
 {
-    if !fit::fits(policy, board) {
-        return Answer::Refused(Refusal::InvalidState);
-    }
-    let registered = policy.objects;
-    let found = reach::object_of(registered, object);
-    let entry = entries::at(board, session);
-    let actions = policy::limits::actions(policy.form);
-    let ruling = request_checks(actions, entry, found.registered, session, action);
-    match ruling {
-        Ruling::Allowed => buffers::look_up(
-            counts,
-            users,
-            objects,
-            table,
-            action,
-            entry.held,
-            found.set,
-        ),
-        Ruling::Refused(why) => Answer::Refused(why),
-    }
+    let entry = entries::at(sessions, session);
+    let found = reach::object_of(objects, object);
+    judge(actions, entry, found, session, action)
 }

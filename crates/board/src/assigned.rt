@@ -1,4 +1,4 @@
-// What each user number is assigned: the register of users by number, so that a whole board is looked up at the cost of one pass.
+// What each user number is assigned: the users by number, so that one pass over them serves a whole board.
 ghost use mathlib.Core.Path.{_≡_};
 ghost use Prim.Native.Nat.{_≤_};
 ghost use Rattle.policy.specs.Value.{entryPlaces, entriesOf};

@@ -1,12 +1,14 @@
 // The three lent buffers of a request: each is read at one place.
 ghost use mathlib.Core.Path.{_≡_};
+ghost use Rattle.formula.specs.Truth.{at};
+ghost use Rattle.labels.specs.Compile.{lent};
 ghost use Rattle.board.specs.Board.{labelsOf, replyOf};
-ghost use Rattle.board.specs.Inner.{byteOf, byteAt, lookedUp};
+ghost use Rattle.board.specs.Inner.{askedOf, answered, byteOf, byteAt, lookedUp};
 use crate::Answer;
+use crate::asking::Asked;
 use labels::Counts;
 use labels::ObjectLabel;
 use labels::UserLabel;
-use labels::compiler;
 use policy::refusal::Refusal;
 
 // The byte at a place of a buffer, where the place is in it.
@@ -27,7 +29,7 @@ fn byte_at(buffer: &[u8], place: usize) -> Byte
 }
 
 // What the labels of two sets say of an action.
-pub fn look_up(
+fn look_up(
     counts: Counts,
     users: &[u8],
     objects: &[u8],
@@ -36,7 +38,7 @@ pub fn look_up(
     held: u32,
     object: u32,
 ) -> Answer
-    ensures { λ r. ⌜ replyOf r ≡ lookedUp (labelsOf counts (now (users .entry)) (now (objects .entry)) (now (table .entry))) action held object ⌝ }
+    ensures { λ r. ⌜ replyOf r ≡ lookedUp (labelsOf counts (lent (now (users .entry)) (now (objects .entry)) (now (table .entry)))) action (at held object) ⌝ }
 {
     let Byte::At(user_label) = byte_at(users, held as usize) else {
         return Answer::Refused(Refusal::BufferTooShort);
@@ -44,7 +46,7 @@ pub fn look_up(
     let Byte::At(object_label) = byte_at(objects, object as usize) else {
         return Answer::Refused(Refusal::BufferTooShort);
     };
-    let place = compiler::place(
+    let place = labels::place(
         UserLabel(user_label),
         ObjectLabel(object_label),
         counts.objects,
@@ -56,5 +58,22 @@ pub fn look_up(
         Answer::Granted
     } else {
         Answer::Denied
+    }
+}
+
+// The answer to a request: what the labels of its two sets say, or why it is refused.
+pub fn answer(
+    counts: Counts,
+    users: &[u8],
+    objects: &[u8],
+    table: &[u8],
+    action: u32,
+    asked: Asked,
+) -> Answer
+    ensures { λ r. ⌜ replyOf r ≡ answered (labelsOf counts (lent (now (users .entry)) (now (objects .entry)) (now (table .entry)))) action (askedOf asked) ⌝ }
+{
+    match asked {
+        Asked::Of(held, object) => look_up(counts, users, objects, table, action, held, object),
+        Asked::Refused(why) => Answer::Refused(why),
     }
 }

@@ -1,8 +1,8 @@
-// The entries of a board, one for each session number.
+// The sessions of a board: an entry for each session number.
 ghost use mathlib.Core.Path.{_≡_};
-ghost use Prim.Native.Nat.{_<_};
-ghost use Rattle.board.specs.Board.{closed, entryOf, entryAt};
-use crate::Board;
+ghost use lib.ListN.{getD};
+ghost use Rattle.board.specs.Board.{closed};
+use crate::SESSION_PLACES;
 use crate::Session;
 use policy::limits::SESSION_NUMBERS;
 
@@ -18,12 +18,12 @@ pub fn closed() -> Session
 }
 
 // The entry of a session number; a closed one past the last.
-pub fn at(board: Board, session: u32) -> Session
-    ensures { λ r. ⌜ entryOf r ≡ entryAt board session ⌝ }
+pub fn at(sessions: [Session; SESSION_PLACES], session: u32) -> Session
+    ensures { λ r. ⌜ r ≡ getD sessions session closed ⌝ }
 {
     if session < SESSION_NUMBERS {
         let i = session as usize;
-        board.sessions[i]
+        sessions[i]
     } else {
         closed()
     }

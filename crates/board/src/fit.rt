@@ -1,11 +1,11 @@
-// Check 11: a valid policy value, and on the board no session whose user is not registered or whose set is out of reach.
+// Check 11: a valid policy value, and no session whose user is not registered or whose set is out of reach.
 ghost use mathlib.Core.Path.{_≡_};
 ghost use mathlib.Core.Bool.{true};
 ghost use Prim.Native.Nat.{_<_};
 ghost use Rattle.basis.specs.Choice.{given};
 ghost use Rattle.policy.specs.Policy as policy;
 ghost use Rattle.policy.specs.Value.{entriesOf, sideOf};
-ghost use Rattle.board.specs.Board.{entryOf, entryFits, boardFits, fits};
+ghost use Rattle.board.specs.Board.{entryOf, entryFits, sessionsFit, fits};
 ghost use Rattle.board.specs.Inner.{FoundAs, Rising, Reachable};
 use crate::Board;
 use crate::SESSION_PLACES;
@@ -30,11 +30,10 @@ fn entry_fits(found: Found, side: SideValue, entry: Session) -> bool
 }
 
 // Whether each entry fits.
-fn entries_fit(users: Register, side: SideValue, board: Board) -> bool
+fn sessions_fit(users: Register, side: SideValue, sessions: [Session; SESSION_PLACES]) -> bool
     requires { ⌜ Reachable side users ⌝ }
-    ensures { λ r. ⌜ ((p : policy.Policy) → p .users ≡ entriesOf users → p .user ≡ sideOf side → r ≡ boardFits p board) ⌝ }
+    ensures { λ r. ⌜ ((p : policy.Policy) → p .users ≡ entriesOf users → p .user ≡ sideOf side → r ≡ sessionsFit p sessions) ⌝ }
 {
-    let sessions = board.sessions;
     let table = assigned::table(users);
     let mut i: usize = 0;
     while i < SESSION_PLACES {
@@ -56,7 +55,8 @@ pub fn fits(policy: PolicyValue, board: Board) -> bool
     if validity::check(policy) {
         let users = policy.users;
         let side = policy.user;
-        entries_fit(users, side, board)
+        let sessions = board.sessions;
+        sessions_fit(users, side, sessions)
     } else {
         false
     }

@@ -17,7 +17,8 @@ fn extend(s: u32, a: u32, b: u32) -> u32
     if sets::holds(s, a) { s | (1 << b) } else { s }
 }
 
-// s and all juniors of its values, by the first n lines. Lines rise, so the last comes first: each senior is settled before its juniors.
+// s and all juniors of its values, by the first n lines. Lines rise, so the last comes first: each senior is settled
+// before its juniors.
 pub fn with_juniors(lines: [Direct; LINE_PLACES], n: usize, s: u32) -> u32
     requires { ⌜ (n ≤ linePlaces) × Ordered wordBits (take n lines) ⌝ }
     ensures { λ r. ⌜ ((v : ℕ) → has r v ≡ heldOrSenior (take n lines) s v) ⌝ }

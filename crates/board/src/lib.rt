@@ -1,18 +1,9 @@
 // The board of staff sessions: its five calls.
 ghost use mathlib.Core.Path.{_≡_};
-ghost use mathlib.Core.Option.{none};
-ghost use Prim.Native.Nat.{_<_};
 ghost use Rattle.policy.specs.Answers.{replyNumber};
-ghost use Rattle.policy.specs.Limits.{sessionNumbers};
+ghost use Rattle.labels.specs.Compile.{lent};
 ghost use Rattle.board.specs.Machine.{opens, adds, drops, closes, requests};
-ghost use Rattle.board.specs.Board.{Labels, labelsOf, replyOf, outOf, fresh, boardStep};
-ghost use Rattle.board.specs.Inner.{refusalOf, settled};
-use crate::rulings::Ruling;
-use labels::Counts;
-use policy::limits::SESSION_NUMBERS;
-use policy::refusal;
-use policy::refusal::Refusal;
-use policy::value::PolicyValue;
+ghost use Rattle.board.specs.Board.{Labels, labelsOf, callOf, replyOf, outOf, fresh, boardStep};
 
 mod asking;
 mod assigned;
@@ -22,6 +13,13 @@ mod fit;
 mod juniors;
 mod reach;
 mod rulings;
+mod steps;
+
+use labels::Counts;
+use policy::limits::SESSION_NUMBERS;
+use policy::refusal;
+use policy::refusal::Refusal;
+use policy::value::PolicyValue;
 
 // A board has a place for each session number.
 const SESSION_PLACES: usize = SESSION_NUMBERS as usize;
@@ -40,7 +38,16 @@ pub struct Board {
     pub sessions: [Session; SESSION_PLACES],
 }
 
-// What a session call answers.
+// A call, with its arguments in document 01's order.
+pub enum Call {
+    Open(u32, u32, u32),
+    Add(u32, u32, u32),
+    Drop(u32, u32, u32),
+    Close(u32, u32),
+    Request(u32, u32, u32),
+}
+
+// What a call answers.
 pub enum Answer {
     Done,
     Granted,
@@ -75,81 +82,88 @@ pub fn fresh() -> Board
     Board { sessions: sessions }
 }
 
-// The step of a call that changes a session: refused, or done with the entry that the session gets.
-fn settle(board: Board, session: u32, ruling: Ruling, entry: Session) -> Step
-    requires { ⌜ (refusalOf ruling ≡ none → session < sessionNumbers) ⌝ }
-    ensures { λ r. ⌜ outOf r ≡ settled board session (refusalOf ruling) entry ⌝ }
-{
-    match ruling {
-        Ruling::Allowed => {
-            let i = session as usize;
-            let mut after = board;
-            after.sessions[i] = entry;
-            Step {
-                answer: Answer::Done,
-                board: after,
-            }
-        }
-        Ruling::Refused(why) => Step {
-            answer: Answer::Refused(why),
-            board: board,
-        },
-    }
-}
-
 // Opens a session of the user that holds the set.
 pub fn open(board: Board, policy: PolicyValue, user: u32, session: u32, set: u32) -> Step
     ensures { λ r. ⌜ ((l : Labels) → outOf r ≡ boardStep policy l (opens user session set) board) ⌝ }
 {
-    let ruling = rulings::of_open(board, policy, user, session, set);
-    let entry = Session {
+    if !fit::fits(policy, board) {
+        return steps::invalid(board);
+    }
+    let sessions = board.sessions;
+    let entry = entries::at(sessions, session);
+    let users = policy.users;
+    let side = policy.user;
+    let reach = reach::of(users, side, user);
+    let ruling = rulings::of_open(entry, reach, session, set);
+    let next = Session {
         live: true,
         user: user,
         held: set,
     };
-    settle(board, session, ruling, entry)
+    steps::settle(board, session, ruling, next)
 }
 
 // The session's held set gains these values.
 pub fn add(board: Board, policy: PolicyValue, user: u32, session: u32, set: u32) -> Step
     ensures { λ r. ⌜ ((l : Labels) → outOf r ≡ boardStep policy l (adds user session set) board) ⌝ }
 {
-    let ruling = rulings::of_change(board, policy, user, session, set);
-    let before = entries::at(board, session);
-    let held = sets::union(before.held, set);
-    let entry = Session {
+    if !fit::fits(policy, board) {
+        return steps::invalid(board);
+    }
+    let sessions = board.sessions;
+    let entry = entries::at(sessions, session);
+    let users = policy.users;
+    let side = policy.user;
+    let reach = reach::of(users, side, user);
+    let ruling = rulings::of_add(entry, reach, user, session, set);
+    let held = sets::union(entry.held, set);
+    let next = Session {
         live: true,
-        user: before.user,
+        user: entry.user,
         held: held,
     };
-    settle(board, session, ruling, entry)
+    steps::settle(board, session, ruling, next)
 }
 
 // The session's held set loses these values.
 pub fn drop(board: Board, policy: PolicyValue, user: u32, session: u32, set: u32) -> Step
     ensures { λ r. ⌜ ((l : Labels) → outOf r ≡ boardStep policy l (drops user session set) board) ⌝ }
 {
-    let ruling = rulings::of_change(board, policy, user, session, set);
-    let before = entries::at(board, session);
-    let held = sets::minus(before.held, set);
-    let entry = Session {
+    if !fit::fits(policy, board) {
+        return steps::invalid(board);
+    }
+    let sessions = board.sessions;
+    let entry = entries::at(sessions, session);
+    let users = policy.users;
+    let side = policy.user;
+    let reach = reach::of(users, side, user);
+    let ruling = rulings::of_drop(entry, reach, user, session, set);
+    let held = sets::minus(entry.held, set);
+    let next = Session {
         live: true,
-        user: before.user,
+        user: entry.user,
         held: held,
     };
-    settle(board, session, ruling, entry)
+    steps::settle(board, session, ruling, next)
 }
 
 // Closes the session: its entry goes, and its number may be opened again.
 pub fn close(board: Board, policy: PolicyValue, user: u32, session: u32) -> Step
     ensures { λ r. ⌜ ((l : Labels) → outOf r ≡ boardStep policy l (closes user session) board) ⌝ }
 {
-    let ruling = rulings::of_close(board, policy, user, session);
+    if !fit::fits(policy, board) {
+        return steps::invalid(board);
+    }
+    let sessions = board.sessions;
+    let entry = entries::at(sessions, session);
+    let users = policy.users;
+    let found = reach::set_of(users, user);
+    let ruling = rulings::of_close(entry, found.registered, user, session);
     let gone = entries::closed();
-    settle(board, session, ruling, gone)
+    steps::settle(board, session, ruling, gone)
 }
 
-// Grants or denies an action on an object by the labels of the held set and the object's set: reads one byte of each lent buffer.
+// Grants or denies by the labels of the held set and the object's set: reads one byte of each lent buffer.
 pub fn request(
     board: Board,
     policy: PolicyValue,
@@ -161,21 +175,49 @@ pub fn request(
     action: u32,
     object: u32,
 ) -> Step
-    ensures { λ r. ⌜ outOf r ≡ boardStep policy (labelsOf counts (now (users .entry)) (now (objects .entry)) (now (table .entry))) (requests session action object) board ⌝ }
+    ensures { λ r. ⌜ outOf r ≡ boardStep policy (labelsOf counts (lent (now (users .entry)) (now (objects .entry)) (now (table .entry)))) (requests session action object) board ⌝ }
 {
-    let answer = asking::ask(
-        board,
-        policy,
-        counts,
-        users,
-        objects,
-        table,
-        session,
-        action,
-        object,
-    );
+    if !fit::fits(policy, board) {
+        return steps::invalid(board);
+    }
+    let sessions = board.sessions;
+    let registered = policy.objects;
+    let actions = policy::limits::actions(policy.form);
+    let asked = asking::ask(sessions, registered, actions, session, action, object);
+    let answer = buffers::answer(counts, users, objects, table, action, asked);
     Step {
         answer: answer,
         board: board,
+    }
+}
+
+// One call, by its case.
+pub fn take(
+    board: Board,
+    policy: PolicyValue,
+    counts: Counts,
+    users: &[u8],
+    objects: &[u8],
+    table: &[u8],
+    call: Call,
+) -> Step
+    ensures { λ r. ⌜ outOf r ≡ boardStep policy (labelsOf counts (lent (now (users .entry)) (now (objects .entry)) (now (table .entry)))) (callOf call) board ⌝ }
+{
+    match call {
+        Call::Open(user, session, set) => open(board, policy, user, session, set),
+        Call::Add(user, session, set) => add(board, policy, user, session, set),
+        Call::Drop(user, session, set) => drop(board, policy, user, session, set),
+        Call::Close(user, session) => close(board, policy, user, session),
+        Call::Request(session, action, object) => request(
+            board,
+            policy,
+            counts,
+            users,
+            objects,
+            table,
+            session,
+            action,
+            object,
+        ),
     }
 }

@@ -67,7 +67,7 @@ pub fn of(users: Register, side: SideValue, user: u32) -> Found
     }
 }
 
-// Whether what is found is registered and the set in its reach. What is assigned is in reach without a look at seniority.
+// Whether what is found is registered and the set in its reach. Assigned values need no look at seniority.
 pub fn covers(found: Found, side: SideValue, set: u32) -> bool
     requires { ⌜ Rising side × (found .set < policy.sets (sideOf side)) ⌝ }
     ensures { λ r. ⌜ r ≡ (found .registered && within set (reach (sideOf side .lines) (policy.total (sideOf side)) (found .set))) ⌝ }

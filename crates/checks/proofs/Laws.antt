@@ -1,4 +1,5 @@
--- What the answers of the checks rest on: sums and attributes place by place, and one law for each answer of a width, a pair and a set.
+-- What the answers of the checks rest on: sums and attributes place by place, and one law for each answer of a width, a
+-- pair and a set.
 use Prim.Native.Nat.{ℕ, suc, _+_, _-_, _^_, _≤_, _<_}
 use mathlib.Core.Path.{_≡_, refl}
 use mathlib.Core.Bool.{false, cond, and-true, and-false, or-false}

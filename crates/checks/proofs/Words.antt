@@ -1,4 +1,5 @@
--- What the answers about a rule's words rest on: one law for each answer about a word, and for each turn of the loops over the first n words.
+-- What the answers about a rule's words rest on: one law for each answer about a word, and for each turn of the loops
+-- over the first n words.
 use Prim.Native.Nat.{ℕ, _+_, _-_, _≤_, _<_}
 use mathlib.Core.Path.{_≡_, refl, sym, _∙_}
 use mathlib.Core.Bool.{Bool, true, false, _&&_}

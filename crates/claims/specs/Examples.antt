@@ -15,9 +15,11 @@ use Rattle.policy.specs.Text.{textOf}
 use Rattle.policy.specs.Value.{valueOf}
 use Rattle.policy.specs.Answers.{Reply, done, granted, denied, refused}
 use Rattle.tuples.specs.Tuples.{tuples, decideByTuples}
-use Rattle.labels.specs.Compile.{NU, NO, userResult, objectResult, tableResult}
+use Rattle.labels.specs.Compile.{lent, NU, NO, userResult, objectResult, tableResult}
+use Rattle.report.specs.Report.{report}
 use Rattle.board.specs.Machine.{Call, opens, adds, drops, requests, run, machine, policyIn}
-use Rattle.board.specs.Board.{Labels, boardStep, fresh}
+use Rattle.board.specs.Board.{boardStep, fresh}
+use Rattle.claims.specs.Demand3.{withCounts}
 
 -- ---- what the definitions say, as text
 
@@ -41,21 +43,14 @@ replies rs = join (byte " ") (map reply rs)
 abbrev pub byMachine : String → List Call → List ℕ
 byMachine text calls = replies (machine (bytes text) calls .replies)
 
-unfoldable pub compiledLabels : Policy → Labels
-compiledLabels p =
-    record {
-      buffers = record { users = userResult p; objects = objectResult p; table = tableResult p };
-      nu = NU p;
-      no = NO p;
-    }
-
 abbrev pub policyIs : String → Policy
 policyIs text = policyIn (readText (bytes text))
 
 abbrev pub onBoard : String → List Call → List ℕ
 onBoard text calls =
     let p = policyIs text in
-    replies (run (boardStep (valueOf p) (compiledLabels p)) calls fresh .replies)
+    let l = withCounts p (lent (userResult p) (objectResult p) (tableResult p)) in
+    replies (run (boardStep (valueOf p) l) calls fresh .replies)
 
 -- ---- the table
 
@@ -135,8 +130,16 @@ falseExamples =
     ∷ example (numbers (NU q ∷ NO q ∷ [])) "2,3"
     ∷ []
 
+-- what the lister writes for the sample text, and for one that is refused
+abbrev pub listerExamples : List Example
+listerExamples =
+    example (report (readText (bytes sample)))
+    "labels,3,2\naction,0,3\ntuple,0,1,1\ntuple,0,2,1\ntuple,0,3,1\naction,3,4\ntuple,3,0,0\ntuple,3,0,1\ntuple,3,1,0\ntuple,3,1,1\n"
+    ∷ example (report (readText (bytes ""))) "refused,10,0\n"
+    ∷ []
+
 abbrev pub table : List Example
-table = compiledExamples ++ (sessionExamples ++ (edgeExamples ++ falseExamples))
+table = compiledExamples ++ (sessionExamples ++ (edgeExamples ++ (falseExamples ++ listerExamples)))
 
 abbrev pub holds : Example → Bool
 holds e = same eqb (e .found) (e .expected)

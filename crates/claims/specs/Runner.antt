@@ -10,12 +10,12 @@ use Rattle.basis.specs.Lists.{over}
 use Rattle.policy.specs.Policy.{Policy}
 use Rattle.policy.specs.Read.{Accepted, readText}
 use Rattle.policy.specs.Value.{valueOf}
-use Rattle.labels.specs.Compile.{Buffers, tooShort}
+use Rattle.labels.specs.Compile.{Buffers, tooShort, compileBuffers}
 use Rattle.board.specs.Machine.{Map, Ran, machine}
 use Rattle.board.specs.Board.{entryAt}
 use Rattle.runner.specs.Calls.{itemsIn, callsIn}
 use Rattle.runner.specs.Run.{bytesOf, answerCount, answerBuffer, boardAfterRun}
-use Rattle.claims.specs.Demand3.{labelsOf}
+use Rattle.claims.specs.Demand3.{withCounts}
 
 -- the machine, fed the text and those items of the list that are calls
 abbrev pub machineRun : List ℕ → List ℕ → Ran Map
@@ -23,8 +23,8 @@ machineRun t numbers = machine t (callsIn (itemsIn numbers))
 
 pub record Run (t : List ℕ) (p : Policy) (b : Buffers) (numbers buffer : List ℕ) : Type 0 where
   pub count : answerCount numbers buffer ≡ gives (length (itemsIn numbers))
-  pub answers : answerBuffer (valueOf p) (labelsOf p b) numbers buffer ≡ over (bytesOf numbers (machineRun t numbers)) buffer
-  pub entries : (k : ℕ) → entryAt (boardAfterRun (valueOf p) (labelsOf p b) numbers buffer) k ≡ machineRun t numbers .state k
+  pub answers : answerBuffer (valueOf p) (withCounts p (compileBuffers (valueOf p) b)) numbers buffer ≡ over (bytesOf numbers (machineRun t numbers)) buffer
+  pub entries : (k : ℕ) → entryAt (boardAfterRun (valueOf p) (withCounts p (compileBuffers (valueOf p) b)) numbers buffer) k ≡ machineRun t numbers .state k
 
 abbrev pub Claim : Type 0
 Claim =

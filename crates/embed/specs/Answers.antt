@@ -1,6 +1,5 @@
 -- The numbers that answers cross as.
 use Prim.Native.Nat.{ℕ}
-use mathlib.Core.List.{List}
 use Rattle.basis.specs.Choice.{given, Result, gives, refuses}
 use Rattle.policy.specs.Read.{Outcome}
 use Rattle.policy.specs.Answers.{numberOf, replyNumber, refusalIn, valueIn}
@@ -8,7 +7,6 @@ use Rattle.labels.specs.declared.Counts.{Counts}
 use Rattle.labels.specs.declared.Apartness.{Apartness}
 use Rattle.labels.specs.declared.Apartness.the-variants.{Alike, Apart, Refused}
 use Rattle.board.specs.Machine.{Out}
-use Rattle.board.specs.Board.{Labels, labelsOf}
 use Rattle.board.specs.declared.Board.{Board}
 use Rattle.packing.specs.Packed.{packedPolicy}
 use Rattle.embed.specs.declared.packed.PackedReading.{PackedReading}
@@ -45,7 +43,3 @@ separation (Refused r) = record { answer = numberOf r; action = 0; object = 0 }
 -- the answer's number and the board
 abbrev pub packedStep : Out Board → PackedStep
 packedStep o = record { answer = replyNumber (o .reply); board = o .state }
-
--- the lent buffers with NU and NO as two numbers
-abbrev pub labelsWith : ℕ → ℕ → List ℕ → List ℕ → List ℕ → Labels
-labelsWith m n users objects table = labelsOf (record { users = m; objects = n }) users objects table

@@ -10,9 +10,9 @@ ghost use Rattle.labels.specs.Compile.{lent, compile, compileBuffers};
 ghost use Rattle.labels.specs.Apart.{Tells};
 ghost use Rattle.labels.specs.declared.Apartness.{Apartness};
 ghost use Rattle.board.specs.Machine.{opens, adds, drops, closes, requests};
-ghost use Rattle.board.specs.Board.{Labels, fresh, boardStep};
+ghost use Rattle.board.specs.Board.{Labels, labelsOf, fresh, boardStep};
 ghost use Rattle.packing.specs.Packed.{unpackedPolicy};
-ghost use Rattle.embed.specs.Answers.{packedReading, counted, packedCounts, separation, packedStep, labelsWith};
+ghost use Rattle.embed.specs.Answers.{packedReading, counted, packedCounts, separation, packedStep};
 
 mod answer;
 pub mod packed;
@@ -99,12 +99,7 @@ pub extern "C" fn helvemoik_compile(
     ensures answer { λ r. ⌜ r ≡ packedCounts (compile (unpackedPolicy policy) (lent (now (users .entry)) (now (objects .entry)) (now (table .entry)))) ⌝ }
     ensures buffers { λ r. ⌜ lent (now (users .exit)) (now (objects .exit)) (now (table .exit)) ≡ compileBuffers (unpackedPolicy policy) (lent (now (users .entry)) (now (objects .entry)) (now (table .entry))) ⌝ }
 {
-    answer::counts(labels::compiler::compile(
-        packing::unpack::unpack(policy),
-        users,
-        objects,
-        table,
-    ))
+    answer::counts(labels::compile(packing::unpack::unpack(policy), users, objects, table))
 }
 
 // Whether something tells two user sets apart.
@@ -112,7 +107,7 @@ pub extern "C" fn helvemoik_compile(
 pub extern "C" fn helvemoik_apart(policy: PackedPolicy, one: u32, other: u32) -> Separation
     ensures { λ r. ⌜ ((a : Apartness) × Tells (unpackedPolicy policy) one other a × (r ≡ separation a)) ⌝ }
 {
-    answer::separation(labels::apart::apart(packing::unpack::unpack(policy), one, other))
+    answer::separation(labels::apart(packing::unpack::unpack(policy), one, other))
 }
 
 // A board that holds no session.
@@ -192,7 +187,7 @@ pub extern "C" fn helvemoik_request(
     action: u32,
     object: u32,
 ) -> PackedStep
-    ensures { λ r. ⌜ r ≡ packedStep (boardStep (unpackedPolicy policy) (labelsWith nu «no» (now (users .entry)) (now (objects .entry)) (now (table .entry))) (requests session action object) board) ⌝ }
+    ensures { λ r. ⌜ r ≡ packedStep (boardStep (unpackedPolicy policy) (labelsOf (record { users = nu; objects = «no» }) (lent (now (users .entry)) (now (objects .entry)) (now (table .entry)))) (requests session action object) board) ⌝ }
 {
     let counts = Counts {
         users: nu,

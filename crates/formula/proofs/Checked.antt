@@ -18,7 +18,7 @@ use Rattle.policy.proofs.Parts.{SideParts, Parts, parts, whole}
 use Rattle.policy.proofs.Bounds.{WithinSide, total-few, lines-ordered, rule-bounds, parts-within}
 use Rattle.policy.proofs.Values.{side-value}
 use Rattle.policy.proofs.Valid.{valid-stored}
-use Rattle.formula.specs.Lane.{SideFits, RuleFits, RulesFit, ValueFits}
+use Rattle.formula.specs.Inner.Fits.{SideFits, RuleFits, RulesFit, ValueFits}
 
 side-fits : (form : ℕ) (s : Side) → SideParts (values form) s → WithinSide s → SideFits (sideValue s)
 unfolding sideValue

@@ -10,7 +10,7 @@ use Rattle.words.specs.declared.Word.the-variants.{Holds}
 use Rattle.words.specs.declared.Holding.{Holding}
 use Rattle.words.specs.declared.Holding.the-variants.{User, Object}
 use Rattle.policy.specs.Policy.{Side, Policy}
-use Rattle.formula.specs.Truth.{step, run, truth}
+use Rattle.formula.specs.Truth.{at, step, run, truth}
 
 -- on both sides three values, 2 senior to 1 and 1 to 0
 abbrev threeValues : Side
@@ -20,21 +20,21 @@ abbrev policy : Policy
 policy = record { form = 1; user = threeValues; object = threeValues; users = []; objects = []; rules = [] }
 
 -- the truth of one word where both sets hold the same one value, given as its set
-abbrev at : Holding → ℕ → Bool
-at h set = truth policy set set (Holds h ∷ [])
+abbrev both : Holding → ℕ → Bool
+both h set = truth policy (at set set) (Holds h ∷ [])
 
-pub senior-user : at (User 1) 4 ≡ true
+pub senior-user : both (User 1) 4 ≡ true
 unfolding any chain senior heldOrSenior heldOrJunior step run truth
 senior-user = refl
 
-pub junior-user : at (User 1) 1 ≡ false
+pub junior-user : both (User 1) 1 ≡ false
 unfolding any chain senior heldOrSenior heldOrJunior step run truth
 junior-user = refl
 
-pub junior-object : at (Object 1) 1 ≡ true
+pub junior-object : both (Object 1) 1 ≡ true
 unfolding any chain senior heldOrSenior heldOrJunior step run truth
 junior-object = refl
 
-pub senior-object : at (Object 1) 4 ≡ false
+pub senior-object : both (Object 1) 4 ≡ false
 unfolding any chain senior heldOrSenior heldOrJunior step run truth
 senior-object = refl

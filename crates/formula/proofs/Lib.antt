@@ -1,7 +1,8 @@
-pub mod Attributes
+pub mod Widths
 pub mod Vectors
 pub mod Stack
-pub mod Rows
+pub mod Granting
+pub mod Numbering
 pub mod Checked
 pub mod Answers
 pub mod Examples

@@ -11,8 +11,8 @@ use Rattle.sets.specs.Set.{has}
 use Rattle.sets.proofs.Laws.{has-zero}
 use Rattle.policy.specs.Policy.{Policy}
 use Rattle.policy.specs.declared.value.Slot.{Slot}
-use Rattle.formula.specs.Truth.{top, below, step, run}
-use Rattle.formula.specs.Lane.{wordsOf, column}
+use Rattle.formula.specs.Truth.{Sets, top, below, step, run}
+use Rattle.formula.specs.Inner.Lane.{wordsOf, column}
 
 column-set : (st : List ℕ) (n x d k : ℕ) → d ≤ n → column (set st n x) d k ≡ column st d k
 unfolding column
@@ -46,19 +46,19 @@ module _ (st : List ℕ) where
 
 -- ---- one word more
 
-module _ (p : Policy) (u o : ℕ) where
+module _ (p : Policy) (s : Sets) where
   run-next : (ws : List Slot) (z : Slot) (i : ℕ) (bs : List Bool) → i < length ws
-      → step p u o (getD ws i z .word) (run p u o (wordsOf i ws) bs) ≡ run p u o (wordsOf (i + 1) ws) bs
+      → step p s (getD ws i z .word) (run p s (wordsOf i ws) bs) ≡ run p s (wordsOf (i + 1) ws) bs
   unfolding run
   run-next [] z i bs h = absurd (omega arith)
   run-next (w ∷ ws) z zero bs h = refl
   run-next (w ∷ ws) z (suc i) bs h =
-      let e : suc i + 1 ≡ suc (i + 1) = omega arith in rw e (run-next ws z i (step p u o (w .word) bs) (omega arith))
+      let e : suc i + 1 ≡ suc (i + 1) = omega arith in rw e (run-next ws z i (step p s (w .word) bs) (omega arith))
 
   -- a lane in which the stack was what i words leave, after the next word
   pub column-next : (ws : List Slot) (z : Slot) (st : List ℕ) (k i d e x : ℕ) → i < length ws → e < length st
-      → column st d k ≡ run p u o (wordsOf i ws) []
-      → has x k ∷ column st e k ≡ step p u o (getD ws i z .word) (column st d k)
-      → column (set st e x) (e + 1) k ≡ run p u o (wordsOf (i + 1) ws) []
+      → column st d k ≡ run p s (wordsOf i ws) []
+      → has x k ∷ column st e k ≡ step p s (getD ws i z .word) (column st d k)
+      → column (set st e x) (e + 1) k ≡ run p s (wordsOf (i + 1) ws) []
   column-next ws z st k i d e x h g old new =
-      column-push st e x k g ∙ new ∙ ap (step p u o (getD ws i z .word)) old ∙ run-next ws z i [] h
+      column-push st e x k g ∙ new ∙ ap (step p s (getD ws i z .word)) old ∙ run-next ws z i [] h

@@ -21,8 +21,8 @@ use Rattle.sets.proofs.Laws.{differs, has-xor, has-meet, has-union, has-none, h
 use Rattle.sets.proofs.Count.{has-shifted}
 use Rattle.seniority.specs.Inner.{extended}
 use Rattle.seniority.proofs.Laws.{has-extended}
-use Rattle.formula.specs.Lane.{lanes, Plain, Stands, extendedLanes}
 use Rattle.policy.specs.Limits.{mostValues}
+use Rattle.formula.specs.Inner.Lane.{laneBits, lanes, vectorPlaces, Plain, Stands, extendedLanes}
 
 -- ---- every lane at once
 
@@ -66,7 +66,7 @@ abbrev pub lows : List ℕ
 lows = 12297829382473034410 ∷ 14757395258967641292 ∷ 17361641481138401520 ∷ 18374966859414961920 ∷ 18446462603027742720 ∷ 18446744069414584320 ∷ []
 
 -- the rule of the table: entry v has bit k where k holds v
-lows-rule : (v k : ℕ) → v < 6 → k < lanes → has (getD lows v 0) k ≡ has k v
+lows-rule : (v k : ℕ) → v < laneBits → k < lanes → has (getD lows v 0) k ≡ has k v
 unfolding every
 lows-rule v k hv hk =
     agree-eq (has (getD lows v 0) k) (has k v)
@@ -74,11 +74,11 @@ lows-rule v k hv hk =
     (at (λ w x. every (λ n. agree (has x n) (has n w)) lanes) 0 lows refl v hv) k hk)
 
 module _ (b v k : ℕ) (h : k < lanes) where
-  pub low-holders : v < 6 → has (getD lows v 0) k ≡ has (b * lanes + k) v
-  low-holders l = lows-rule v k l h ∙ sym (has-low b k 6 v h l)
+  pub low-holders : v < laneBits → has (getD lows v 0) k ≡ has (b * lanes + k) v
+  low-holders l = lows-rule v k l h ∙ sym (has-low b k laneBits v h l)
 
-  pub high-holders : (x : ℕ) → 6 ≤ v → has x k ≡ has b (v - 6) → has x k ≡ has (b * lanes + k) v
-  high-holders x l e = e ∙ sym (has-high b k 6 v h l)
+  pub high-holders : (x : ℕ) → laneBits ≤ v → has x k ≡ has b (v - laneBits) → has x k ≡ has (b * lanes + k) v
+  high-holders x l e = e ∙ sym (has-high b k laneBits v h l)
 
 -- ---- bits of a part of a number
 
@@ -97,11 +97,11 @@ set-small x from n h = lt-of-lt-of-le (mod-lt (x / 2 ^ from) (pow-pos n)) (pow-m
 
 -- each half has the vectors of the values below v of the sets in the lanes
 pub record Filled (sets : ℕ → ℕ) (v : ℕ) (r : List ℕ) : Type 0 where
-  pub long : length r ≡ 2 * mostValues
+  pub long : length r ≡ vectorPlaces
   pub both : (w : ℕ) → w < v → (k : ℕ) → k < lanes
       → (has (getD r w 0) k ≡ has (sets k) w) × (has (getD r (mostValues + w) 0) k ≡ has (sets k) w)
 
-pub filled-none : (sets : ℕ → ℕ) (r : List ℕ) → length r ≡ 2 * mostValues → Filled sets 0 r
+pub filled-none : (sets : ℕ → ℕ) (r : List ℕ) → length r ≡ vectorPlaces → Filled sets 0 r
 filled-none sets r l = record { long = l; both = λ w h. absurd (omega arith) }
 
 -- one vector stored twice
@@ -139,12 +139,12 @@ filled-plain sets v r h x k g b =
 
 -- the second half has become f of the set in each lane
 pub record Grown (old new : List ℕ) (f : ℕ → ℕ) : Type 0 where
-  pub long : length new ≡ 2 * mostValues
+  pub long : length new ≡ vectorPlaces
   pub same : (v : ℕ) → v < mostValues → getD new v 0 ≡ getD old v 0
   pub lane : (k s : ℕ) → ((v : ℕ) → v < mostValues → has (getD old (mostValues + v) 0) k ≡ has s v)
       → (v : ℕ) → v < mostValues → has (getD new (mostValues + v) 0) k ≡ has (f s) v
 
-pub grown-none : (xs : List ℕ) → length xs ≡ 2 * mostValues → Grown xs xs (λ s. s)
+pub grown-none : (xs : List ℕ) → length xs ≡ vectorPlaces → Grown xs xs (λ s. s)
 grown-none xs l = record { long = l; same = λ v h. refl; lane = λ k s e. e }
 
 -- one line more: where value a is held, b is

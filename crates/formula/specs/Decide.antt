@@ -10,7 +10,7 @@ use Rattle.policy.specs.Value.{policyOf}
 use Rattle.policy.specs.Valid.{valid}
 use Rattle.policy.specs.Answers.{numberOf, Reply, granted, denied, refused, decided}
 use Rattle.policy.specs.declared.value.PolicyValue.{PolicyValue}
-use Rattle.formula.specs.Truth.{grants}
+use Rattle.formula.specs.Truth.{Sets, grants}
 use Rattle.formula.specs.declared.Decision.{Decision}
 use Rattle.formula.specs.declared.Decision.the-variants.{Granted, Denied, Refused}
 
@@ -24,11 +24,11 @@ replyOf (Refused r) = refused (numberOf r)
 abbrev pub noAction : Policy → ℕ → Bool
 noAction p a = leb (actions (p .form)) a
 
--- 19: "A set holds a value its side lacks", of a user set and an object set
-abbrev pub lacking : Policy → ℕ → ℕ → Bool
-lacking p u o = leb (sets (p .user)) u || leb (sets (p .object)) o
+-- 19: "A set holds a value its side lacks"
+abbrev pub lacking : Policy → Sets → Bool
+lacking p s = leb (sets (p .user)) (s .user) || leb (sets (p .object)) (s .object)
 
-unfoldable pub decide : PolicyValue → ℕ → ℕ → ℕ → Reply
-decide v a u o =
-    given (lowest (check 11 (not (valid v)) ∷ check 12 (noAction (policyOf v) a) ∷ check 19 (lacking (policyOf v) u o) ∷ []))
-    (decided (grants (policyOf v) a u o)) refused
+unfoldable pub decide : PolicyValue → ℕ → Sets → Reply
+decide v a s =
+    given (lowest (check 11 (not (valid v)) ∷ check 12 (noAction (policyOf v) a) ∷ check 19 (lacking (policyOf v) s) ∷ []))
+    (decided (grants (policyOf v) a s)) refused

@@ -1,3 +1,3 @@
 pub mod Truth
-pub mod Lane
 pub mod Decide
+pub mod Inner

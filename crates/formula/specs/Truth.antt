@@ -15,21 +15,31 @@ use Rattle.words.specs.declared.Comparison.the-variants.{Dominates, Equals}
 use Rattle.policy.specs.Policy.{Side, Policy, width, start, formulaIn}
 use Rattle.policy.specs.Checks.{sizes, equalWidth}
 
+-- the sets at which a formula is judged: a user set and an object set
+pub record Sets : Type 0 where
+  pub user : ℕ
+  pub object : ℕ
+
+abbrev pub at : ℕ → ℕ → Sets
+at u o = record { user = u; object = o }
+
 -- "`uV`: the user set holds V or a senior of V. `oV`: the object set holds V or a junior of V."
-abbrev pub holds : Policy → ℕ → ℕ → Holding → Bool
-holds p u o (User v) = heldOrSenior (p .user .lines) u v
-holds p u o (Object v) = heldOrJunior (p .object .lines) o v
+abbrev pub holds : Policy → Sets → Holding → Bool
+holds p s (User v) = heldOrSenior (p .user .lines) (s .user) v
+holds p s (Object v) = heldOrJunior (p .object .lines) (s .object) v
 
 -- "A place is a value's offset in its attribute": place k of attribute i is held in a set of this side
 abbrev pub placeHeld : Side → ℕ → ℕ → ℕ → Bool
 placeHeld side i set k = has set (start side i + k)
 
 -- "`dIJ`: equal width, and each place held in J is held in I. `qIJ`: equal width, the same places held."
-abbrev pub compares : Policy → ℕ → ℕ → Comparison → Bool
-compares p u o (Dominates i j) =
-    equalWidth (sizes p) i j && every (λ k. implies (placeHeld (p .object) j o k) (placeHeld (p .user) i u k)) (width (p .user) i)
-compares p u o (Equals i j) =
-    equalWidth (sizes p) i j && every (λ k. agree (placeHeld (p .object) j o k) (placeHeld (p .user) i u k)) (width (p .user) i)
+abbrev pub compares : Policy → Sets → Comparison → Bool
+compares p s (Dominates i j) =
+    equalWidth (sizes p) i j
+    && every (λ k. implies (placeHeld (p .object) j (s .object) k) (placeHeld (p .user) i (s .user) k)) (width (p .user) i)
+compares p s (Equals i j) =
+    equalWidth (sizes p) i j
+    && every (λ k. agree (placeHeld (p .object) j (s .object) k) (placeHeld (p .user) i (s .user) k)) (width (p .user) i)
 
 -- the top of the stack and what lies below it; refusal 9 keeps a formula from looking below an empty stack, where false lies
 abbrev pub top : List Bool → Bool
@@ -41,23 +51,23 @@ below [] = []
 below (b ∷ bs) = bs
 
 -- "`t`, `f`: push true, false. `n`: not. `a`, `r`: and, or of the top two."
-unfoldable pub step : Policy → ℕ → ℕ → Word → List Bool → List Bool
-step p u o True bs = true ∷ bs
-step p u o False bs = false ∷ bs
-step p u o (Holds h) bs = holds p u o h ∷ bs
-step p u o (Compares c) bs = compares p u o c ∷ bs
-step p u o Not bs = not (top bs) ∷ below bs
-step p u o And bs = (top (below bs) && top bs) ∷ below (below bs)
-step p u o Or bs = (top (below bs) || top bs) ∷ below (below bs)
+unfoldable pub step : Policy → Sets → Word → List Bool → List Bool
+step p s True bs = true ∷ bs
+step p s False bs = false ∷ bs
+step p s (Holds h) bs = holds p s h ∷ bs
+step p s (Compares c) bs = compares p s c ∷ bs
+step p s Not bs = not (top bs) ∷ below bs
+step p s And bs = (top (below bs) && top bs) ∷ below (below bs)
+step p s Or bs = (top (below bs) || top bs) ∷ below (below bs)
 
-unfoldable pub run : Policy → ℕ → ℕ → List Word → List Bool → List Bool
-run p u o [] bs = bs
-run p u o (w ∷ ws) bs = run p u o ws (step p u o w bs)
+unfoldable pub run : Policy → Sets → List Word → List Bool → List Bool
+run p s [] bs = bs
+run p s (w ∷ ws) bs = run p s ws (step p s w bs)
 
 -- a formula is true where it leaves true
-unfoldable pub truth : Policy → ℕ → ℕ → List Word → Bool
-truth p u o ws = top (run p u o ws [])
+unfoldable pub truth : Policy → Sets → List Word → Bool
+truth p s ws = top (run p s ws [])
 
 -- "An action without a rule is denied: its formula counts as false."
-unfoldable pub grants : Policy → ℕ → ℕ → ℕ → Bool
-grants p a u o = given (formulaIn (p .rules) a) false (truth p u o)
+unfoldable pub grants : Policy → ℕ → Sets → Bool
+grants p a s = given (formulaIn (p .rules) a) false (truth p s)

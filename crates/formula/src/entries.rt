@@ -1,57 +1,50 @@
 // What every action is granted at 64 pairs, and the same as table entries.
-use crate::evaluate;
-use crate::shape::Shape;
-use crate::shape::VALUES;
-use policy::limits::MOST_ACTIONS;
-use policy::value::Rules;
+ghost use Prim.Native.Nat.{ℕ, _≤_, _<_};
 ghost use mathlib.Core.Path.{_≡_};
-ghost use Prim.Native.Nat.{ℕ, _<_};
 ghost use lib.ListN.{getD};
 ghost use Rattle.sets.specs.Set.{has, setOf};
-ghost use Rattle.policy.specs.Policy.{Policy};
-ghost use Rattle.policy.specs.Value.{rulesOf};
-ghost use Rattle.formula.specs.Truth.{grants as granted};
-ghost use Rattle.formula.specs.Lane.{lanes, ShapeOf, Pair, RulesFit};
 ghost use Rattle.policy.specs.Limits.{mostActions};
+ghost use Rattle.policy.specs.Policy.{Policy};
+ghost use Rattle.formula.specs.Truth as truth;
+ghost use Rattle.formula.specs.Truth.{Sets};
+ghost use Rattle.formula.specs.Inner.Grant.{GrantsOf};
+ghost use Rattle.formula.specs.Inner.Lane.{lanes, AttributesOf, InLane};
+use crate::attributes::Attributes;
+use crate::grant;
+use crate::grant::Grants;
+use crate::side::VECTORS;
+use policy::limits::MOST_ACTIONS;
 
-// How many actions there are.
-pub const ACTIONS: usize = MOST_ACTIONS;
-
-// For each action the pairs at which it is granted: none where it has no rule. The last rule comes first, so an action's first one counts.
-pub fn grants(
-    s: Shape,
-    users: &[u64; 2 * VALUES],
-    objects: &[u64; 2 * VALUES],
-    rules: Rules,
-) -> [u64; ACTIONS]
-    requires { ⌜ ((p : Policy) × ShapeOf p s) × RulesFit rules ⌝ }
-    ensures { λ r. ⌜ ((p : Policy) (k u o a : ℕ) → ShapeOf p s → Pair p (now (users .entry)) (now (objects .entry)) k u o → p .rules ≡ rulesOf rules → a < mostActions → has (getD r a 0) k ≡ granted p a u o) ⌝ }
+// For each action the pairs at which it is granted.
+pub fn of_pairs(
+    sides: Attributes,
+    users: &[u64; VECTORS],
+    objects: &[u64; VECTORS],
+    grants: Grants,
+) -> [u64; MOST_ACTIONS]
+    requires { ⌜ ((p : Policy) × AttributesOf p sides × GrantsOf p grants) ⌝ }
+    ensures { λ r. ⌜ ((p : Policy) (k : ℕ) (s : Sets) → AttributesOf p sides → GrantsOf p grants → InLane p (now (users .entry)) (now (objects .entry)) k s → (a : ℕ) → a < grants .count → has (getD r a 0) k ≡ truth.grants p a s) ⌝ }
 {
-    let entries = rules.entries;
-    let mut r = [0u64; ACTIONS];
-    let mut i = rules.count;
-    while 0 < i {
-        i -= 1;
-        let rule = entries[i];
-        let words = rule.words;
-        let a = rule.action as usize;
-        r[a] = evaluate::truths(s, users, objects, words, rule.count);
+    let each = grants.each;
+    let n = grants.count;
+    let mut r = [0u64; MOST_ACTIONS];
+    for a in 0..n {
+        let grant = each[a];
+        r[a] = grant::where_granted(sides, users, objects, grant);
     }
     r
 }
 
-// The table entry of pair k: bit a is set where action a is granted.
-pub fn entry(grants: &[u64; ACTIONS], k: usize) -> u8
-    requires { ⌜ k < lanes ⌝ }
-    ensures { λ r. ⌜ r ≡ setOf (λ a. has (getD (now (grants .entry)) a 0) k) mostActions ⌝ }
+// The table entry of pair k: bit a is set where action a is granted, of n actions.
+pub fn entry(granted: &[u64; MOST_ACTIONS], n: usize, k: usize) -> u8
+    requires { ⌜ (n ≤ mostActions) × (k < lanes) ⌝ }
+    ensures { λ r. ⌜ r ≡ setOf (λ a. has (getD (now (granted .entry)) a 0) k) n ⌝ }
 {
     let mut r: u8 = 0;
-    let mut a: usize = 0;
-    while a < ACTIONS {
-        if (grants[a] >> k) % 2 == 1 {
+    for a in 0..n {
+        if (granted[a] >> k) % 2 == 1 {
             r += 1 << a;
         }
-        a += 1;
     }
     r
 }

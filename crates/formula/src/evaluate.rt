@@ -1,38 +1,43 @@
 // The truth of a formula at 64 pairs. Words work on a stack of numbers, one bit a pair; below an empty stack lies 0, as false does in the
 // definition.
-use crate::shape;
-use crate::shape::Shape;
-use crate::shape::VALUES;
-use crate::side::ALL;
-use policy::value::Slot;
-use policy::value::WORD_PLACES;
-use words::Comparison;
-use words::Holding;
-use words::Word;
+ghost use Prim.Native.Nat.{ℕ, _+_, _≤_, _<_};
 ghost use mathlib.Core.Path.{_≡_};
 ghost use mathlib.Core.Bool.{Bool, _&&_};
 ghost use mathlib.Core.List.{List, _∷_};
-ghost use Prim.Native.Nat.{ℕ, _+_, _≤_, _<_};
 ghost use Rattle.basis.specs.Numbers.{every};
 ghost use Rattle.sets.specs.Set.{has};
 ghost use Rattle.policy.specs.Policy.{Policy, width};
 ghost use Rattle.policy.specs.Checks.{sizes, equalWidth};
 ghost use Rattle.policy.specs.Value.{wordPlaces};
-ghost use Rattle.formula.specs.Truth.{holds, placeHeld, compares, top, below, step, truth};
-ghost use Rattle.formula.specs.Lane.{lanes, ShapeOf, Stands, Pair, wordsOf, passes, column};
 ghost use Rattle.policy.specs.Limits.{mostValues};
+ghost use Rattle.formula.specs.Truth.{Sets, holds, placeHeld, compares, top, below, step, truth};
+ghost use Rattle.formula.specs.Inner.Lane.{lanes, AttributesOf, Stands, InLane, wordsOf, passes, column};
+use crate::attributes;
+use crate::attributes::Attributes;
+use crate::side::ALL;
+use crate::side::VECTORS;
+use policy::limits::MOST_VALUES;
+use policy::value::Slot;
+use policy::value::WORD_PLACES;
+use words::Comparison;
+use words::Holding;
+use words::Word;
 
 // Where a set holds value v with its juniors or seniors taken in.
-fn taken(vectors: &[u64; 2 * VALUES], v: u8) -> u64
+fn taken(vectors: &[u64; VECTORS], v: u8) -> u64
     ensures { λ r. ⌜ ((grown : ℕ → ℕ → Bool) (k s : ℕ) → Stands grown (now (vectors .entry)) k s → has r k ≡ grown s v) ⌝ }
 {
     let i = v as usize;
-    if i < VALUES { vectors[VALUES + i] } else { 0 }
+    if i < MOST_VALUES {
+        vectors[MOST_VALUES + i]
+    } else {
+        0
+    }
 }
 
 // Where a holding is true.
-fn held(users: &[u64; 2 * VALUES], objects: &[u64; 2 * VALUES], h: Holding) -> u64
-    ensures { λ r. ⌜ ((p : Policy) (k u o : ℕ) → Pair p (now (users .entry)) (now (objects .entry)) k u o → has r k ≡ holds p u o h) ⌝ }
+fn held(users: &[u64; VECTORS], objects: &[u64; VECTORS], h: Holding) -> u64
+    ensures { λ r. ⌜ ((p : Policy) (k : ℕ) (s : Sets) → InLane p (now (users .entry)) (now (objects .entry)) k s → has r k ≡ holds p s h) ⌝ }
 {
     match h {
         Holding::User(v) => taken(users, v),
@@ -48,16 +53,9 @@ fn place(x: u64, y: u64, exact: bool) -> u64
 }
 
 // Where w places pass, which start at a in the user sets and at b in the object sets.
-fn places(
-    users: &[u64; 2 * VALUES],
-    objects: &[u64; 2 * VALUES],
-    w: u8,
-    a: u8,
-    b: u8,
-    exact: bool,
-) -> u64
+fn places(users: &[u64; VECTORS], objects: &[u64; VECTORS], w: u8, a: u8, b: u8, exact: bool) -> u64
     requires { ⌜ (a + w ≤ mostValues) × (b + w ≤ mostValues) ⌝ }
-    ensures { λ r. ⌜ ((p : Policy) (k u o : ℕ) → Pair p (now (users .entry)) (now (objects .entry)) k u o → has r k ≡ every (λ q. passes exact (has o (b + q)) (has u (a + q))) w) ⌝ }
+    ensures { λ r. ⌜ ((p : Policy) (k : ℕ) (s : Sets) → InLane p (now (users .entry)) (now (objects .entry)) k s → has r k ≡ every (λ q. passes exact (has (s .object) (b + q)) (has (s .user) (a + q))) w) ⌝ }
 {
     let mut r: u64 = ALL;
     let mut q: u8 = 0;
@@ -72,36 +70,41 @@ fn places(
 
 // Where user attribute i and object attribute j, if equally wide, pass place by place.
 fn matched(
-    s: Shape,
-    users: &[u64; 2 * VALUES],
-    objects: &[u64; 2 * VALUES],
+    sides: Attributes,
+    users: &[u64; VECTORS],
+    objects: &[u64; VECTORS],
     i: u8,
     j: u8,
     exact: bool,
 ) -> u64
-    requires { ⌜ ((p : Policy) × ShapeOf p s) ⌝ }
-    ensures { λ r. ⌜ ((p : Policy) (k u o : ℕ) → ShapeOf p s → Pair p (now (users .entry)) (now (objects .entry)) k u o → has r k ≡ (equalWidth (sizes p) i j && every (λ q. passes exact (placeHeld (p .object) j o q) (placeHeld (p .user) i u q)) (width (p .user) i))) ⌝ }
+    requires { ⌜ ((p : Policy) × AttributesOf p sides) ⌝ }
+    ensures { λ r. ⌜ ((p : Policy) (k : ℕ) (s : Sets) → AttributesOf p sides → InLane p (now (users .entry)) (now (objects .entry)) k s → has r k ≡ (equalWidth (sizes p) i j && every (λ q. passes exact (placeHeld (p .object) j (s .object) q) (placeHeld (p .user) i (s .user) q)) (width (p .user) i))) ⌝ }
 {
-    let user = s.user;
-    let object = s.object;
-    let w = shape::width(user, i);
-    let x = shape::width(object, j);
+    let user = sides.user;
+    let object = sides.object;
+    let w = attributes::width(user, i);
+    let x = attributes::width(object, j);
     if w != x {
         return 0;
     }
-    let a = shape::start(user, i as usize);
-    let b = shape::start(object, j as usize);
+    let a = attributes::start(user, i as usize);
+    let b = attributes::start(object, j as usize);
     places(users, objects, w, a, b, exact)
 }
 
 // Where a comparison is true.
-fn compared(s: Shape, users: &[u64; 2 * VALUES], objects: &[u64; 2 * VALUES], c: Comparison) -> u64
-    requires { ⌜ ((p : Policy) × ShapeOf p s) ⌝ }
-    ensures { λ r. ⌜ ((p : Policy) (k u o : ℕ) → ShapeOf p s → Pair p (now (users .entry)) (now (objects .entry)) k u o → has r k ≡ compares p u o c) ⌝ }
+fn compared(
+    sides: Attributes,
+    users: &[u64; VECTORS],
+    objects: &[u64; VECTORS],
+    c: Comparison,
+) -> u64
+    requires { ⌜ ((p : Policy) × AttributesOf p sides) ⌝ }
+    ensures { λ r. ⌜ ((p : Policy) (k : ℕ) (s : Sets) → AttributesOf p sides → InLane p (now (users .entry)) (now (objects .entry)) k s → has r k ≡ compares p s c) ⌝ }
 {
     match c {
-        Comparison::Dominates(i, j) => matched(s, users, objects, i, j, false),
-        Comparison::Equals(i, j) => matched(s, users, objects, i, j, true),
+        Comparison::Dominates(i, j) => matched(sides, users, objects, i, j, false),
+        Comparison::Equals(i, j) => matched(sides, users, objects, i, j, true),
     }
 }
 
@@ -121,71 +124,45 @@ fn below_top(d: usize) -> usize
 }
 
 // What a word puts on a stack, and above how many places.
-pub struct Put {
-    pub truths: u64,
-    pub above: usize,
-}
+pub struct Put(pub u64, pub usize);
 
 // One word at a stack of d places.
 fn worked(
-    s: Shape,
-    users: &[u64; 2 * VALUES],
-    objects: &[u64; 2 * VALUES],
+    sides: Attributes,
+    users: &[u64; VECTORS],
+    objects: &[u64; VECTORS],
     w: Word,
     stack: &[u64; WORD_PLACES],
     d: usize,
 ) -> Put
-    requires { ⌜ ((p : Policy) × ShapeOf p s) × (d ≤ wordPlaces) ⌝ }
-    ensures { λ r. ⌜ (r .above ≤ d) × ((p : Policy) (k u o : ℕ) → ShapeOf p s → Pair p (now (users .entry)) (now (objects .entry)) k u o → has (r .truths) k ∷ column (now (stack .entry)) (r .above) k ≡ step p u o w (column (now (stack .entry)) d k)) ⌝ }
+    requires { ⌜ ((p : Policy) × AttributesOf p sides) × (d ≤ wordPlaces) ⌝ }
+    ensures { λ r. ⌜ (r .1 ≤ d) × ((p : Policy) (k : ℕ) (s : Sets) → AttributesOf p sides → InLane p (now (users .entry)) (now (objects .entry)) k s → has (r .0) k ∷ column (now (stack .entry)) (r .1) k ≡ step p s w (column (now (stack .entry)) d k)) ⌝ }
 {
+    let top = top_of(stack, d);
+    let below = below_top(d);
+    let next = top_of(stack, below);
+    let rest = below_top(below);
     match w {
-        Word::True => Put {
-            truths: ALL,
-            above: d,
-        },
-        Word::False => Put {
-            truths: 0,
-            above: d,
-        },
-        Word::Holds(h) => Put {
-            truths: held(users, objects, h),
-            above: d,
-        },
-        Word::Compares(c) => Put {
-            truths: compared(s, users, objects, c),
-            above: d,
-        },
-        Word::Not => Put {
-            truths: top_of(stack, d) ^ ALL,
-            above: below_top(d),
-        },
-        Word::And => {
-            let e = below_top(d);
-            Put {
-                truths: top_of(stack, e) & top_of(stack, d),
-                above: below_top(e),
-            }
-        }
-        Word::Or => {
-            let e = below_top(d);
-            Put {
-                truths: top_of(stack, e) | top_of(stack, d),
-                above: below_top(e),
-            }
-        }
+        Word::True => Put(ALL, d),
+        Word::False => Put(0, d),
+        Word::Holds(h) => Put(held(users, objects, h), d),
+        Word::Compares(c) => Put(compared(sides, users, objects, c), d),
+        Word::Not => Put(top ^ ALL, below),
+        Word::And => Put(next & top, rest),
+        Word::Or => Put(next | top, rest),
     }
 }
 
 // The truths of a formula of n words at 64 pairs.
 pub fn truths(
-    s: Shape,
-    users: &[u64; 2 * VALUES],
-    objects: &[u64; 2 * VALUES],
+    sides: Attributes,
+    users: &[u64; VECTORS],
+    objects: &[u64; VECTORS],
     words: [Slot; WORD_PLACES],
     n: usize,
 ) -> u64
-    requires { ⌜ ((p : Policy) × ShapeOf p s) × (n ≤ wordPlaces) ⌝ }
-    ensures { λ r. ⌜ ((p : Policy) (k u o : ℕ) → ShapeOf p s → Pair p (now (users .entry)) (now (objects .entry)) k u o → has r k ≡ truth p u o (wordsOf n words)) ⌝ }
+    requires { ⌜ ((p : Policy) × AttributesOf p sides) × (n ≤ wordPlaces) ⌝ }
+    ensures { λ r. ⌜ ((p : Policy) (k : ℕ) (s : Sets) → AttributesOf p sides → InLane p (now (users .entry)) (now (objects .entry)) k s → has r k ≡ truth p s (wordsOf n words)) ⌝ }
 {
     let mut stack = [0u64; WORD_PLACES];
     let mut d: usize = 0;
@@ -193,9 +170,9 @@ pub fn truths(
     while i < n {
         let slot = words[i];
         let w = slot.word;
-        let t = worked(s, users, objects, w, &stack, d);
-        let e = t.above;
-        stack[e] = t.truths;
+        let t = worked(sides, users, objects, w, &stack, d);
+        let e = t.1;
+        stack[e] = t.0;
         d = e + 1;
         i += 1;
     }

@@ -14,6 +14,7 @@ use Rattle.basis.proofs.Bools.{fails, both-ways}
 use Rattle.basis.proofs.Counting.{first-least, first-is}
 use Rattle.sets.specs.Set.{has, setOf}
 use Rattle.sets.proofs.Laws.{has-setOf, setOf-same}
+use Rattle.formula.specs.Truth.{Sets, at}
 use Rattle.labels.specs.Labelling.{usersAlike, objectsAlike}
 use Rattle.labels.specs.Rows.{firstUnlike, rowsAlike}
 use Rattle.labels.proofs.Labels.{Equivalence}
@@ -66,8 +67,8 @@ module _ (f : ℕ → ℕ → ℕ) (n : ℕ) where
         transitive = λ u v w hu hv hw e i. alike-of u w (λ o l. alike-at u v e o l ∙ alike-at v w i o l);
       }
 
--- rows of the entries of what is granted, `g action row column`, of k actions
-pub rows-alike : (f : ℕ → ℕ → ℕ) (g : ℕ → ℕ → ℕ → Bool) (k m n : ℕ) → ((u o : ℕ) → u < m → o < n → f u o ≡ setOf (λ a. g a u o) k)
+-- rows of the entries of what is granted, `g action sets` with the row's set the user's, of k actions
+pub rows-alike : (f : ℕ → ℕ → ℕ) (g : ℕ → Sets → Bool) (k m n : ℕ) → ((u o : ℕ) → u < m → o < n → f u o ≡ setOf (λ a. g a (at u o)) k)
     → (u v : ℕ) → u < m → v < m → rowsAlike f n u v ≡ usersAlike g k n u v
 rows-alike f g k m n entries u v hu hv =
     both-ways (rowsAlike f n u v) (usersAlike g k n u v)
@@ -78,8 +79,8 @@ rows-alike f g k m n entries u v hu hv =
     (λ e. alike-of f n u v (λ o ho.
     entries u o hu ho ∙ setOf-same _ _ k (λ a ha. usersAlike-iff g k n u v .0 e a o ha ho) ∙ sym (entries v o hv ho)))
 
--- and of `g action column row`
-pub columns-alike : (f : ℕ → ℕ → ℕ) (g : ℕ → ℕ → ℕ → Bool) (k m n : ℕ) → ((o u : ℕ) → o < n → u < m → f o u ≡ setOf (λ a. g a u o) k)
+-- and with the row's set the object's
+pub columns-alike : (f : ℕ → ℕ → ℕ) (g : ℕ → Sets → Bool) (k m n : ℕ) → ((o u : ℕ) → o < n → u < m → f o u ≡ setOf (λ a. g a (at u o)) k)
     → (o q : ℕ) → o < n → q < n → rowsAlike f m o q ≡ objectsAlike g k m o q
 columns-alike f g k m n entries = rw (objectsAlike-turned g k m) (rows-alike f (turned g) k n m entries)
 

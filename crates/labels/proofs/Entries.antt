@@ -3,33 +3,36 @@ use Prim.Native.Nat.{ℕ, suc, _+_, _/_, _%_, _^_, _≤_, _<_}
 use mathlib.Core.Path.{_≡_, refl, sym, ap, ap₂, _∙_}
 use mathlib.Core.Bool.{true, false, not}
 use mathlib.Core.List.{List}
-use native.Mathlib.Nat.{mod-lt}
+use native.Mathlib.Nat.{mod-lt, lt-of-lt-of-le}
 use native.Mathlib.Omega.{arith}
 use lib.Dec.{eqb, lit<}
 use lib.ListN.{getD}
+use lib.Pow.{pow-mono}
 use borrow.Author.Tests.{not-true, not-false}
 use Rattle.basis.specs.Numbers.{agree}
-use Rattle.basis.proofs.Bools.{fails}
+use Rattle.basis.proofs.Bools.{fails, never}
 use Rattle.basis.proofs.Counting.{first-least, first-is}
 use Rattle.basis.proofs.Same.{agree-eq, eq-agree}
 use Rattle.sets.specs.Set.{has, setOf}
-use Rattle.sets.proofs.Laws.{digit-eq, same-below, setOf-lt, has-setOf, setOf-same}
+use Rattle.sets.proofs.Laws.{digit-eq, has-none, same-below, setOf-lt, has-setOf, setOf-same}
 use Rattle.policy.specs.Limits.{actions, mostActions}
 use Rattle.policy.specs.Policy.{Policy, sets}
-use Rattle.formula.specs.Truth.{grants}
-use Rattle.labels.specs.Rows.{entryOf, firstAction}
+use Rattle.policy.proofs.Forms.{actions-most}
+use Rattle.formula.specs.Truth.{Sets, at, grants}
+use Rattle.labels.specs.Compile.{entryOf}
 use Rattle.labels.specs.Compile.{likeUsers}
 use Rattle.labels.specs.Apart.{Separates}
+use Rattle.labels.specs.Inner.Rows.{firstAction}
 use Rattle.labels.proofs.Alike.{alike-of, rows-alike}
 
--- the entry of lane k, from the vectors of all actions
-abbrev pub laneEntry : List ℕ → ℕ → ℕ
-laneEntry vectors k = setOf (λ a. has (getD vectors a 0) k) mostActions
+-- the entry of lane k, from the vectors of n actions
+abbrev pub laneEntry : List ℕ → ℕ → ℕ → ℕ
+laneEntry vectors n k = setOf (λ a. has (getD vectors a 0) k) n
 
-pub lane-entry : (p : Policy) (vectors : List ℕ) (k u o : ℕ) → ((a : ℕ) → a < mostActions → has (getD vectors a 0) k ≡ grants p a u o)
-    → laneEntry vectors k ≡ entryOf p u o
-unfolding entryOf actions
-lane-entry p vectors k u o h = setOf-same _ _ mostActions h
+pub lane-entry : (p : Policy) (vectors : List ℕ) (n k : ℕ) (s : Sets) → n ≡ actions (p .form)
+    → ((a : ℕ) → a < n → has (getD vectors a 0) k ≡ grants p a s) → laneEntry vectors n k ≡ entryOf p s
+unfolding entryOf
+lane-entry p vectors n k s e h = setOf-same _ _ n h ∙ ap (setOf (λ a. grants p a s)) e
 
 -- ---- the first action at which two entries differ
 
@@ -62,21 +65,29 @@ module _ (x y : ℕ) where
 -- ---- two user sets
 
 module _ (p : Policy) (u w : ℕ) where
-  pub entries-alike : ((o : ℕ) → o < sets (p .object) → entryOf p u o ≡ entryOf p w o) → likeUsers p u w ≡ true
+  pub entries-alike : ((o : ℕ) → o < sets (p .object) → entryOf p (at u o) ≡ entryOf p (at w o)) → likeUsers p u w ≡ true
   unfolding likeUsers entryOf
   entries-alike h =
-      sym (rows-alike (entryOf p) (grants p) (actions (p .form)) (suc (u + w)) (sets (p .object)) (λ v o hv ho. refl) u w (omega arith) (omega arith))
-      ∙ alike-of (entryOf p) (sets (p .object)) u w h
+      sym (rows-alike (λ v o. entryOf p (at v o)) (grants p) (actions (p .form)) (suc (u + w)) (sets (p .object)) (λ v o hv ho. refl) u w (omega arith) (omega arith))
+      ∙ alike-of (λ v o. entryOf p (at v o)) (sets (p .object)) u w h
 
-  pub entries-separate : (o : ℕ) → o < sets (p .object) → (entryOf p u o ≡ entryOf p w o → ⊥)
-      → Separates p u w (firstAction (entryOf p u o) (entryOf p w o)) o
-  unfolding entryOf actions
+  pub entries-separate : (o : ℕ) → o < sets (p .object) → (entryOf p (at u o) ≡ entryOf p (at w o) → ⊥)
+      → Separates p u w (firstAction (entryOf p (at u o)) (entryOf p (at w o))) o
+  unfolding entryOf
   entries-separate o h n =
-      let a = firstAction (entryOf p u o) (entryOf p w o) in
-      let l = differs (entryOf p u o) (entryOf p w o) (setOf-lt _ mostActions) (setOf-lt _ mostActions) n in
+      let k = actions (p .form) in
+      let x = entryOf p (at u o) in
+      let y = entryOf p (at w o) in
+      let hx : x < 2 ^ k = setOf-lt _ k in
+      let hy : y < 2 ^ k = setOf-lt _ k in
+      let most = pow-mono (actions-most (p .form)) in
+      let d = differs-at x y (differs x y (lt-of-lt-of-le hx most) (lt-of-lt-of-le hy most) n) in
+      let past : ¬ (k ≤ firstAction x y) = λ b.
+      never (agree (has x (firstAction x y)) (has y (firstAction x y)))
+      (eq-agree _ _ (has-none k x (firstAction x y) hx b ∙ sym (has-none k y (firstAction x y) hy b))) d in
+      let l : firstAction x y < k = omega arith in
       record {
         action = l;
         object = h;
-        differ = sym (ap₂ agree (has-setOf (λ i. grants p i u o) mostActions a l) (has-setOf (λ i. grants p i w o) mostActions a l))
-            ∙ differs-at (entryOf p u o) (entryOf p w o) l;
+        differ = sym (ap₂ agree (has-setOf (λ i. grants p i (at u o)) k (firstAction x y) l) (has-setOf (λ i. grants p i (at w o)) k (firstAction x y) l)) ∙ d;
       }

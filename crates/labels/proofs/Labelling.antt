@@ -1,5 +1,5 @@
--- Laws of labellings over what is granted, `g action user object`, and over any number of actions k, user sets m and object sets n. The
--- laws of object sets are those of user sets with the two sides changed over.
+-- Laws of labellings over what is granted, `g action sets`, and over any number of actions k, user sets m and object sets n. The laws of
+-- object sets are those of user sets with the two sides changed over.
 use Prim.Native.Nat.{ℕ, suc, _+_, _≤_, _<_}
 use mathlib.Core.Path.{_≡_, refl, sym, ap, _∙_}
 use mathlib.Core.Bool.{Bool, true}
@@ -7,29 +7,30 @@ use mathlib.Core.Logic.{_↔_, Iff·trans}
 use native.Mathlib.Omega.{arith}
 use Rattle.basis.proofs.Numbers.{every-at, every-of}
 use Rattle.basis.proofs.Same.{agree-eq, eq-agree}
+use Rattle.formula.specs.Truth.{Sets, at}
 use Rattle.labels.specs.Labels.{label, labelCount}
 use Rattle.labels.specs.Labelling.{usersAlike, objectsAlike, Labelling, userLabels, objectLabels, GrantsAlike}
 use Rattle.labels.proofs.Labels.{Equivalence, label-iff, different-least}
 
 -- no action and no object set tells two user sets apart; no action and no user set two object sets
-abbrev pub UsersSame : (ℕ → ℕ → ℕ → Bool) → ℕ → ℕ → ℕ → ℕ → Type 0
-UsersSame g k n u v = (a o : ℕ) → a < k → o < n → g a u o ≡ g a v o
+abbrev pub UsersSame : (ℕ → Sets → Bool) → ℕ → ℕ → ℕ → ℕ → Type 0
+UsersSame g k n u v = (a o : ℕ) → a < k → o < n → g a (at u o) ≡ g a (at v o)
 
-abbrev pub ObjectsSame : (ℕ → ℕ → ℕ → Bool) → ℕ → ℕ → ℕ → ℕ → Type 0
-ObjectsSame g k m o p = (a u : ℕ) → a < k → u < m → g a u o ≡ g a u p
+abbrev pub ObjectsSame : (ℕ → Sets → Bool) → ℕ → ℕ → ℕ → ℕ → Type 0
+ObjectsSame g k m o p = (a u : ℕ) → a < k → u < m → g a (at u o) ≡ g a (at u p)
 
 -- what is granted, with the two sides changed over
-abbrev pub turned : (ℕ → ℕ → ℕ → Bool) → ℕ → ℕ → ℕ → Bool
-turned g a o u = g a u o
+abbrev pub turned : (ℕ → Sets → Bool) → ℕ → Sets → Bool
+turned g a s = g a (at (s .object) (s .user))
 
 -- ---- user sets
 
-module _ (g : ℕ → ℕ → ℕ → Bool) (k n : ℕ) where
+module _ (g : ℕ → Sets → Bool) (k n : ℕ) where
   pub usersAlike-iff : (u v : ℕ) → (usersAlike g k n u v ≡ true) ↔ UsersSame g k n u v
   unfolding usersAlike
   usersAlike-iff u v = (
-    (λ e a o ha ho. agree-eq (g a u o) (g a v o) (every-at _ k (every-at _ n e o ho) a ha)),
-    (λ h. every-of _ n (λ o ho. every-of _ k (λ a ha. eq-agree (g a u o) (g a v o) (h a o ha ho)))),
+    (λ e a o ha ho. agree-eq (g a (at u o)) (g a (at v o)) (every-at _ k (every-at _ n e o ho) a ha)),
+    (λ h. every-of _ n (λ o ho. every-of _ k (λ a ha. eq-agree (g a (at u o)) (g a (at v o)) (h a o ha ho)))),
   )
 
   pub users-equivalence : (m : ℕ) → Equivalence (usersAlike g k n) m
@@ -55,7 +56,7 @@ module _ (g : ℕ → ℕ → ℕ → Bool) (k n : ℕ) where
 
 -- ---- object sets
 
-module _ (g : ℕ → ℕ → ℕ → Bool) (k m : ℕ) where
+module _ (g : ℕ → Sets → Bool) (k m : ℕ) where
   pub objectsAlike-turned : objectsAlike g k m ≡ usersAlike (turned g) k m
   unfolding objectsAlike usersAlike
   objectsAlike-turned = refl

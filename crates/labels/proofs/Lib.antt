@@ -4,8 +4,7 @@ pub mod Alike
 pub mod Entries
 pub mod Grids
 pub mod Turn
-pub mod Compile
+pub mod Compiling
 pub mod Storing
-pub mod Telling
+pub mod Told
 pub mod Separation
-pub mod Examples

@@ -8,7 +8,7 @@ use Rattle.basis.proofs.Bools.{never, fails}
 use Rattle.basis.proofs.Counting.{every-fails}
 use Rattle.basis.proofs.Numbers.{every-at}
 use Rattle.policy.specs.Policy.{Policy}
-use Rattle.formula.specs.Truth.{grants}
+use Rattle.formula.specs.Truth.{at, grants}
 use Rattle.labels.specs.Labelling.{usersAlike}
 use Rattle.labels.specs.Compile.{likeUsers}
 use Rattle.labels.specs.Apart.{Separates}
@@ -16,7 +16,7 @@ use Rattle.labels.specs.Apart.{Separates}
 module _ (p : Policy) (u v : ℕ) where
   pub apart-unlike : (a o : ℕ) → Separates p u v a o → likeUsers p u v ≡ false
   unfolding likeUsers usersAlike
-  apart-unlike a o s = fails (likeUsers p u v) (λ e. never (agree (grants p a u o) (grants p a v o)) (every-at _ _ (every-at _ _ e o (s .object)) a (s .action)) (s .differ))
+  apart-unlike a o s = fails (likeUsers p u v) (λ e. never (agree (grants p a (at u o)) (grants p a (at v o))) (every-at _ _ (every-at _ _ e o (s .object)) a (s .action)) (s .differ))
 
   pub unlike-apart : likeUsers p u v ≡ false → (a : ℕ) × (o : ℕ) × Separates p u v a o
   unfolding likeUsers usersAlike

@@ -19,15 +19,15 @@ use Rattle.policy.specs.Valid.{valid}
 use Rattle.policy.specs.declared.value.PolicyValue.{PolicyValue}
 use Rattle.policy.specs.declared.refusal.Refusal.the-variants.{InvalidState, BufferTooShort}
 use Rattle.formula.specs.Truth.{grants}
-use Rattle.labels.specs.Rows.{entryOf}
-use Rattle.labels.specs.Grid.{cell, turnedView, likeRows, GridOf, Labelled}
+use Rattle.labels.specs.Compile.{entryOf}
 use Rattle.labels.specs.Compile.{likeUsers, likeObjects, NU, NO, entry, userLabel, objectLabel, userResult, objectResult, tableResult, lent, tooShort, compile, compileBuffers, Compiles}
+use Rattle.labels.specs.Inner.Grid.{cell, turnedView, likeRows, GridOf, Labelled}
 use Rattle.labels.specs.declared.grid.View.{View}
 use Rattle.labels.specs.declared.Counts.{Counts}
 use Rattle.labels.specs.declared.Compiled.the-variants.{Stored, Refused}
 use Rattle.labels.proofs.Alike.{rows-equivalence, rows-alike, columns-alike}
 use Rattle.labels.proofs.Turn.{labelled-same, labelled-leader}
-use Rattle.labels.proofs.Compile.{length-userResult, length-objectResult, length-tableResult}
+use Rattle.labels.proofs.Compiling.{length-userResult, length-objectResult, length-tableResult}
 
 -- ---- the labels
 
@@ -117,7 +117,7 @@ module _ (v : PolicyValue) (ok : valid v ≡ true) (us os ts : List ℕ) {grid :
 
     -- the entry of two labels is that of their leaders
     leaders-entry : (ul ol : ℕ) → ul < c .users → ol < c .objects → cell grid view (getD fu ul 0) (getD fo ol 0) ≡ entry (policyOf v) ul ol
-    unfolding entry entryOf
+    unfolding entry
     leaders-entry ul ol hu ho =
         let x = users-labelled G U in
         let y = objects-labelled G O in

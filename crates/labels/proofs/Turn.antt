@@ -12,7 +12,7 @@ use Rattle.basis.proofs.Bools.{never, fails}
 use Rattle.basis.proofs.Counting.{Least, first-least}
 use Rattle.basis.proofs.Places.{stored-next}
 use Rattle.labels.specs.Labels.{lowestLike, leads, labelCount, label, leader}
-use Rattle.labels.specs.Grid.{Labelled}
+use Rattle.labels.specs.Inner.Grid.{Labelled}
 use Rattle.labels.proofs.Labels.{Equivalence, lowest-least, is-leads, labelCount-le, labelCount-mono, labelCount-strict, labelCount-same, label-same, leader-same, lowest-below, lowest-like, lowest-leads, label-iff, label-leads, leader-leads, leader-is}
 
 module _ (like : ℕ → ℕ → Bool) (u : ℕ) where

@@ -13,7 +13,7 @@ use Rattle.policy.specs.Value.{policyOf}
 use Rattle.policy.specs.Valid.{valid}
 use Rattle.policy.specs.Answers.{numberOf}
 use Rattle.policy.specs.declared.value.PolicyValue.{PolicyValue}
-use Rattle.formula.specs.Truth.{grants}
+use Rattle.formula.specs.Truth.{at, grants}
 use Rattle.labels.specs.Compile.{likeUsers}
 use Rattle.labels.specs.declared.Apartness.{Apartness}
 use Rattle.labels.specs.declared.Apartness.the-variants.{Alike, Apart, Refused}
@@ -22,7 +22,7 @@ use Rattle.labels.specs.declared.Apartness.the-variants.{Alike, Apart, R
 pub record Separates (p : Policy) (u v a o : ℕ) : Type 0 where
   pub action : a < actions (p .form)
   pub object : o < sets (p .object)
-  pub differ : agree (grants p a u o) (grants p a v o) ≡ false
+  pub differ : agree (grants p a (at u o)) (grants p a (at v o)) ≡ false
 
 abbrev pub apartRefusal : PolicyValue → ℕ → ℕ → Option ℕ
 apartRefusal value u v =

@@ -15,7 +15,7 @@ use Rattle.policy.specs.Value.{policyOf}
 use Rattle.policy.specs.Valid.{valid}
 use Rattle.policy.specs.Answers.{numberOf}
 use Rattle.policy.specs.declared.value.PolicyValue.{PolicyValue}
-use Rattle.formula.specs.Truth.{grants}
+use Rattle.formula.specs.Truth.{Sets, at, grants}
 use Rattle.labels.specs.Labels.{label, labelCount, leader}
 use Rattle.labels.specs.Labelling.{usersAlike, objectsAlike, Labelling}
 use Rattle.labels.specs.declared.Counts.{Counts}
@@ -43,12 +43,13 @@ NU p = labelCount (likeUsers p) (sets (p .user))
 unfoldable pub NO : Policy → ℕ
 NO p = labelCount (likeObjects p) (sets (p .object))
 
--- the entry of two labels: "bit a (2^a) set exactly when action a is granted", at the lowest set of each label
+-- the entry of two sets: "bit a (2^a) set exactly when action a is granted"
+unfoldable pub entryOf : Policy → Sets → ℕ
+entryOf p s = setOf (λ a. grants p a s) (actions (p .form))
+
+-- the entry of two labels is that of the lowest set of each
 unfoldable pub entry : Policy → ℕ → ℕ → ℕ
-entry p ul ol =
-    setOf
-    (λ a. grants p a (leader (likeUsers p) (sets (p .user)) ul) (leader (likeObjects p) (sets (p .object)) ol))
-    (actions (p .form))
+entry p ul ol = entryOf p (at (leader (likeUsers p) (sets (p .user)) ul) (leader (likeObjects p) (sets (p .object)) ol))
 
 -- the three results; "byte at ul × NO + ol"
 unfoldable pub userResult : Policy → List ℕ

@@ -1,18 +1,19 @@
--- Which sets are alike, what a labelling is, and when it grants alike. All over what is granted, `g action user object`, and over any
--- number of actions k, of user sets m and of object sets n.
+-- Which sets are alike, what a labelling is, and when it grants alike. All over what is granted, `g action sets`, and over any number of
+-- actions k, of user sets m and of object sets n.
 use Prim.Native.Nat.{ℕ, _<_}
 use mathlib.Core.Path.{_≡_}
 use mathlib.Core.Bool.{Bool}
 use Rattle.basis.specs.Numbers.{every, agree}
+use Rattle.formula.specs.Truth.{Sets, at}
 use Rattle.labels.specs.Labels.{different}
 
 -- "no action and no object set tells them apart. Telling apart is being granted for one and denied for the other."
-unfoldable pub usersAlike : (ℕ → ℕ → ℕ → Bool) → ℕ → ℕ → ℕ → ℕ → Bool
-usersAlike g k n u v = every (λ o. every (λ a. agree (g a u o) (g a v o)) k) n
+unfoldable pub usersAlike : (ℕ → Sets → Bool) → ℕ → ℕ → ℕ → ℕ → Bool
+usersAlike g k n u v = every (λ o. every (λ a. agree (g a (at u o)) (g a (at v o))) k) n
 
 -- "Object sets likewise."
-unfoldable pub objectsAlike : (ℕ → ℕ → ℕ → Bool) → ℕ → ℕ → ℕ → ℕ → Bool
-objectsAlike g k m o p = every (λ u. every (λ a. agree (g a u o) (g a u p)) k) m
+unfoldable pub objectsAlike : (ℕ → Sets → Bool) → ℕ → ℕ → ℕ → ℕ → Bool
+objectsAlike g k m o p = every (λ u. every (λ a. agree (g a (at u o)) (g a (at u p))) k) m
 
 -- "A labelling in general gives a number to each user set and each object set, and has a table that says granted or denied for every
 -- user number and object number given and every action."
@@ -30,5 +31,5 @@ objectLabels l n = different (l .object) n
 
 -- "It grants alike when for every user set, object set and action its table, at their two numbers, says granted exactly when the
 -- formula is true."
-abbrev pub GrantsAlike : (ℕ → ℕ → ℕ → Bool) → ℕ → ℕ → ℕ → Labelling → Type 0
-GrantsAlike g k m n l = (a u o : ℕ) → a < k → u < m → o < n → l .table (l .user u) (l .object o) a ≡ g a u o
+abbrev pub GrantsAlike : (ℕ → Sets → Bool) → ℕ → ℕ → ℕ → Labelling → Type 0
+GrantsAlike g k m n l = (a u o : ℕ) → a < k → u < m → o < n → l .table (l .user u) (l .object o) a ≡ g a (at u o)

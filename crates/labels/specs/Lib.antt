@@ -1,6 +1,6 @@
 pub mod Labels
 pub mod Labelling
 pub mod Rows
-pub mod Grid
 pub mod Compile
 pub mod Apart
+pub mod Inner

@@ -1,24 +1,30 @@
 // The labels of one side's sets, which are the rows of a grid.
-use crate::grid;
-use crate::grid::PLACES;
-use crate::grid::View;
-use crate::rows::SETS;
-ghost use mathlib.Core.Path.{_≡_};
 ghost use Prim.Native.Nat.{ℕ, _≤_, _<_};
+ghost use mathlib.Core.Path.{_≡_};
 ghost use lib.ListN.{getD};
 ghost use Rattle.basis.specs.Numbers.{first};
 ghost use Rattle.policy.specs.Limits.{mostSets};
-ghost use Rattle.labels.specs.Grid.{likeRows, Inside, Labelled};
+ghost use Rattle.labels.specs.Inner.Grid.{likeRows, Inside, Labelled};
+use crate::grid;
+use crate::grid::View;
+use policy::limits::MOST_PAIRS;
+use policy::limits::MOST_SETS;
 
 // The label of each row, the lowest row of each label, and how many labels there are.
 pub struct Classes {
-    pub labels: [u8; SETS],
-    pub leaders: [u8; SETS],
+    pub labels: [u8; MOST_SETS],
+    pub leaders: [u8; MOST_SETS],
     pub count: usize,
 }
 
 // The first of `count` labels whose leader is like row u, or `count` where none is.
-fn label_of(grid: &[u8; PLACES], view: View, leaders: &[u8; SETS], count: usize, u: usize) -> usize
+fn label_of(
+    grid: &[u8; MOST_PAIRS],
+    view: View,
+    leaders: &[u8; MOST_SETS],
+    count: usize,
+    u: usize,
+) -> usize
     requires { ⌜ Inside view × (u < view .rows) × (count ≤ mostSets) × ((l : ℕ) → l < count → getD (now leaders) l 0 < view .rows) ⌝ }
     ensures { λ r. ⌜ r ≡ first (λ l. likeRows (now (grid .entry)) view (getD (now (leaders .entry)) l 0) u) count ⌝ }
 {
@@ -35,13 +41,13 @@ fn label_of(grid: &[u8; PLACES], view: View, leaders: &[u8; SETS], count: usize,
     count
 }
 
-pub fn classify(grid: &[u8; PLACES], view: View) -> Classes
+pub fn classify(grid: &[u8; MOST_PAIRS], view: View) -> Classes
     requires { ⌜ Inside view ⌝ }
     ensures { λ r. ⌜ Labelled (likeRows (now (grid .entry)) view) (view .rows) (r .labels) (r .leaders) (r .count) ⌝ }
 {
     let rows = view.rows;
-    let mut labels = [0u8; SETS];
-    let mut leaders = [0u8; SETS];
+    let mut labels = [0u8; MOST_SETS];
+    let mut leaders = [0u8; MOST_SETS];
     let mut count: usize = 0;
     for u in 0..rows {
         let l = label_of(grid, view, &leaders, count, u);

@@ -1,19 +1,17 @@
 // The grid: the rows of all user sets, one after the other.
-use crate::rows;
-use crate::rows::Source;
-use formula::shape;
-use formula::shape::Shape;
-use policy::limits::MOST_PAIRS;
-ghost use mathlib.Core.Path.{_≡_};
 ghost use Prim.Native.Nat.{_<_};
+ghost use mathlib.Core.Path.{_≡_};
 ghost use lib.ListN.{length};
+ghost use Rattle.policy.specs.Limits.{mostPairs};
 ghost use Rattle.policy.specs.Policy.{Policy};
-ghost use Rattle.formula.specs.Lane.{ShapeOf};
-ghost use Rattle.labels.specs.Rows.{SourceOf};
-ghost use Rattle.labels.specs.Grid.{gridPlaces, cell, turnedView, ViewOf, Inside, GridOf};
-
-// The places of a grid.
-pub const PLACES: usize = MOST_PAIRS;
+ghost use Rattle.formula.specs.Inner.Lane.{AttributesOf};
+ghost use Rattle.labels.specs.Inner.Rows.{RowsOf};
+ghost use Rattle.labels.specs.Inner.Grid.{cell, turnedView, ViewOf, Inside, GridOf};
+use crate::rows;
+use crate::rows::Rows;
+use formula::attributes;
+use formula::attributes::Attributes;
+use policy::limits::MOST_PAIRS;
 
 // A grid as seen from one side: its sets are the rows and those of the other side the columns. A row starts `down` places after the one
 // before, and in it a column lies `along` places after the one before.
@@ -25,14 +23,14 @@ pub struct View {
 }
 
 // The view from the user side.
-pub fn view_of(s: Shape) -> View
-    requires { ⌜ ((p : Policy) × ShapeOf p s) ⌝ }
-    ensures { λ r. ⌜ ((p : Policy) → ShapeOf p s → ViewOf p r) ⌝ }
+pub fn view_of(sides: Attributes) -> View
+    requires { ⌜ ((p : Policy) × AttributesOf p sides) ⌝ }
+    ensures { λ r. ⌜ ((p : Policy) → AttributesOf p sides → ViewOf p r) ⌝ }
 {
-    let user_starts = s.user;
-    let object_starts = s.object;
-    let rows = shape::sets(user_starts) as usize;
-    let columns = shape::sets(object_starts) as usize;
+    let user_starts = sides.user;
+    let object_starts = sides.object;
+    let rows = attributes::sets(user_starts) as usize;
+    let columns = attributes::sets(object_starts) as usize;
     View {
         rows,
         columns,
@@ -54,9 +52,9 @@ pub fn turned(view: View) -> View
 }
 
 // Fills a grid, which the caller owns because it is large, with the entries of a policy.
-pub fn fill(grid: &mut [u8; PLACES], from: Source, view: View)
-    requires { ⌜ ((p : Policy) × SourceOf p from × ViewOf p view) × (length (now grid) ≡ gridPlaces) ⌝ }
-    ensures { λ _. ⌜ ((p : Policy) → SourceOf p from → ViewOf p view → GridOf p (now (grid .exit)) view) ⌝ }
+pub fn fill(grid: &mut [u8; MOST_PAIRS], from: Rows, view: View)
+    requires { ⌜ ((p : Policy) × RowsOf p from × ViewOf p view) × (length (now grid) ≡ mostPairs) ⌝ }
+    ensures { λ _. ⌜ ((p : Policy) → RowsOf p from → ViewOf p view → GridOf p (now (grid .exit)) view) ⌝ }
 {
     let m = view.rows;
     let n = view.columns;
@@ -76,7 +74,7 @@ pub fn wide(x: u8) -> usize
 }
 
 // The entry in row u and column o.
-pub fn entry(grid: &[u8; PLACES], view: View, u: usize, o: usize) -> u8
+pub fn entry(grid: &[u8; MOST_PAIRS], view: View, u: usize, o: usize) -> u8
     requires { ⌜ Inside view × (u < view .rows) × (o < view .columns) ⌝ }
     ensures { λ r. ⌜ r ≡ cell (now (grid .entry)) view u o ⌝ }
 {

@@ -1,116 +1,111 @@
 // Rows of entries. The entry of a user set and an object set is a byte whose bit a says whether action a is granted; a user set's row has
 // its entries at the object sets.
+ghost use Prim.Native.Nat.{ℕ, _+_, _^_, _≤_, _<_, min};
+ghost use mathlib.Core.Path.{_≡_};
+ghost use lib.ListN.{length, getD};
+ghost use Rattle.policy.specs.Limits.{mostValues, mostSets};
+ghost use Rattle.policy.specs.Policy.{Policy, sets};
+ghost use Rattle.policy.specs.Value.{policyOf};
+ghost use Rattle.formula.specs.Truth.{at};
+ghost use Rattle.formula.specs.Inner.Fits.{ValueFits};
+ghost use Rattle.formula.specs.Inner.Grant.{GrantsOf};
+ghost use Rattle.formula.specs.Inner.Lane.{lanes, AttributesOf, InLane};
+ghost use Rattle.labels.specs.Rows.{firstUnlike};
+ghost use Rattle.labels.specs.Compile.{entryOf};
+ghost use Rattle.labels.specs.Inner.Rows.{RowsOf, entryAt};
+use formula::attributes::Attributes;
+use formula::blocks;
+use formula::blocks::Source;
 use formula::entries;
-use formula::shape;
-use formula::shape::Shape;
-use formula::shape::VALUES;
+use formula::grant;
+use formula::grant::Grants;
 use formula::side;
+use formula::side::LANES;
+use formula::side::VECTORS;
 use policy::limits::MOST_SETS;
 use policy::value::PolicyValue;
-use policy::value::Rules;
-use policy::value::SideValue;
-ghost use mathlib.Core.Path.{_≡_};
-ghost use Prim.Native.Nat.{ℕ, _+_, _^_, _≤_, _<_, min};
-ghost use lib.ListN.{getD};
-ghost use Rattle.policy.specs.Policy.{Policy};
-ghost use Rattle.policy.specs.Value.{rulesOf, policyOf};
-ghost use Rattle.formula.specs.Lane.{lanes, ShapeOf, Pair, RulesFit, ValueFits};
-ghost use Rattle.policy.specs.Limits.{mostValues, mostSets};
-ghost use Rattle.labels.specs.Rows.{entryOf, SourceOf, entryAt, firstUnlike};
 
-// The most sets of a side.
-pub const SETS: usize = MOST_SETS;
-
-// How many object sets are worked out at once.
-const LANES: usize = 64;
-
-// What all rows of a policy are worked out from: its user side, the shape of both sides, the rules, and the vectors of object sets 0 to 63
-// and 64 to 127.
-pub struct Source {
-    pub user: SideValue,
-    pub shape: Shape,
-    pub rules: Rules,
-    pub low: [u64; 2 * VALUES],
-    pub high: [u64; 2 * VALUES],
+// What all rows of a policy are worked out from.
+pub struct Rows {
+    pub source: Source,
+    pub grants: Grants,
 }
 
-pub fn source_of(policy: PolicyValue) -> Source
+pub fn rows_of(policy: PolicyValue) -> Rows
     requires { ⌜ ValueFits policy ⌝ }
-    ensures { λ r. ⌜ SourceOf (policyOf policy) r ⌝ }
+    ensures { λ r. ⌜ RowsOf (policyOf policy) r ⌝ }
 {
     let user = policy.user;
     let object = policy.object;
     let rules = policy.rules;
-    let lines = object.seniority;
-    let shape = shape::of_sides(user, object);
-    let low = side::with_seniors(side::consecutive(0), lines, object.lines);
-    let high = side::with_seniors(side::consecutive(1), lines, object.lines);
-    Source {
-        user,
-        shape,
-        rules,
-        low,
-        high,
-    }
+    let source = blocks::source_of(user, object);
+    let grants = grant::of_actions(policy.form, rules);
+    Rows { source, grants }
 }
 
-// A row that has the entries of the object sets before `at`, with those of the next `count`, which may be fewer than the 64 of the vectors.
-fn with_block(
-    row: [u8; SETS],
-    s: Shape,
-    users: &[u64; 2 * VALUES],
-    objects: &[u64; 2 * VALUES],
-    rules: Rules,
-    at: usize,
+// Puts into a row that has the entries of the object sets before `start` those of the next `count`, which may be fewer than the 64 of the
+// vectors.
+fn put_block(
+    row: &mut [u8; MOST_SETS],
+    sides: Attributes,
+    users: &[u64; VECTORS],
+    objects: &[u64; VECTORS],
+    grants: Grants,
+    start: usize,
     count: usize,
-) -> [u8; SETS]
-    requires { ⌜ ((p : Policy) × ShapeOf p s) × RulesFit rules × (count ≤ lanes) × (at + count ≤ mostSets) ⌝ }
-    ensures { λ r. ⌜ ((p : Policy) (u : ℕ) → ShapeOf p s → p .rules ≡ rulesOf rules → ((k : ℕ) → k < lanes → Pair p (now (users .entry)) (now (objects .entry)) k u (at + k)) → ((o : ℕ) → o < at → getD row o 0 ≡ entryOf p u o) → (o : ℕ) → o < at + count → getD r o 0 ≡ entryOf p u o) ⌝ }
+)
+    requires { ⌜ ((p : Policy) × AttributesOf p sides × GrantsOf p grants) × (count ≤ lanes) × (start + count ≤ mostSets) × (length (now row) ≡ mostSets) ⌝ }
+    ensures { λ _. ⌜ (length (now (row .exit)) ≡ mostSets) × ((p : Policy) (u : ℕ) → AttributesOf p sides → GrantsOf p grants → ((k : ℕ) → k < count → InLane p (now (users .entry)) (now (objects .entry)) k (at u (start + k))) → ((o : ℕ) → o < start → getD (now (row .entry)) o 0 ≡ entryOf p (at u o)) → (o : ℕ) → o < start + count → getD (now (row .exit)) o 0 ≡ entryOf p (at u o)) ⌝ }
 {
-    let grants = entries::grants(s, users, objects, rules);
-    let mut r = row;
+    let granted = entries::of_pairs(sides, users, objects, grants);
+    let n = grants.count;
     for k in 0..count {
-        r[at + k] = entries::entry(&grants, k);
+        row[start + k] = entries::entry(&granted, n, k);
     }
-    r
 }
 
-// How many of n object sets the first block has.
-fn in_first_block(n: usize) -> usize
+// How many of n object sets one block has.
+fn in_block(n: usize) -> usize
     ensures { λ r. ⌜ r ≡ min n lanes ⌝ }
 {
     if n < LANES { n } else { LANES }
 }
 
 // The row of a user set, at the first n object sets.
-pub fn row(from: Source, u: u32, n: usize) -> [u8; SETS]
-    requires { ⌜ ((p : Policy) × SourceOf p from) × (u < 2 ^ mostValues) × (n ≤ mostSets) ⌝ }
-    ensures { λ r. ⌜ ((p : Policy) (o : ℕ) → SourceOf p from → o < n → getD r o 0 ≡ entryOf p u o) ⌝ }
+pub fn row(from: Rows, u: u32, n: usize) -> [u8; MOST_SETS]
+    requires { ⌜ ((p : Policy) × RowsOf p from × (n ≤ sets (p .object))) × (u < 2 ^ mostValues) ⌝ }
+    ensures { λ r. ⌜ ((p : Policy) (o : ℕ) → RowsOf p from → n ≤ sets (p .object) → o < n → getD r o 0 ≡ entryOf p (at u o)) ⌝ }
 {
-    let user = from.user;
+    let source = from.source;
+    let grants = from.grants;
+    let user = source.user;
     let lines = user.seniority;
     let users = side::with_juniors(side::spread(u), lines, user.lines);
-    let shape = from.shape;
-    let rules = from.rules;
-    let low = from.low;
-    let r = with_block(
-        [0u8; SETS],
-        shape,
-        &users,
-        &low,
-        rules,
-        0,
-        in_first_block(n),
-    );
-    if n <= LANES {
-        return r;
+    let sides = source.sides;
+    let blocks = source.objects;
+    let mut r = [0u8; MOST_SETS];
+    let mut start: usize = 0;
+    let mut b: usize = 0;
+    while start < n {
+        let block = blocks[b];
+        let objects = block.vectors;
+        put_block(
+            &mut r,
+            sides,
+            &users,
+            &objects,
+            grants,
+            start,
+            in_block(n - start),
+        );
+        start += LANES;
+        b += 1;
     }
-    let high = from.high;
-    with_block(r, shape, &users, &high, rules, LANES, n - LANES)
+    r
 }
 
 // The first of n columns at which two rows differ, or n where none does.
-pub fn first_unlike(row: &[u8; SETS], other: &[u8; SETS], n: usize) -> usize
+pub fn first_unlike(row: &[u8; MOST_SETS], other: &[u8; MOST_SETS], n: usize) -> usize
     requires { ⌜ n ≤ mostSets ⌝ }
     ensures { λ r. ⌜ r ≡ firstUnlike (entryAt (now (row .entry))) (entryAt (now (other .entry))) n ⌝ }
 {

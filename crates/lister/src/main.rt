@@ -6,53 +6,52 @@ ghost use Prim.Native.Nat.{ℕ, _+_, _≤_, _<_};
 ghost use lib.ListN.{length};
 ghost use Rattle.basis.specs.Lists.{over};
 ghost use Rattle.policy.specs.Answers.{ReadAs};
-ghost use Rattle.policy.specs.Limits.{actions};
+ghost use Rattle.policy.specs.Limits.{textBytes, actions, mostSets, mostPairs};
 ghost use Rattle.policy.specs.Policy.{total};
 ghost use Rattle.policy.specs.Read.{readText};
 ghost use Rattle.policy.specs.Valid.{valid};
 ghost use Rattle.policy.specs.Value.{policyOf};
 ghost use Rattle.tuples.specs.Tuples as spec;
 ghost use Rattle.labels.specs.Compile.{NU, NO};
-ghost use Rattle.report.specs.Lines.{lineRoom};
+ghost use Rattle.report.specs.Inner.{lineRoom};
 use labels::Compiled;
 use labels::Counts;
 use libc::STDIN_FILENO;
 use libc::STDOUT_FILENO;
+use policy::limits::MOST_PAIRS;
+use policy::limits::MOST_SETS;
+use policy::limits::TEXT_BYTES;
 use policy::refusal::number_of;
 use policy::value::PolicyValue;
 use policy::value::Reading;
 use policy::value::Verdict;
 use tuples::Listing;
 
-// One byte more than a text may have, the most sets of a side, and the most pairs of a user set and an object set.
-const INPUT: usize = 8193;
-
-const SETS: usize = 128;
-
-const PAIRS: usize = 16384;
+// One byte more than a text may have.
+const INPUT: usize = TEXT_BYTES + 1;
 
 fn input() -> [u8; INPUT]
-    ensures { λ r. ⌜ 8193 ≡ length r ⌝ }
+    ensures { λ r. ⌜ textBytes + 1 ≡ length r ⌝ }
 {
     [0; INPUT]
 }
 
-fn sets() -> [u8; SETS]
-    ensures { λ r. ⌜ 128 ≡ length r ⌝ }
+fn sets() -> [u8; MOST_SETS]
+    ensures { λ r. ⌜ mostSets ≡ length r ⌝ }
 {
-    [0; SETS]
+    [0; MOST_SETS]
 }
 
-fn table() -> [u8; PAIRS]
-    ensures { λ r. ⌜ 16384 ≡ length r ⌝ }
+fn table() -> [u8; MOST_PAIRS]
+    ensures { λ r. ⌜ mostPairs ≡ length r ⌝ }
 {
-    [0; PAIRS]
+    [0; MOST_PAIRS]
 }
 
-fn pairs() -> [u16; PAIRS]
-    ensures { λ r. ⌜ 16384 ≡ length r ⌝ }
+fn pairs() -> [u16; MOST_PAIRS]
+    ensures { λ r. ⌜ mostPairs ≡ length r ⌝ }
 {
-    [0; PAIRS]
+    [0; MOST_PAIRS]
 }
 
 // The numbers of labels. Compiling is not refused: check 11 passes, and the buffers are long enough for any policy.
@@ -63,7 +62,7 @@ fn count_labels(policy: PolicyValue) -> Counts
     let mut users = sets();
     let mut objects = sets();
     let mut entries = table();
-    let compiled = labels::compiler::compile(policy, &mut users, &mut objects, &mut entries);
+    let compiled = labels::compile(policy, &mut users, &mut objects, &mut entries);
     let Compiled::Stored(counts) = compiled else {
         return Counts {
             users: 0,
@@ -75,7 +74,7 @@ fn count_labels(policy: PolicyValue) -> Counts
 
 // The tuples of an action, and how many they are. Listing is not refused either.
 fn list_tuples(policy: PolicyValue, action: u32, buffer: &mut [u16]) -> usize
-    requires { ⌜ (valid policy ≡ true) × (action < actions (policy .form)) × (16384 ≤ length (now buffer)) ⌝ }
+    requires { ⌜ (valid policy ≡ true) × (action < actions (policy .form)) × (mostPairs ≤ length (now buffer)) ⌝ }
     ensures { λ r. ⌜ (r ≡ length (spec.tuples (policyOf policy) action)) × (now (buffer .exit) ≡ over (spec.tuples (policyOf policy) action) (now (buffer .entry))) ⌝ }
 {
     let listing = tuples::list(policy, action, buffer);
@@ -164,7 +163,7 @@ fn values_of(policy: PolicyValue) -> u32
 
 // What is written for a text that is read so: the last of it stands in the buffer, before the number returned.
 fn write_reading(reading: Reading, buf: &mut [u8]) -> usize
-    requires { ⌜ ((t : List ℕ) × (length t ≤ 8193) × ReadAs (readText t) reading) × (lineRoom ≤ length (now buf)) ⌝ }
+    requires { ⌜ ((t : List ℕ) × (length t ≤ textBytes + 1) × ReadAs (readText t) reading) × (lineRoom ≤ length (now buf)) ⌝ }
     ensures { λ r. ⌜ r ≤ length (now (buf .entry)) ⌝ }
 {
     let verdict = reading.verdict;
@@ -185,7 +184,7 @@ fn write_reading(reading: Reading, buf: &mut [u8]) -> usize
 
 // What is written for a text.
 fn write_text(text: &[u8])
-    requires { ⌜ length (now text) ≤ 8193 ⌝ }
+    requires { ⌜ length (now text) ≤ textBytes + 1 ⌝ }
 {
     let reading = reader::read(text);
     let mut buf = io::large_buffer();

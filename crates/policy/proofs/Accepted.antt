@@ -1,4 +1,5 @@
--- An accepted text is the text of the policy that it yields, and that policy is sound: its lines are those of the policy so far, and the next.
+-- An accepted text is the text of the policy that it yields, and that policy is sound: its lines are those of the
+-- policy so far, and the next.
 use Prim.Native.Nat.{ℕ, suc, _≤_}
 use mathlib.Core.Path.{_≡_, refl, sym, ap, ap₂, _∙_, subst}
 use mathlib.Core.Bool.{Bool, true, false}
@@ -63,7 +64,8 @@ next-texts s l r e =
 
 -- ---- the lines of the text
 
--- lines read from a state on: with those before they are the lines of the policy, each is ended, and the policy is sound
+-- lines read from a state on: with those before they are the lines of the policy, each is ended, and the policy is
+-- sound
 pub record Reads (s : State) (ls : List TextLine) (q : Policy) : Type 0 where
   pub lines-are : texts (soFar (s .before) (s .policy)) ++ map (λ l. l .bytes) ls ≡ texts (linesOf q)
   pub ended-all : all (λ l. l .ended) ls ≡ true

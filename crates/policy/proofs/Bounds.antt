@@ -1,4 +1,5 @@
--- What the tests of a sound policy bound: widths and their sum, seniorities, numbers and sets, words; and so that its lists fit their arrays.
+-- What the tests of a sound policy bound: widths and their sum, seniorities, numbers and sets, words; and so that its
+-- lists fit their arrays.
 use Prim.Native.Nat.{ℕ, zero, suc, _+_, _≤_, _<_}
 use mathlib.Core.Path.{_≡_, refl, ap}
 use mathlib.Core.Bool.{Bool, true, _&&_}

@@ -1,4 +1,5 @@
--- A line and its fields, both ways: accepted fields are those that their line is written as, and a line is read back from its own.
+-- A line and its fields, both ways: accepted fields are those that their line is written as, and a line is read back
+-- from its own.
 use Prim.Native.Nat.{ℕ, zero, suc, _+_, _≤_}
 use mathlib.Core.Path.{_≡_, refl, _∙_}
 use mathlib.Core.Bool.{true}

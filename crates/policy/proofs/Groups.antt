@@ -4,15 +4,10 @@ use mathlib.Core.List.{List, [], _∷_, _++_, map, append-nil, append-assoc, map
 use lib.ListN.{take, drop}
 use Rattle.text.specs.Kind.{placeOf}
 use Rattle.text.specs.declared.kind.Kind.{Kind}
-use Rattle.text.specs.declared.kind.Kind.the-variants.{Policy as PolicyKind, Uattr, Oattr, Usen, Osen, User, Object, End}
+use Rattle.text.specs.declared.kind.Kind.the-variants.{Policy as PolicyKind, End}
 use Rattle.policy.specs.Policy.{Policy}
-use Rattle.policy.specs.Line.{Line, noNumbers, oneNumber, plain}
-use Rattle.policy.specs.Text.{widthLines, pairLines, entryLines, ruleLines, linesOf}
-
--- lists of lists in a row
-abbrev pub flat : List (List Line) → List Line
-flat [] = []
-flat (g ∷ gs) = g ++ flat gs
+use Rattle.policy.specs.Line.{Line}
+use Rattle.policy.specs.Text.{linesByKind, flat, linesOf}
 
 pub flat-append : (a b : List (List Line)) → flat (a ++ b) ≡ flat a ++ flat b
 flat-append [] b = refl
@@ -27,19 +22,9 @@ pub flat-more : {A : Type 0} (f : A → Line) (xs : List A) (x : A) (a b : List 
 flat-more f xs x a b e =
     rw (flat-end a (map f (xs ++ (x ∷ []))) b e, flat-end a (map f xs) b e, map-append f xs (x ∷ []), append-assoc)
 
--- the lines of each kind, in the order of their places
+-- the lines of each kind
 unfoldable pub groups : Policy → List (List Line)
-groups p =
-    (plain PolicyKind (oneNumber (p .form)) ∷ [])
-    ∷ widthLines Uattr (p .user)
-    ∷ widthLines Oattr (p .object)
-    ∷ pairLines Usen (p .user)
-    ∷ pairLines Osen (p .object)
-    ∷ entryLines User (p .users)
-    ∷ entryLines Object (p .objects)
-    ∷ ruleLines (p .rules)
-    ∷ (plain End noNumbers ∷ [])
-    ∷ []
+groups p = linesByKind p
 
 -- all lines but the end line, and the lines from a kind on
 unfoldable pub openLines : Policy → List Line

@@ -1,4 +1,5 @@
--- The text of a sound policy fits the limit of a text: so many lines of each kind at most, each of so many bytes at most.
+-- The text of a sound policy fits the limit of a text: so many lines of each kind at most, each of so many bytes at
+-- most.
 use Prim.Native.Nat.{ℕ, suc, _+_, _*_, _≤_, _<_}
 use mathlib.Core.Path.{_≡_, _∙_}
 use mathlib.Core.Bool.{Bool, true}
@@ -28,13 +29,13 @@ use Rattle.words.proofs.RoundTrip.{mostLetters, written-short}
 use Rattle.policy.specs.Limits.{textBytes, isForm, values, mostValues, userNumbers, objectNumbers, mostWords, mostActions, mostLines}
 use Rattle.policy.specs.Policy.{Side, Rule, Policy}
 use Rattle.policy.specs.Line.{Line, noNumbers, oneNumber, twoNumbers, plain, ruleLine}
-use Rattle.policy.specs.Text.{widthLines, pairLines, entryLines, ruleLines, laterFields, lineText, textOf}
+use Rattle.policy.specs.Text.{flat, widthLines, pairLines, entryLines, ruleLines, laterFields, lineText, textOf}
 use Rattle.policy.specs.declared.value.Entry.{Entry}
 use Rattle.policy.proofs.Forms.{form-few}
 use Rattle.policy.proofs.Parts.{lineFits, lineAbove, numberFits, numberAbove, SideParts, Parts}
 use Rattle.policy.proofs.Rising.{rising, rising-at}
 use Rattle.policy.proofs.Bounds.{width-bounds, entries-few, rule-bounds, parts-within}
-use Rattle.policy.proofs.Groups.{flat, groups, linesFrom, lines-from}
+use Rattle.policy.proofs.Groups.{groups, linesFrom, lines-from}
 use Rattle.policy.proofs.Shorts.{Short, Shorts, no-short, one-short, width-short, action-short, pair-short, entry-short}
 
 -- ---- the bytes of a line
@@ -140,8 +141,12 @@ unfolding size linesText all
 size-lines k [] more h = omega arith
 size-lines k (l ∷ ls) more h =
     let t = map lineText (ls ++ more) in
-    omega (arith, length-append (lineText l) (lineFeed ∷ linesText t), ltb-true (length (lineText l)) (lineBytes k) (and-left _ _ h),
-    size-lines k ls more (and-right (small k l) _ h))
+    omega (
+      arith,
+      length-append (lineText l) (lineFeed ∷ linesText t),
+      ltb-true (length (lineText l)) (lineBytes k) (and-left _ _ h),
+      size-lines k ls more (and-right (small k l) _ h),
+    )
 
 size-group : (k : Kind) (ls more : List Line) → Group k ls → size (ls ++ more) ≤ kindBytes k + size more
 unfolding kindBytes
@@ -186,17 +191,19 @@ module _ (p : Policy) (t : Parts p) (form : isForm (p .form) ≡ true) where
   unfolding all
   one-group k n h g = record { few = h; each = rw (lt-ltb (length (lineText (plain k n))) (lineBytes k) (line-bytes (plain k n) g (omega arith))) }
 
-  pub parts-short : length (textOf p) ≤ textBytes
-  unfolding size textOf linesFrom groups mostOf
-  parts-short =
+  all-groups : Groups kinds (groups p)
+  unfolding groups mostOf
+  all-groups =
       let w = parts-within p t in
-      let g : Groups kinds (groups p) =
-          then (one-group PolicyKind (oneNumber (p .form)) (lit≤ tt) (one-short (p .form) (form-few (p .form) form)))
-          (then (widths-group Uattr (p .user) (t .user) (w .user .widths))
-          (then (widths-group Oattr (p .object) (t .object) (w .object .widths))
-          (then (pairs-group Usen (p .user) (t .user) (w .user .lines))
-          (then (pairs-group Osen (p .object) (t .object) (w .object .lines))
-          (then (entries-group User userNumbers (lit≤ tt) (lit≤ tt) (p .user) (t .user) (p .users) (t .users))
-          (then (entries-group Object objectNumbers (lit≤ tt) (lit≤ tt) (p .object) (t .object) (p .objects) (t .objects))
-          (then rules-group (then (one-group End noNumbers (lit≤ tt) no-short) none-left)))))))) in
-      rw (lines-from p) (le-trans (size-groups g) all-bytes)
+      then (one-group PolicyKind (oneNumber (p .form)) (lit≤ tt) (one-short (p .form) (form-few (p .form) form)))
+      (then (widths-group Uattr (p .user) (t .user) (w .user .widths))
+      (then (widths-group Oattr (p .object) (t .object) (w .object .widths))
+      (then (pairs-group Usen (p .user) (t .user) (w .user .lines))
+      (then (pairs-group Osen (p .object) (t .object) (w .object .lines))
+      (then (entries-group User userNumbers (lit≤ tt) (lit≤ tt) (p .user) (t .user) (p .users) (t .users))
+      (then (entries-group Object objectNumbers (lit≤ tt) (lit≤ tt) (p .object) (t .object) (p .objects) (t .objects))
+      (then rules-group (then (one-group End noNumbers (lit≤ tt) no-short) none-left))))))))
+
+  pub parts-short : length (textOf p) ≤ textBytes
+  unfolding size textOf linesFrom
+  parts-short = rw (lines-from p) (le-trans (size-groups all-groups) all-bytes)

@@ -1,4 +1,5 @@
--- The order of the kinds: which kind may follow, as inequalities of places, and a policy without the lines of later kinds.
+-- The order of the kinds: which kind may follow, as inequalities of places, and a policy without the lines of later
+-- kinds.
 use Prim.Native.Nat.{ℕ, zero, suc, _≤_, min}
 use mathlib.Core.Path.{_≡_, refl, sym, ap, _∙_}
 use mathlib.Core.Bool.{Bool, true, false, cond, _&&_}
@@ -14,7 +15,7 @@ use Rattle.basis.proofs.Same.{agree-eq}
 use Rattle.basis.proofs.Table.{everyEntry}
 use Rattle.text.specs.Kind.{kinds, placeOf, follows}
 use Rattle.text.specs.declared.kind.Kind.{Kind}
-use Rattle.text.specs.declared.kind.Kind.the-variants.{Uattr, Oattr, Usen, Osen, User, Object, Rule as RuleKind, End}
+use Rattle.text.specs.declared.kind.Kind.the-variants.{Policy as PolicyKind, Uattr, Oattr, Usen, Osen, User, Object, Rule as RuleKind, End}
 use Rattle.text.proofs.Naming.{each-kind}
 use Rattle.policy.specs.Policy.{Policy}
 use Rattle.policy.specs.Line.{allowed}
@@ -32,7 +33,7 @@ required = suc (placeOf Oattr)
 
 -- the kind at place j may stand where the kinds before place i were reached
 abbrev may : ℕ → ℕ → Bool
-may i j = leb (min j required) i && (leb i (min (suc j) (placeOf End)) && implies (eqb j 0) (eqb i 0))
+may i j = leb (min j required) i && (leb i (min (suc j) (placeOf End)) && implies (eqb j (placeOf PolicyKind)) (eqb i 0))
 
 follows-may : (j k : Kind) → follows j k ≡ may (suc (placeOf j)) (placeOf k)
 unfolding follows
@@ -53,7 +54,7 @@ allowed-may (some j) k = follows-may j k
 pub record May (i j : ℕ) : Type 0 where
   pub low : min j required ≤ i
   pub high : i ≤ min (suc j) (placeOf End)
-  pub first : j ≡ 0 → i ≡ 0
+  pub first : j ≡ placeOf PolicyKind → i ≡ 0
 
 implied : (a b : Bool) → implies a b ≡ true → a ≡ true → b ≡ true
 implied true b e h = e
@@ -68,12 +69,12 @@ allowed-order b k a =
     record {
       low = leb-true (min j required) i (and-left _ _ e);
       high = leb-true i (min (suc j) (placeOf End)) (and-left _ _ e₁);
-      first = λ h. eqb-true i 0 (implied (eqb j 0) (eqb i 0) (and-right (leb i (min (suc j) (placeOf End))) _ e₁) (eq-eqb j 0 h));
+      first = λ h. eqb-true i 0 (implied (eqb j (placeOf PolicyKind)) (eqb i 0) (and-right (leb i (min (suc j) (placeOf End))) _ e₁) (eq-eqb j (placeOf PolicyKind) h));
     }
 
-not-first : (i j : ℕ) → (j ≡ 0 → i ≡ 0) → implies (eqb j 0) (eqb i 0) ≡ true
+not-first : (i j : ℕ) → (j ≡ placeOf PolicyKind → i ≡ 0) → implies (eqb j (placeOf PolicyKind)) (eqb i 0) ≡ true
 not-first i zero h = rw (h refl)
-not-first i (suc j) h = rw (ne-eqb (suc j) 0 (λ e. omega (arith, e)))
+not-first i (suc j) h = rw (ne-eqb (suc j) (placeOf PolicyKind) (λ e. omega (arith, e)))
 
 pub order-allowed : (b : Option Kind) (k : Kind) → May (reached b) (placeOf k) → allowed b k ≡ true
 order-allowed b k m =

@@ -13,7 +13,7 @@ use Rattle.basis.proofs.Snoc.{last-snoc}
 use Rattle.text.specs.Parts.{TextLine}
 use Rattle.text.specs.Kind.{placeOf}
 use Rattle.text.specs.declared.kind.Kind.{Kind}
-use Rattle.text.specs.declared.kind.Kind.the-variants.{End}
+use Rattle.text.specs.declared.kind.Kind.the-variants.{Policy as PolicyKind, End}
 use Rattle.text.proofs.RoundTrip.{named-word, endedLine}
 use Rattle.policy.specs.Policy.{Policy}
 use Rattle.policy.specs.Line.{Line, allowed}
@@ -70,7 +70,7 @@ leads-line b p l ls q a g h n =
 -- ---- the lines of a kind
 
 -- a list of which each element adds itself to the policy, in a test that goes on
-module _ {A : Type 0} (k : Kind) (some-kind : 1 ≤ placeOf k) (no-end : placeOf k < placeOf End) (line : A → Line) (kinds : (x : A) → line x .kind ≡ k)
+module _ {A : Type 0} (k : Kind) (no-policy : placeOf PolicyKind < placeOf k) (no-end : placeOf k < placeOf End) (line : A → Line) (kinds : (x : A) → line x .kind ≡ k)
     (put : List A → Policy) (grow : (done : List A) (x : A) → withLineOf (line x) (put done) ≡ put (done ++ (x ∷ [])))
     (Ok : List A → List A → Type 0) (good : (done : List A) (x : A) (rest : List A) → Ok done (x ∷ rest) → Good (put done) (line x))
     (next : (done : List A) (x : A) (rest : List A) → Ok done (x ∷ rest) → Ok (done ++ (x ∷ [])) rest)

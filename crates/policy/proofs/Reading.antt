@@ -1,4 +1,5 @@
--- What holds of a state while a text is read: the lists are sound, no line of a later kind was read, and what is due was; each line keeps it.
+-- What holds of a state while a text is read: the lists are sound, no line of a later kind was read, and what is due
+-- was; each line keeps it.
 use Prim.Native.Nat.{ℕ, suc, _+_, _≤_, _<_}
 use mathlib.Core.Path.{_≡_, refl, ap, _∙_, subst}
 use mathlib.Core.Bool.{Bool, true}

@@ -1,4 +1,5 @@
--- Lists of which each element passes a test and stands above the one before it: one element more, each element, and how many there are at most.
+-- Lists of which each element passes a test and stands above the one before it: one element more, each element, and how
+-- many there are at most.
 use Prim.Native.Nat.{ℕ, _+_, _≤_, _<_}
 use mathlib.Core.Path.{_≡_, refl}
 use mathlib.Core.Bool.{Bool, true, _&&_}

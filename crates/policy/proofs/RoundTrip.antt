@@ -1,4 +1,5 @@
--- Reading and writing undo each other: an accepted text is written back unchanged, and a sound policy's text is read back as the policy.
+-- Reading and writing undo each other: an accepted text is written back unchanged, and a sound policy's text is read
+-- back as the policy.
 use Prim.Native.Nat.{ℕ, _≤_}
 use mathlib.Core.Path.{_≡_, refl, sym, ap, _∙_}
 use mathlib.Core.Bool.{true}

@@ -5,7 +5,7 @@ use mathlib.Core.Bool.{true, cond}
 use mathlib.Core.List.{List, [], _∷_, _++_, map, append-nil}
 use mathlib.Core.Option.{Option, none, some}
 use native.Mathlib.Omega.{arith}
-use lib.Dec.{lit≤, lit<}
+use lib.Dec.{lit<}
 use lib.ListN.{take, drop}
 use borrow.Author.Tests.{ne-eqb}
 use Rattle.seniority.specs.Seniority.{direct}
@@ -17,16 +17,16 @@ use Rattle.text.specs.declared.kind.Kind.the-variants.{Policy as PolicyKind, Ua
 use Rattle.policy.specs.Policy.{Rule, Policy}
 use Rattle.policy.specs.Line.{Line, allowed, noNumbers, oneNumber, twoNumbers, numbersOf, wordsOf, plain, ruleLine, lineOf}
 use Rattle.policy.specs.Checks.{extended, withLineOf}
-use Rattle.policy.specs.Text.{linesOf}
+use Rattle.policy.specs.Text.{flat, linesOf}
 use Rattle.policy.specs.declared.value.Entry.{Entry}
 use Rattle.policy.proofs.Order.{reached, allowed-order, cut}
-use Rattle.policy.proofs.Groups.{flat, flat-more, groups, openLines, linesFrom, lines-open}
+use Rattle.policy.proofs.Groups.{flat-more, groups, openLines, linesFrom, lines-open}
 
 unfoldable pub soFar : Option Kind → Policy → List Line
 soFar none p = []
 soFar (some k) p = openLines p ++ cond (isKind End k) (linesFrom End p) []
 
-so-far-open : (b : Option Kind) (p : Policy) → 1 ≤ reached b → reached b ≤ placeOf End → soFar b p ≡ openLines p
+so-far-open : (b : Option Kind) (p : Policy) → placeOf PolicyKind < reached b → reached b ≤ placeOf End → soFar b p ≡ openLines p
 unfolding soFar
 so-far-open none p h g = absurd (omega arith)
 so-far-open (some k) p h g = rw (ne-eqb (placeOf End) (placeOf k) (λ e. omega (arith, e)), append-nil)
@@ -44,7 +44,7 @@ group-more : {A : Type 0} (k : Kind) (p : Policy) (f : A → Line) (xs : List A)
 group-more k p f xs x e = flat-more f xs x (take (placeOf k) (groups p)) (behind k p) e
 
 -- one line more
-open-more : (k : Kind) (fs : List (List ℕ)) (p : Policy) → 1 ≤ placeOf k → placeOf k < placeOf End → let q = cut (suc (placeOf k)) p in
+open-more : (k : Kind) (fs : List (List ℕ)) (p : Policy) → placeOf PolicyKind < placeOf k → placeOf k < placeOf End → let q = cut (suc (placeOf k)) p in
     openLines (withLineOf (lineOf k fs) q) ≡ openLines q ++ (lineOf k fs ∷ [])
 unfolding openLines groups behind numbersOf wordsOf extended cut
 open-more PolicyKind fs p h g = absurd (omega arith)
@@ -63,7 +63,7 @@ open-more RuleKind fs p h g =
 open-more End fs p h g = absurd (omega arith)
 
 module _ (fs : List (List ℕ)) (b : Option Kind) (p : Policy) where
-  mid-more : (k : Kind) → 1 ≤ placeOf k → placeOf k < placeOf End → cut (suc (placeOf k)) p ≡ p → allowed b k ≡ true
+  mid-more : (k : Kind) → placeOf PolicyKind < placeOf k → placeOf k < placeOf End → cut (suc (placeOf k)) p ≡ p → allowed b k ≡ true
       → soFar (some k) (withLineOf (lineOf k fs) p) ≡ soFar b p ++ (lineOf k fs ∷ [])
   mid-more k h g e a =
       let m = allowed-order b k a in
@@ -95,11 +95,11 @@ first-more fs b p e a =
 pub so-far-more : (k : Kind) (fs : List (List ℕ)) (b : Option Kind) (p : Policy) → cut (suc (placeOf k)) p ≡ p → allowed b k ≡ true
     → soFar (some k) (withLineOf (lineOf k fs) p) ≡ soFar b p ++ (lineOf k fs ∷ [])
 so-far-more PolicyKind fs b p = first-more fs b p
-so-far-more Uattr fs b p = mid-more fs b p Uattr (lit≤ tt) (lit< tt)
-so-far-more Oattr fs b p = mid-more fs b p Oattr (lit≤ tt) (lit< tt)
-so-far-more Usen fs b p = mid-more fs b p Usen (lit≤ tt) (lit< tt)
-so-far-more Osen fs b p = mid-more fs b p Osen (lit≤ tt) (lit< tt)
-so-far-more User fs b p = mid-more fs b p User (lit≤ tt) (lit< tt)
-so-far-more Object fs b p = mid-more fs b p Object (lit≤ tt) (lit< tt)
-so-far-more RuleKind fs b p = mid-more fs b p RuleKind (lit≤ tt) (lit< tt)
+so-far-more Uattr fs b p = mid-more fs b p Uattr (lit< tt) (lit< tt)
+so-far-more Oattr fs b p = mid-more fs b p Oattr (lit< tt) (lit< tt)
+so-far-more Usen fs b p = mid-more fs b p Usen (lit< tt) (lit< tt)
+so-far-more Osen fs b p = mid-more fs b p Osen (lit< tt) (lit< tt)
+so-far-more User fs b p = mid-more fs b p User (lit< tt) (lit< tt)
+so-far-more Object fs b p = mid-more fs b p Object (lit< tt) (lit< tt)
+so-far-more RuleKind fs b p = mid-more fs b p RuleKind (lit< tt) (lit< tt)
 so-far-more End fs b p = end-more fs b p

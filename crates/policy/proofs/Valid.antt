@@ -1,4 +1,5 @@
--- Check 11: a value is valid exactly where some text yields it, and exactly where it is the stored form of a sound policy.
+-- Check 11: a value is valid exactly where some text yields it, and exactly where it is the stored form of a sound
+-- policy.
 use Prim.Native.Nat.{ℕ}
 use mathlib.Core.Path.{_≡_, refl, sym, ap, _∙_}
 use mathlib.Core.Bool.{true, _&&_, false≢true}

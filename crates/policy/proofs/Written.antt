@@ -56,7 +56,7 @@ module _ (p : Policy) (t : Parts p) where
     width-next : (done : List ℕ) (w : ℕ) (rest : List ℕ) → Sums done (w ∷ rest) → Sums (done ++ (w ∷ [])) rest
     width-next done w rest e = rw (sum-snoc done w) (width-tail (values (p .form)) (sum done) w rest e)
 
-    width-lines : 1 ≤ placeOf k → placeOf k < placeOf End → ((ws : List ℕ) (w : ℕ) → withLineOf (plain k (oneNumber w)) (put ws) ≡ put (ws ++ (w ∷ [])))
+    width-lines : placeOf PolicyKind < placeOf k → placeOf k < placeOf End → ((ws : List ℕ) (w : ℕ) → withLineOf (plain k (oneNumber w)) (put ws) ≡ put (ws ++ (w ∷ [])))
         → (ws : List ℕ) → 1 ≤ length ws → widthsSound (values (p .form)) 0 ws ≡ true → (more : List Line)
         → ((b : Option Kind) → May (reached b) (suc (placeOf k)) → Leads (state b (put ws)) more p)
         → (b : Option Kind) → May (reached b) (placeOf k) → Leads (state b (put [])) (map (λ w. plain k (oneNumber w)) ws ++ more) p
@@ -68,14 +68,14 @@ module _ (p : Policy) (t : Parts p) where
   unfolding linesFrom groups cut extended inRange rises balances total
   oattr-lines l =
       width-lines Oattr refl (λ ws. withObject (record { widths = ws; lines = [] }) (cut (placeOf Oattr) p))
-      (λ ws w f. plain-fits Oattr _ _ f refl refl) (lit≤ tt) (lit< tt) (λ ws w. refl)
+      (λ ws w f. plain-fits Oattr _ _ f refl refl) (lit< tt) (lit< tt) (λ ws w. refl)
       (p .object .widths) l (t .object .widths) (linesFrom Usen p)
 
   uattr-lines : 1 ≤ length (p .user .widths) → From Oattr → From Uattr
   unfolding linesFrom groups cut extended inRange rises balances total
   uattr-lines l =
       width-lines Uattr refl (λ ws. withUser (record { widths = ws; lines = [] }) (cut (placeOf Uattr) p))
-      (λ ws w f. plain-fits Uattr _ _ f refl refl) (lit≤ tt) (lit< tt) (λ ws w. refl)
+      (λ ws w f. plain-fits Uattr _ _ f refl refl) (lit< tt) (lit< tt) (λ ws w. refl)
       (p .user .widths) l (t .user .widths) (linesFrom Oattr p)
 
   -- ---- seniorities

@@ -31,6 +31,7 @@ pub record SideSizes : Type 0 where
   pub attributes : ℕ
   pub widths : List ℕ
 
+-- of both sides
 pub record Sizes : Type 0 where
   pub user : SideSizes
   pub object : SideSizes
@@ -43,7 +44,8 @@ sizes p = record { user = sideSizes (p .user); object = sideSizes (p .object) }
 
 -- ---- 6: "A number, value, attribute or width is outside its range, or a usen or osen pair breaks its own condition."
 
--- "Each W is 1 to 7; U, the sum of the W, is 1 to 7, and the line that passes 7 is at fault": a width after others that sum to u
+-- "Each W is 1 to 7; U, the sum of the W, is 1 to 7, and the line that passes 7 is at fault": a width after others that
+-- sum to u
 unfoldable pub widthFits : ℕ → ℕ → ℕ → Bool
 widthFits most u w = leb 1 w && (leb w most && leb (u + w) most)
 

@@ -29,14 +29,27 @@ entryLines k es = map (λ (e : Entry). plain k (twoNumbers (e .number) (e .set))
 abbrev pub ruleLines : List Rule → List Line
 ruleLines rs = map (λ (r : Rule). ruleLine (r .action) (r .words)) rs
 
-unfoldable pub linesOf : Policy → List Line
-linesOf p =
-    plain PolicyKind (oneNumber (p .form))
+-- those of each kind, in the order of the kinds
+abbrev pub linesByKind : Policy → List (List Line)
+linesByKind p =
+    (plain PolicyKind (oneNumber (p .form)) ∷ [])
     ∷ widthLines Uattr (p .user)
-    ++ (widthLines Oattr (p .object)
-    ++ (pairLines Usen (p .user)
-    ++ (pairLines Osen (p .object)
-    ++ (entryLines User (p .users) ++ (entryLines Object (p .objects) ++ (ruleLines (p .rules) ++ (plain End noNumbers ∷ [])))))))
+    ∷ widthLines Oattr (p .object)
+    ∷ pairLines Usen (p .user)
+    ∷ pairLines Osen (p .object)
+    ∷ entryLines User (p .users)
+    ∷ entryLines Object (p .objects)
+    ∷ ruleLines (p .rules)
+    ∷ (plain End noNumbers ∷ [])
+    ∷ []
+
+-- lists in a row
+abbrev pub flat : List (List Line) → List Line
+flat [] = []
+flat (g ∷ gs) = g ++ flat gs
+
+unfoldable pub linesOf : Policy → List Line
+linesOf p = flat (linesByKind p)
 
 -- the fields after the first, by layout
 unfoldable pub laterFields : Layout → Numbers → List Word → List (List ℕ)

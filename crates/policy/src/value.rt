@@ -30,7 +30,7 @@ pub struct Entry {
     pub set: u32,
 }
 
-// The registered users, or objects. There are at most 32 users.
+// The registered users, or objects; of users there are fewer than places.
 #[repr(C)]
 pub struct Register {
     pub count: usize,

@@ -1,5 +1,5 @@
 -- Of a policy value that passes check 11, compiling and listing are not refused in buffers of the most sets, pairs and labels that a policy has: each
--- side has at most seven values.
+-- side has at most as many values as any form allows.
 use Prim.Native.Nat.{ℕ, _+_, _^_, _≤_, _<_}
 use mathlib.Core.Path.{_≡_}
 use mathlib.Core.Bool.{true}
@@ -8,34 +8,27 @@ use native.Mathlib.Nat.{le-trans, mul-le-mul}
 use native.Mathlib.Omega.{arith}
 use borrow.Author.Tests.{le-ltb, lt-leb}
 use lib.ListN.{length}
-use lib.Pow.{pow-mono}
+use lib.Pow.{pow-add, pow-mono}
 use Rattle.basis.specs.Choice.{gives, lowest}
 use Rattle.basis.specs.Lists.{over}
 use Rattle.basis.proofs.Counting.{count-le, length-select}
-use Rattle.policy.specs.Limits.{actions}
+use Rattle.policy.specs.Limits.{actions, mostValues, mostSets, mostPairs}
 use Rattle.policy.specs.Policy.{total, sets}
 use Rattle.policy.specs.Value.{policyOf}
 use Rattle.policy.specs.Valid.{valid}
 use Rattle.policy.specs.declared.value.PolicyValue.{PolicyValue}
 use Rattle.policy.proofs.Valid.{valid-parts}
-use Rattle.policy.proofs.Bounds.{total-most}
+use Rattle.policy.proofs.Bounds.{total-few}
 use Rattle.tuples.specs.Tuples.{grantsAt, tuples, list, listBuffer}
 use Rattle.labels.specs.Compile.{Buffers, userResult, objectResult, tableResult, NU, NO, compile}
 use Rattle.labels.proofs.Compile.{NU-le, NO-le, length-userResult, length-objectResult, length-tableResult}
 
--- a policy of this form has at most so many sets on each side, and so many pairs of them
-abbrev pub mostSets : ℕ
-mostSets = 128
-
-abbrev pub mostPairs : ℕ
-mostPairs = 16384
-
 module _ (v : PolicyValue) (e : valid v ≡ true) where
-  few-users : total (policyOf v .user) ≤ 7
-  few-users = total-most 7 (policyOf v .user) (valid-parts v e .user)
+  few-users : total (policyOf v .user) ≤ mostValues
+  few-users = total-few (policyOf v .form) (policyOf v .user) (valid-parts v e .user)
 
-  pub few-objects : total (policyOf v .object) ≤ 7
-  few-objects = total-most 7 (policyOf v .object) (valid-parts v e .object)
+  pub few-objects : total (policyOf v .object) ≤ mostValues
+  few-objects = total-few (policyOf v .form) (policyOf v .object) (valid-parts v e .object)
 
   user-sets : sets (policyOf v .user) ≤ mostSets
   user-sets = pow-mono few-users
@@ -49,9 +42,9 @@ module _ (v : PolicyValue) (e : valid v ≡ true) where
     pub tuples-few : length (tuples (policyOf v) a) ≤ mostPairs
     unfolding tuples
     tuples-few =
-        let h : total (policyOf v .user) + total (policyOf v .object) ≤ 14 = omega (arith, few-users, few-objects) in
         rw (length-select (grantsAt (policyOf v) a) (2 ^ (total (policyOf v .user) + total (policyOf v .object))))
-        (le-trans (count-le (grantsAt (policyOf v) a) (2 ^ (total (policyOf v .user) + total (policyOf v .object)))) (pow-mono h))
+        (le-trans (count-le (grantsAt (policyOf v) a) (2 ^ (total (policyOf v .user) + total (policyOf v .object))))
+        (rw (pow-add 2 (total (policyOf v .user)) (total (policyOf v .object))) (mul-le-mul user-sets object-sets)))
 
     module _ (buffer : List ℕ) (h : a < actions (policyOf v .form)) (l : mostPairs ≤ length buffer) where
       fits : length (tuples (policyOf v) a) ≤ length buffer

@@ -8,14 +8,14 @@ use native.Mathlib.Omega.{arith}
 use borrow.Rule.Slice.PartMut.{putMid}
 use lib.ListN.{length, getD, take, drop, length-append, length-drop, take-append-drop}
 use lib.Seq.{drop-drop, getD-drop}
-use Rattle.writer.specs.Put.{Put, each}
-use Rattle.writer.proofs.Putting.{put-none, put-fits, Next, next-put, each-append, each-next}
-use Rattle.report.specs.Lines.{lineRoom, Some}
+use Rattle.writer.specs.Inner.Put.{Room, Put, each}
+use Rattle.writer.proofs.Putting.{put-none, put-long, put-next, part-put, each-append, each-next}
+use Rattle.report.specs.Inner.{lineRoom, Some}
 use Rattle.report.specs.declared.Lines.{Lines}
 
 -- the lines of the tuples from `from` to the next one stand in b, which is m now
 pub record Going (line : ℕ → List ℕ) (tuples : List ℕ) (from : ℕ) (b m : List ℕ) (at next : ℕ) : Type 0 where
-  pub put : Put (each line (take (next - from) (drop from tuples))) b m at
+  pub put : Put (each line (take (next - from) (drop from tuples))) 0 b m at
   pub low : from ≤ next
   pub high : next ≤ length tuples
 
@@ -24,11 +24,11 @@ module _ {line : ℕ → List ℕ} {tuples : List ℕ} {from : ℕ} {b : List �
   unfolding each
   going-start h =
       let e : from - from ≡ 0 = omega arith in
-      record { put = rw e (put-none b); low = omega arith; high = h }
+      record { put = rw e (put-none b 0 (omega arith)); low = omega arith; high = h }
 
   module _ {m : List ℕ} {at next : ℕ} (x : Going line tuples from b m at next) where
     pub going-fits : at ≤ length m
-    going-fits = omega (arith, x .put .long, put-fits (x .put))
+    going-fits = omega (arith, put-long (x .put), x .put .fits)
 
     -- all lines are put
     pub going-all : length tuples ≤ next → Some line tuples from b m (record { at = at; next = next })
@@ -39,7 +39,7 @@ module _ {line : ℕ → List ℕ} {tuples : List ℕ} {from : ℕ} {b : List �
     unfolding each
     none-put h =
         let e : next - from ≡ 0 = omega arith in
-        rw e at (x .put .count)
+        rw e at (x .put .end)
 
     pub going-full : length m - at < lineRoom → Some line tuples from b m (record { at = at; next = next })
     going-full h =
@@ -49,27 +49,23 @@ module _ {line : ℕ → List ℕ} {tuples : List ℕ} {from : ℕ} {b : List �
           high = x .high;
           moves = λ i r. elim (decLt from next) [
             | yes l ↦ l
-            | no l ↦ omega (arith, l, none-put (omega (arith, l)), x .put .long)
+            | no l ↦ omega (arith, l, none-put (omega (arith, l)), put-long (x .put))
           ];
         }
 
     -- the next line
     module _ (h : next < length tuples) (s : length (line (getD tuples next 0)) ≤ lineRoom) (r : lineRoom ≤ length m - at) where
-      pub going-next : Next (each line (take (next - from) (drop from tuples))) (line (getD tuples next 0)) b m at
-      going-next =
-          record {
-            put = x .put;
-            room = record { fits = omega (arith, x .put .count, x .put .long, length-append (each line (take (next - from) (drop from tuples))) (line (getD tuples next 0))) };
-          }
+      pub going-room : Room (line (getD tuples next 0)) at m
+      going-room = record { fits = omega (arith, going-fits) }
 
-      pub going-again : {ys : List ℕ} {q : ℕ} → Put (line (getD tuples next 0)) (take (length m - at) (drop at m)) ys q → Going line tuples from b (putMid at (length m - at) m ys) (at + q) (next + 1)
+      pub going-again : {ys : List ℕ} {q : ℕ} → Put (line (getD tuples next 0)) 0 (take (length m - at) (drop at m)) ys q → Going line tuples from b (putMid at (length m - at) m ys) (at + q) (next + 1)
       going-again y =
           let e : next + 1 - from ≡ next - from + 1 = omega (arith, x .low) in
           let k : from + (next - from) ≡ next = omega (arith, x .low) in
           let l : next - from < length (drop from tuples) = omega (arith, x .low, length-drop from tuples) in
           let g : getD (drop from tuples) (next - from) 0 ≡ getD tuples next 0 = getD-drop from tuples (next - from) 0 ∙ ap (λ (i : ℕ). getD tuples i 0) k in
           record {
-            put = rw (e, each-next line (drop from tuples) (next - from) 0 l, g) (next-put going-next y);
+            put = rw (e, each-next line (drop from tuples) (next - from) 0 l, g) (put-next (x .put) (part-put going-room y));
             low = omega (arith, x .low);
             high = omega arith;
           }

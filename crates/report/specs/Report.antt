@@ -1,21 +1,45 @@
 -- What the lister writes for a text: document 01, "One text through the lister".
-use Prim.Native.Nat.{ℕ}
-use mathlib.Core.List.{List, _++_}
+use Prim.Native.Nat.{ℕ, _/_, _%_, _^_}
+use mathlib.Core.List.{List, [], _∷_, _++_, map}
 use lib.ListN.{length}
+use Rattle.basis.specs.Bytes.{bytes}
+use Rattle.text.specs.Number.{decimal}
+use Rattle.text.specs.Parts.{comma, join, textOf}
 use Rattle.policy.specs.Policy.{Rule, Policy, total}
 use Rattle.policy.specs.Read.{Outcome, Accepted, Refused}
 use Rattle.tuples.specs.Tuples.{tuples}
 use Rattle.labels.specs.Compile.{NU, NO}
-use Rattle.writer.specs.Put.{each}
-use Rattle.report.specs.Lines.{refusalLine, labelsLine, actionLine, tuplesText}
 
--- "its action and count of tuples, and each tuple"
-abbrev pub ruleText : Policy → Rule → List ℕ
-ruleText p r =
+-- a word and numbers, parted by commas
+abbrev pub lineOf : List ℕ → List ℕ → List ℕ
+lineOf word ns = join comma (word ∷ map decimal ns)
+
+-- "For a refused text it writes only `refused,N,L`: refusal and line."
+abbrev pub refusalLine : ℕ → ℕ → List ℕ
+refusalLine number line = lineOf (bytes "refused") (number ∷ line ∷ [])
+
+-- "It writes NU and NO"
+abbrev pub labelsLine : ℕ → ℕ → List ℕ
+labelsLine users objects = lineOf (bytes "labels") (users ∷ objects ∷ [])
+
+-- "then for each rule, in text order, its action and count of tuples"
+abbrev pub actionLine : ℕ → ℕ → List ℕ
+actionLine action count = lineOf (bytes "action") (action ∷ count ∷ [])
+
+-- "and each tuple as action, user set, object set": a tuple is stored as user set × 2^O + object set, where the object side has O values
+abbrev pub tupleLine : ℕ → ℕ → ℕ → List ℕ
+tupleLine action values n = lineOf (bytes "tuple") (action ∷ n / 2 ^ values ∷ n % 2 ^ values ∷ [])
+
+abbrev pub ruleLines : Policy → Rule → List (List ℕ)
+ruleLines p r =
     let ts = tuples p (r .action) in
-    actionLine (r .action) (length ts) ++ tuplesText (r .action) (total (p .object)) ts
+    actionLine (r .action) (length ts) ∷ map (tupleLine (r .action) (total (p .object))) ts
 
--- "It writes NU and NO; then for each rule, in text order", its text; "for a refused text it writes only `refused,N,L`"
+unfoldable pub rulesLines : Policy → List Rule → List (List ℕ)
+rulesLines p [] = []
+rulesLines p (r ∷ rs) = ruleLines p r ++ rulesLines p rs
+
+-- these lines, each ended by a line feed
 unfoldable pub report : Outcome → List ℕ
-report (Accepted p) = labelsLine (NU p) (NO p) ++ each (ruleText p) (p .rules)
-report (Refused n l) = refusalLine n l
+report (Accepted p) = textOf (labelsLine (NU p) (NO p) ∷ rulesLines p (p .rules))
+report (Refused n l) = textOf (refusalLine n l ∷ [])

@@ -2,12 +2,13 @@
 ghost use mathlib.Core.Path.{_≡_};
 ghost use Prim.Native.Nat.{_/_, _%_, _^_, _<_, _≤_};
 ghost use lib.ListN.{length};
-ghost use Rattle.writer.specs.Put.{Put};
-ghost use Rattle.report.specs.Lines.{refusalLine, labelsLine, actionLine, setsLine, tupleLine, lineRoom, startRoom, Some};
+ghost use Rattle.writer.specs.Inner.Put.{Put};
+ghost use Rattle.report.specs.Report.{refusalLine, labelsLine, actionLine};
+ghost use Rattle.report.specs.Inner.{lineRoom, ended, tupleText, Some};
 use writer::line;
 
-// Room for any of these lines.
-pub const ROOM: usize = 32;
+// Room for any of these lines: a word of at most 7 bytes, three numbers of at most 10 digits, each after a comma, and a line feed.
+pub const ROOM: usize = 7 + 3 * (10 + 1) + 1;
 
 // Where the lines put end, and the first tuple whose line is not put.
 pub struct Lines {
@@ -18,7 +19,7 @@ pub struct Lines {
 // The line of a refused text.
 pub fn refusal_line(number: u32, line: u32, buf: &mut [u8]) -> usize
     requires { ⌜ lineRoom ≤ length (now buf) ⌝ }
-    ensures { λ r. ⌜ Put (refusalLine number line) (now (buf .entry)) (now (buf .exit)) r ⌝ }
+    ensures { λ r. ⌜ Put (ended (refusalLine number line)) 0 (now (buf .entry)) (now (buf .exit)) r ⌝ }
 {
     line::put_two(b"refused", number, line, buf)
 }
@@ -26,7 +27,7 @@ pub fn refusal_line(number: u32, line: u32, buf: &mut [u8]) -> usize
 // The line of the numbers of labels.
 pub fn labels_line(users: u32, objects: u32, buf: &mut [u8]) -> usize
     requires { ⌜ lineRoom ≤ length (now buf) ⌝ }
-    ensures { λ r. ⌜ Put (labelsLine users objects) (now (buf .entry)) (now (buf .exit)) r ⌝ }
+    ensures { λ r. ⌜ Put (ended (labelsLine users objects)) 0 (now (buf .entry)) (now (buf .exit)) r ⌝ }
 {
     line::put_two(b"labels", users, objects, buf)
 }
@@ -34,7 +35,7 @@ pub fn labels_line(users: u32, objects: u32, buf: &mut [u8]) -> usize
 // The line of an action with its number of tuples.
 pub fn action_line(action: u32, count: u32, buf: &mut [u8]) -> usize
     requires { ⌜ lineRoom ≤ length (now buf) ⌝ }
-    ensures { λ r. ⌜ Put (actionLine action count) (now (buf .entry)) (now (buf .exit)) r ⌝ }
+    ensures { λ r. ⌜ Put (ended (actionLine action count)) 0 (now (buf .entry)) (now (buf .exit)) r ⌝ }
 {
     line::put_two(b"action", action, count, buf)
 }
@@ -55,10 +56,10 @@ fn object_set(n: u16, values: u32) -> u32
     (n as u32) % (1 << values)
 }
 
-// The lines of the tuples from `from` on, each with this start, as long as there is room for a line.
-fn put_lines(start: &[u8], values: u32, tuples: &[u16], from: usize, buf: &mut [u8]) -> Lines
-    requires { ⌜ (length (now start) ≤ startRoom) × (values < 32) × (from ≤ length (now tuples)) ⌝ }
-    ensures { λ r. ⌜ Some (setsLine (now (start .entry)) values) (now (tuples .entry)) from (now (buf .entry)) (now (buf .exit)) r ⌝ }
+// The lines of an action's tuples from `from` on, as long as there is room for a line.
+pub fn tuple_lines(action: u32, values: u32, tuples: &[u16], from: usize, buf: &mut [u8]) -> Lines
+    requires { ⌜ (values < 32) × (from ≤ length (now tuples)) ⌝ }
+    ensures { λ r. ⌜ Some (tupleText action values) (now (tuples .entry)) from (now (buf .entry)) (now (buf .exit)) r ⌝ }
 {
     let mut at = 0;
     let mut next = from;
@@ -67,24 +68,11 @@ fn put_lines(start: &[u8], values: u32, tuples: &[u16], from: usize, buf: &mut [
             return Lines { at, next };
         }
         let n = tuples[next];
-        let m = line::put_two(
-            start,
-            user_set(n, values),
-            object_set(n, values),
-            &mut buf[at..],
-        );
+        let user = user_set(n, values);
+        let object = object_set(n, values);
+        let m = line::put_three(b"tuple", action, user, object, &mut buf[at..]);
         at += m;
         next += 1;
     }
     Lines { at, next }
-}
-
-// The lines of an action's tuples from `from` on, as long as there is room for a line.
-pub fn tuple_lines(action: u32, values: u32, tuples: &[u16], from: usize, buf: &mut [u8]) -> Lines
-    requires { ⌜ (values < 32) × (from ≤ length (now tuples)) ⌝ }
-    ensures { λ r. ⌜ Some (tupleLine action values) (now (tuples .entry)) from (now (buf .entry)) (now (buf .exit)) r ⌝ }
-{
-    let mut start = [0u8; 11];
-    let n = line::put_first(b"tuple", action, &mut start);
-    put_lines(&start[..n], values, tuples, from, buf)
 }

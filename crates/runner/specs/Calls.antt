@@ -5,24 +5,17 @@ use mathlib.Core.List.{List, [], _∷_}
 use mathlib.Core.Option.{Option, none, some}
 use lib.Dec.{eqb}
 use Rattle.board.specs.Machine.{Call, opens, adds, drops, closes, requests}
-use Rattle.runner.specs.declared.Call.{Call as CodeCall}
-use Rattle.runner.specs.declared.Call.the-variants.{Open, Add, Drop, Close, Request}
+use Rattle.board.specs.Board.{callOf}
 use Rattle.runner.specs.declared.list.Item.{Item}
 use Rattle.runner.specs.declared.list.Item.the-variants.{Is, NoCall}
 
--- what the code's call and item stand for
-abbrev pub callOf : CodeCall → Call
-callOf (Open u s set) = opens u s set
-callOf (Add u s set) = adds u s set
-callOf (Drop u s set) = drops u s set
-callOf (Close u s) = closes u s
-callOf (Request s a n) = requests s a n
-
+-- what the code's item stands for
 abbrev pub itemOf : Item → Option Call
 itemOf (Is c) = some (callOf c)
 itemOf NoCall = none
 
--- the call that four numbers are, if they are one: kind 0 is open, 1 add, 2 drop, 3 close, 4 request; close has 0 for a third argument
+-- the call that four numbers are, if they are one: kind 0 is open, 1 add, 2 drop, 3 close, 4 request; close has 0 for a
+-- third argument
 unfoldable pub callIn : ℕ → ℕ → ℕ → ℕ → Option Call
 callIn kind a b c =
     cond (eqb kind 0) (some (opens a b c))

@@ -1,4 +1,5 @@
--- What running a list of numbers on a fresh board answers, and what it leaves: the run of the list's calls, with 5 for what is no call.
+-- What running a list of numbers on a fresh board answers, and what it leaves: the run of the list's calls, with 5 for
+-- what is no call.
 use Prim.Native.Nat.{ℕ}
 use mathlib.Core.Path.{_≡_}
 use mathlib.Core.List.{List, [], _∷_, map}

@@ -5,7 +5,7 @@ ghost use mathlib.Core.Option.{none};
 ghost use Prim.Native.Nat.{ℕ, _<_};
 ghost use lib.ListN.{length, getD};
 ghost use Rattle.runner.specs.Calls.{itemOf, callIn, itemsIn};
-use crate::Call;
+use board::Call;
 
 // How many numbers a call is.
 const NUMBERS: usize = 4;

@@ -14,7 +14,8 @@ abbrev pub From : ℕ → List Direct → Type 0
 From v [] = Unit {0}
 From v (l ∷ ls) = (v ≤ l .senior) × From v ls
 
--- each line goes down, from a value below n, and the upper values do not fall: what reading ensures of usen and osen lines
+-- each line goes down, from a value below n, and the upper values do not fall: what reading ensures of usen and osen
+-- lines
 abbrev pub Ordered : ℕ → List Direct → Type 0
 Ordered n [] = Unit {0}
 Ordered n (l ∷ ls) = (l .junior < l .senior) × (l .senior < n) × From (l .senior) ls × Ordered n ls

@@ -20,7 +20,8 @@ unfoldable pub chain : List Direct → ℕ → ℕ → ℕ → Bool
 chain ls zero v j = false
 chain ls (suc n) v j = any (λ l. eqb (l .senior) v && (eqb (l .junior) j || chain ls n (l .junior) j)) ls
 
--- each line goes from a value to a lower one, so no chain from v has more than v lines; `senior-iff` ties the test to the chains
+-- each line goes from a value to a lower one, so no chain from v has more than v lines; `senior-iff` ties the test to
+-- the chains
 unfoldable pub senior : List Direct → ℕ → ℕ → Bool
 unfolding chain
 senior ls v j = chain ls v v j
@@ -35,7 +36,8 @@ unfoldable pub heldOrJunior : List Direct → ℕ → ℕ → Bool
 unfolding senior
 heldOrJunior ls s v = has s v || any (λ l. has s (l .junior) && senior ls v (l .junior)) ls
 
--- "A user's reach is the assigned values and all juniors of them": those of the n values that are assigned or have a senior that is
+-- "A user's reach is the assigned values and all juniors of them": those of the n values that are assigned or have a
+-- senior that is
 unfoldable pub reach : List Direct → ℕ → ℕ → ℕ
 unfolding heldOrSenior
 reach ls n s = setOf (heldOrSenior ls s) n

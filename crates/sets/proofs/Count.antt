@@ -1,5 +1,5 @@
--- How many values a set of the first n values has, and the lowest of them: what a count of a number's set digits, and of the zeros below
--- them, says value by value.
+-- How many values a set of the first n values has, and the lowest of them: what a count of a number's set digits, and
+-- of the zeros below them, says value by value.
 use mathlib.Core.Path.{_≡_, refl, sym, ap, ap₂, _∙_}
 use mathlib.Core.Bool.{true, false, cond}
 use Prim.Native.Nat.{ℕ, zero, suc, _+_, _/_, _%_, _^_, _<_}

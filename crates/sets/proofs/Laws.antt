@@ -1,4 +1,5 @@
--- The laws of sets as numbers: what each operation does value by value, that a set is its members, and which numbers are sets of the first n values.
+-- The laws of sets as numbers: what each operation does value by value, that a set is its members, and which numbers
+-- are sets of the first n values.
 use mathlib.Core.Path.{_≡_, refl, sym, ap, ap₂, _∙_}
 use mathlib.Core.Bool.{Bool, true, false, not, cond, _&&_, _||_, and-true, and-false, or-false}
 use mathlib.Core.Logic.{_↔_, ⊎-elim}

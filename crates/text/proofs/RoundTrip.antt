@@ -1,4 +1,5 @@
--- A number, fields, lines and a kind word are read back from what they are written as, and are written as what they were read from.
+-- A number, fields, lines and a kind word are read back from what they are written as, and are written as what they
+-- were read from.
 use Prim.Native.Nat.{ℕ, zero, suc, _+_, _*_, _-_, _/_, _%_, _^_, _≤_, _<_}
 use mathlib.Core.Path.{_≡_, refl, sym, ap, _∙_, subst}
 use mathlib.Core.Bool.{Bool, true, false, cond, not, _&&_, _||_, or-true, false≢true}

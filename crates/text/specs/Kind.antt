@@ -65,7 +65,8 @@ isKind j k = eqb (placeOf j) (placeOf k)
 abbrev pub notBefore : Kind → Kind → Bool
 notBefore j k = leb (placeOf j) (placeOf k)
 
--- "policy is followed by uattr; uattr by uattr or oattr; each of oattr to rule by itself or any later kind; end by nothing"
+-- "policy is followed by uattr; uattr by uattr or oattr; each of oattr to rule by itself or any later kind; end by
+-- nothing"
 unfoldable pub follows : Kind → Kind → Bool
 follows Policy k = isKind Uattr k
 follows Uattr k = isKind Uattr k || isKind Oattr k

@@ -37,7 +37,8 @@ pub record TextLine : Type 0 where
   pub bytes : List ℕ
   pub ended : Bool
 
--- the lines of a text that is parted at its line feeds: all parts but the last are ended, and nothing after the last line feed is no line
+-- the lines of a text that is parted at its line feeds: all parts but the last are ended, and nothing after the last
+-- line feed is no line
 unfoldable pub linesOf : List (List ℕ) → List TextLine
 linesOf [] = []
 linesOf ([] ∷ []) = []

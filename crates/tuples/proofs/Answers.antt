@@ -11,9 +11,10 @@ use Rattle.basis.specs.Lists.{any, over}
 use Rattle.policy.specs.Value.{policyOf}
 use Rattle.policy.specs.Valid.{valid}
 use Rattle.policy.specs.Answers.{refused, decided}
-use Rattle.policy.specs.declared.value.PolicyValue.{PolicyValue}
-use Rattle.formula.specs.Decide.{lacking}
 use Rattle.policy.specs.Limits.{actions}
+use Rattle.policy.specs.declared.value.PolicyValue.{PolicyValue}
+use Rattle.formula.specs.Truth.{Sets}
+use Rattle.formula.specs.Decide.{lacking}
 use Rattle.tuples.specs.Tuples.{stored, tuples, list, listBuffer, decideByTuples}
 
 -- ---- listing
@@ -43,22 +44,22 @@ module _ (v : PolicyValue) (a : ℕ) (buffer : List ℕ) where
 
 -- ---- deciding
 
-module _ (v : PolicyValue) (u o : ℕ) (listing : List ℕ) (n : ℕ) where
-  pub decide-invalid : valid v ≡ false → refused 11 ≡ decideByTuples v u o listing n
+module _ (v : PolicyValue) (s : Sets) (listing : List ℕ) (n : ℕ) where
+  pub decide-invalid : valid v ≡ false → refused 11 ≡ decideByTuples v s listing n
   unfolding decideByTuples lowest
   decide-invalid e = rw e
 
   module _ (e : valid v ≡ true) where
-    pub decide-no-set : lacking (policyOf v) u o ≡ true → refused 19 ≡ decideByTuples v u o listing n
+    pub decide-no-set : lacking (policyOf v) s ≡ true → refused 19 ≡ decideByTuples v s listing n
     unfolding decideByTuples lowest
     decide-no-set l = rw (e, l)
 
-    module _ (l : lacking (policyOf v) u o ≡ false) where
-      pub decide-too-many : length listing < n → refused 20 ≡ decideByTuples v u o listing n
+    module _ (l : lacking (policyOf v) s ≡ false) where
+      pub decide-too-many : length listing < n → refused 20 ≡ decideByTuples v s listing n
       unfolding decideByTuples lowest
       decide-too-many h = rw (e, l, lt-ltb (length listing) n h)
 
-      pub decide-by-listing : n ≤ length listing → (r b : Bool) → r ≡ any (eqb (stored (policyOf v) u o)) (take n listing) → r ≡ b
-          → decided b ≡ decideByTuples v u o listing n
+      pub decide-by-listing : n ≤ length listing → (r b : Bool) → r ≡ any (eqb (stored (policyOf v) s)) (take n listing) → r ≡ b
+          → decided b ≡ decideByTuples v s listing n
       unfolding decideByTuples lowest
       decide-by-listing h r b g q = rw (e, l, le-ltb (length listing) n h, ← g, q)

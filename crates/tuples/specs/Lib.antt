@@ -1,3 +1,2 @@
 pub mod Tuples
-pub mod Marks
-pub mod Blocks
+pub mod Inner

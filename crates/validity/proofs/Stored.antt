@@ -1,6 +1,6 @@
 -- A list stored in an array, blank behind it: what each test of the code says of it. One law for each answer of the tests of a whole list.
 use Prim.Native.Nat.{ℕ, _≤_, _<_}
-use mathlib.Core.Path.{_≡_, refl, sym, _∙_}
+use mathlib.Core.Path.{_≡_, refl, sym, ap, _∙_}
 use mathlib.Core.Bool.{Bool, true, false, _&&_, and-false}
 use mathlib.Core.List.{List, [], map-map, map-id}
 use mathlib.Core.Option.{none}
@@ -21,7 +21,8 @@ use Rattle.words.specs.declared.Holding.{Holding}
 use Rattle.words.specs.declared.Holding.the-variants.{User, Object}
 use Rattle.words.specs.declared.Comparison.{Comparison}
 use Rattle.words.specs.declared.Comparison.the-variants.{Dominates, Equals}
-use Rattle.policy.specs.Policy.{Side}
+use Rattle.policy.specs.Policy.{Side, total}
+use Rattle.policy.specs.Checks.{SideSizes, sideSizes, pairFits, entryFits}
 use Rattle.policy.specs.Value.{widthPlaces, entryPlaces, wordPlaces, slot, noEntry, noRule, entriesOf, register, ruleValue, ruleOf, linePlaces}
 use Rattle.policy.specs.Valid.{sameLine, sameEntry, sameSlot, sameRegister, sameRule}
 use Rattle.policy.specs.Inner.Sound.{widthsSound}
@@ -30,7 +31,7 @@ use Rattle.policy.specs.declared.value.RuleValue.{RuleValue}
 use Rattle.policy.proofs.Same.{exact-number, exact-line, exact-entry, exact-slot}
 use Rattle.policy.proofs.Parts.{lineFits, lineAbove, numberFits, numberAbove, lines-rising, entries-rising}
 use Rattle.policy.proofs.Rising.{rising}
-use Rattle.validity.specs.Parts.{holds, widthsValid, linesValid, registerValid}
+use Rattle.validity.specs.Inner.{holds, widthsValid, linesValid, registerValid}
 
 -- ---- any list
 
@@ -92,6 +93,13 @@ module _ (s : Side) (ls : List Direct) (n : ℕ) (k : length ls ≡ linePlaces) 
   pub lines-in : n ≤ linePlaces → linesValid s ls n ≡ (all (sameLine (direct 0 0)) (drop n ls) && rising (lineFits s) lineAbove none (take n ls))
   unfolding linesValid
   lines-in h = rw (holds-in sameLine (direct 0 0) ls n linePlaces k (exact-line .self) h, lines-rising s none (take n ls))
+
+-- what the code says of a side's sizes holds of each side that has them
+pub pair-for : (z : SideSizes) (v j : ℕ) {b : Bool} → b ≡ pairFits z v j → (s : Side) → z ≡ sideSizes s → b ≡ pairFits (sideSizes s) v j
+pair-for z v j e s p = e ∙ ap (λ (x : SideSizes). pairFits x v j) p
+
+pub entry-for : (most t n set : ℕ) {b : Bool} → b ≡ entryFits most t n set → (s : Side) → t ≡ total s → b ≡ entryFits most (total s) n set
+entry-for most t n set e s p = e ∙ ap (λ (x : ℕ). entryFits most x n set) p
 
 module _ (most : ℕ) (s : Side) (es : List Entry) (n : ℕ) (k : length es ≡ entryPlaces) where
   pub entries-out : entryPlaces < n → false ≡ registerValid most s (record { count = n; entries = es })

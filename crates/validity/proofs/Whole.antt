@@ -1,9 +1,10 @@
 -- Check 11 by its parts: a side by its widths and lines, the rules by each rule and what is behind the last, and the value by its sides and lists.
 use Prim.Native.Nat.{ℕ, _≤_, _<_}
-use mathlib.Core.Path.{_≡_, refl, sym, _∙_}
+use mathlib.Core.Path.{_≡_, refl, sym, ap, _∙_}
 use mathlib.Core.Bool.{Bool, true, false, not, _&&_, and-false}
 use mathlib.Core.List.{List, map, map-map}
 use mathlib.Core.Option.{none}
+use native.Mathlib.Nat.{le-trans}
 use native.Mathlib.Omega.{arith}
 use borrow.Author.Tests.{eq-eqb, ne-eqb, le-leb, eqb-true, not-true, not-false}
 use lib.Dec.{eqb, leb, ltb}
@@ -14,8 +15,8 @@ use Rattle.basis.proofs.Bools.{and-left, and-right}
 use Rattle.basis.proofs.Padded.{same-padded, same-map}
 use Rattle.policy.specs.Limits.{isForm, values, actions, userNumbers, objectNumbers, mostWords, mostValues}
 use Rattle.policy.specs.Policy.{Side, Policy, total}
-use Rattle.policy.specs.Checks.{wordFits, widthsEqual, balanced}
-use Rattle.policy.specs.Value.{widthPlaces, wordPlaces, rulePlaces, noRule, register, sideOf, sideValue, entriesOf, ruleOf, ruleValue, rulesOf, rulesValue, policyOf, valueOf}
+use Rattle.policy.specs.Checks.{SideSizes, sideSizes, sizes, wordFits, widthsEqual, balanced}
+use Rattle.policy.specs.Value.{widthPlaces, wordPlaces, wordsIn, rulePlaces, noRule, register, sideOf, sideValue, entriesOf, ruleOf, ruleValue, rulesOf, rulesValue, policyOf, valueOf}
 use Rattle.policy.specs.Valid.{sameSide, sameRegister, sameRule, sameRules, sameValue, valid}
 use Rattle.policy.specs.Inner.Sound.{widthsSound, sideSound, entriesSound, ruleSound, listsSound, sound}
 use Rattle.policy.specs.declared.value.SideValue.{SideValue}
@@ -25,10 +26,10 @@ use Rattle.policy.specs.declared.value.PolicyValue.{PolicyValue}
 use Rattle.policy.proofs.Parts.{actionAbove, rules-rising}
 use Rattle.policy.proofs.Rising.{rising}
 use Rattle.policy.proofs.Valid.{valid-sound}
-use Rattle.checks.specs.Sides.{Shaped, wordsIn}
+use Rattle.checks.specs.Inner.{sizesIn, bothIn, shapeOf}
 use Rattle.checks.specs.declared.side.Shape.{Shape}
-use Rattle.checks.proofs.Laws.{measured-places, measured-total}
-use Rattle.validity.specs.Parts.{holds, widthsValid, linesValid, sideValid, SmallShape, registerValid, ShapedBy, ruleValid, rulesValid, SidesValid, listsValid}
+use Rattle.checks.proofs.Laws.{shape-sizes}
+use Rattle.validity.specs.Inner.{holds, widthsValid, linesValid, sideValid, registerValid, ShapedBy, ruleValid, rulesValid, SidesValid, listsValid}
 use Rattle.validity.proofs.Rising.{rising-map, rising-all}
 use Rattle.validity.proofs.Widths.{sound-sum}
 
@@ -73,10 +74,10 @@ side-small most x k e =
 pub rule-is : (p : Policy) (x : RuleValue) → x .count ≤ wordPlaces
     → ruleSound p (ruleOf x)
     ≡ (ltb (x .action) (actions (p .form))
-    && (all (wordFits p) (wordsIn (x .words) (x .count))
-    && (all (widthsEqual p) (wordsIn (x .words) (x .count)) && balanced 0 (wordsIn (x .words) (x .count)))))
+    && (all (wordFits (sizes p)) (wordsIn (x .count) (x .words))
+    && (all (widthsEqual (sizes p)) (wordsIn (x .count) (x .words)) && balanced 0 (wordsIn (x .count) (x .words)))))
 unfolding ruleSound ruleOf
-rule-is p x h = rw (le-leb (length (wordsIn (x .words) (x .count))) mostWords (rw length-map (omega (arith, length-take (x .count) (x .words)))))
+rule-is p x h = rw (le-leb (length (wordsIn (x .count) (x .words))) mostWords (rw length-map (omega (arith, length-take (x .count) (x .words)))))
 
 -- ---- the rules
 
@@ -122,36 +123,45 @@ module _ (p : Policy) (x : Rules) (k : length (x .entries) ≡ rulePlaces) where
 
 -- ---- the value
 
--- what `measure` ensures is the shape of the side itself
-pub own-shape : (x : SideValue) (r : Shape) → ((s : Side) → s .widths ≡ take (x .attributes) (x .widths) → Shaped r s)
-    → (x .attributes ≤ widthPlaces) × (sum (take (x .attributes) (x .widths)) ≤ mostValues) → SmallShape r (sideOf x)
-unfolding sideOf
-own-shape x r f h =
-    record {
-      shape = f (sideOf x) refl;
-      places = measured-places r (x .widths) (x .attributes) f widthPlaces (h .0);
-      small = rw (measured-total r (x .widths) (x .attributes) f) (h .1);
-    }
+-- the shape that is measured of a valid side: it has the sizes of the side, and they are within the limits
+module _ {most n : ℕ} {ws : List ℕ} (h : Small most ws n) {u : Shape} (q : u ≡ shapeOf ws n) where
+  pub shape-places : u .attributes ≤ widthPlaces
+  shape-places = rw q (h .places)
+
+  pub shape-small : most ≤ mostValues → u .total ≤ mostValues
+  shape-small k = rw q (le-trans (h .small) k)
+
+  pub shape-is : length ws ≡ widthPlaces → (s : Side) → s .widths ≡ take n ws → sizesIn u ≡ sideSizes s
+  shape-is k s e = rw q (shape-sizes ws n (rw k (h .places)) s e)
 
 -- the answers about the lists
-module _ (v : PolicyValue) (u : Shape) (x : SmallShape u (sideOf (v .user)))
-    (a : Bool) (f : (s : Side) → u .total ≡ total s → a ≡ registerValid userNumbers s (v .users)) where
+module _ (v : PolicyValue) (u : Shape) (x : sizesIn u ≡ sideSizes (sideOf (v .user)))
+    {a : Bool} (f : (s : Side) → u .total ≡ total s → a ≡ registerValid userNumbers s (v .users)) where
+  users-are : a ≡ registerValid userNumbers (sideOf (v .user)) (v .users)
+  users-are = f (sideOf (v .user)) (ap (λ (z : SideSizes). z .values) x)
+
   pub users-not : not a ≡ true → false ≡ listsValid v
   unfolding listsValid
-  users-not e = rw (← f (sideOf (v .user)) (x .shape .total), not-true a e)
+  users-not e = rw (← users-are, not-true a e)
 
-  module _ (e : not a ≡ false) (o : Shape) (y : SmallShape o (sideOf (v .object)))
-      (b : Bool) (g : (s : Side) → o .total ≡ total s → b ≡ registerValid objectNumbers s (v .objects)) where
+  module _ (e : not a ≡ false) (o : Shape) (y : sizesIn o ≡ sideSizes (sideOf (v .object)))
+      {b : Bool} (g : (s : Side) → o .total ≡ total s → b ≡ registerValid objectNumbers s (v .objects)) where
+    objects-are : b ≡ registerValid objectNumbers (sideOf (v .object)) (v .objects)
+    objects-are = g (sideOf (v .object)) (ap (λ (z : SideSizes). z .values) y)
+
     pub objects-not : not b ≡ true → false ≡ listsValid v
     unfolding listsValid
-    objects-not h = rw (← f (sideOf (v .user)) (x .shape .total), not-false a e, ← g (sideOf (v .object)) (y .shape .total), not-true b h)
+    objects-not h = rw (← users-are, not-false a e, ← objects-are, not-true b h)
 
-    pub rules-left : not b ≡ false → (n : ℕ) (r : Bool) → n ≡ actions (v .form)
+    both-are : bothIn u o ≡ sizes (policyOf v)
+    unfolding policyOf
+    both-are = ap (λ (z : SideSizes). record { user = z; object = sizesIn o }) x ∙ ap (λ (z : SideSizes). record { user = sideSizes (sideOf (v .user)); object = z }) y
+
+    pub rules-left : not b ≡ false → {n : ℕ} {r : Bool} → n ≡ actions (v .form)
         → ((p : Policy) → ShapedBy n u o p → r ≡ rulesValid p (v .rules)) → r ≡ listsValid v
     unfolding listsValid policyOf
-    rules-left h n r q t =
-        rw (← f (sideOf (v .user)) (x .shape .total), not-false a e, ← g (sideOf (v .object)) (y .shape .total), not-false b h)
-        (t (policyOf v) (record { actions = q; user = x .shape; object = y .shape }))
+    rules-left h q t =
+        rw (← users-are, not-false a e, ← objects-are, not-false b h) (t (policyOf v) (record { actions = q; sizes = both-are }))
 
 value-order : (su so ru ro rr f lu lo ku ko eu eo er : Bool)
     → ((su && (so && (ru && (ro && rr)))) && (f && (lu && (lo && (ku && (ko && (eu && (eo && er))))))))

@@ -3,14 +3,13 @@
 use Prim.Native.Nat.{ℕ, _+_, _≤_, _<_}
 use mathlib.Core.Path.{_≡_, refl, sym, _∙_}
 use mathlib.Core.Bool.{Bool, true, false, _&&_, and-false, and-true}
-use mathlib.Core.List.{List, [], _∷_}
-use native.Mathlib.Nat.{add-zero}
+use mathlib.Core.List.{List, []}
 use native.Mathlib.Omega.{arith}
-use lib.Dec.{eqb, leb}
+use lib.Dec.{eqb}
 use lib.ListN.{length, getD, take, drop}
 use Rattle.basis.specs.Lists.{all, sum}
 use Rattle.basis.proofs.Walk.{part-next, part-end}
-use Rattle.policy.specs.Policy.{Side, total}
+use Rattle.policy.specs.Policy.{total}
 use Rattle.policy.specs.Checks.{widthFits}
 use Rattle.policy.specs.Inner.Sound.{widthsSound}
 use Rattle.policy.proofs.Bounds.{width-fits, total-most}
@@ -22,15 +21,6 @@ pub record Summed (most : ℕ) (answer : Bool) (ws : List ℕ) (m n t i : ℕ) :
   pub few : n ≤ m
   pub before : i ≤ n
   pub rest : answer ≡ (all (eqb 0) (drop n ws) && widthsSound most t (drop i (take n ws)))
-
--- a side with this sum
-abbrev alone : ℕ → Side
-alone t = record { widths = t ∷ []; lines = [] }
-
--- what a width's check says of the sum before it
-fits-after : (most t w : ℕ) (b : Bool) → ((s : Side) → t ≡ total s → b ≡ widthFits most s w) → b ≡ (leb 1 w && (leb w most && leb (t + w) most))
-unfolding total sum widthFits
-fits-after most t w b f = rw (add-zero t) at (f (alone t) (sym (add-zero t)))
 
 module _ {most : ℕ} {answer : Bool} {ws : List ℕ} {m n : ℕ} where
   pub summed-none : length ws ≡ m → n ≤ m → answer ≡ (all (eqb 0) (drop n ws) && widthsSound most 0 (take n ws)) → Summed most answer ws m n 0 0
@@ -44,10 +34,10 @@ module _ {most : ℕ} {answer : Bool} {ws : List ℕ} {m n : ℕ} where
         let e : n ≡ i = omega arith in
         record { places = q .places; rest = q .rest ∙ rw (part-end ws n i h, and-true, e) }
 
-    module _ (h : i < n) {b : Bool} (f : (s : Side) → t ≡ total s → b ≡ widthFits most s (getD ws i 0)) where
+    module _ (h : i < n) {b : Bool} (f : b ≡ widthFits most t (getD ws i 0)) where
       turn : answer ≡ (all (eqb 0) (drop n ws) && (b && widthsSound most (t + getD ws i 0) (drop (i + 1) (take n ws))))
       unfolding widthsSound
-      turn = q .rest ∙ rw (part-next 0 ws i n h (rw (q .places) (q .few)), ← fits-after most t (getD ws i 0) b f)
+      turn = q .rest ∙ rw (part-next 0 ws i n h (rw (q .places) (q .few)), ← f)
 
       pub summed-not : b ≡ false → false ≡ answer
       summed-not e = sym (turn ∙ rw (e, and-false))
@@ -56,9 +46,8 @@ module _ {most : ℕ} {answer : Bool} {ws : List ℕ} {m n : ℕ} where
       summed-more e = record { places = q .places; few = q .few; before = omega arith; rest = turn ∙ rw e }
 
 -- a width that passes does not pass the limit
-pub sum-bound : (most t w : ℕ) (b : Bool) → ((s : Side) → t ≡ total s → b ≡ widthFits most s w) → b ≡ true → t + w ≤ most
-unfolding total sum
-sum-bound most t w b f e = rw (add-zero t) at (width-fits most (alone t) w (sym (f (alone t) (sym (add-zero t))) ∙ e) .fits)
+pub sum-bound : (most t w : ℕ) (b : Bool) → b ≡ widthFits most t w → b ≡ true → t + w ≤ most
+sum-bound most t w b f e = width-fits most t w (sym f ∙ e) .fits
 
 -- widths that pass sum to at most the limit
 pub sound-sum : (most : ℕ) (ws : List ℕ) → widthsSound most 0 ws ≡ true → sum ws ≤ most

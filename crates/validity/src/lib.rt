@@ -1,7 +1,7 @@
 // Check 11 on a policy value: whether it is what reading some accepted text yields.
 ghost use mathlib.Core.Path.{_≡_};
 ghost use Rattle.policy.specs.Valid.{valid};
-ghost use Rattle.validity.specs.Parts.{SidesValid, listsValid};
+ghost use Rattle.validity.specs.Inner.{SidesValid, listsValid};
 
 mod behind;
 mod order;
@@ -18,9 +18,11 @@ fn lists_valid(v: PolicyValue) -> bool
     ensures { λ r. ⌜ r ≡ listsValid v ⌝ }
 {
     let user = v.user;
-    let u = side::shape(user);
+    let user_widths = user.widths;
+    let u = checks::side::measure(user_widths, user.attributes);
     let object = v.object;
-    let o = side::shape(object);
+    let object_widths = object.widths;
+    let o = checks::side::measure(object_widths, object.attributes);
     let users = v.users;
     if !register::register_valid(limits::USER_NUMBERS, u.total, users) {
         return false;

@@ -5,7 +5,7 @@ ghost use Rattle.policy.specs.Limits.{mostValues};
 ghost use Rattle.policy.specs.Policy as policy;
 ghost use Rattle.policy.specs.Value.{noEntry};
 ghost use Rattle.policy.specs.Valid.{sameEntry};
-ghost use Rattle.validity.specs.Parts.{registerValid};
+ghost use Rattle.validity.specs.Inner.{registerValid};
 use policy::value::ENTRY_PLACES;
 use policy::value::Entry;
 use policy::value::Register;

@@ -8,7 +8,7 @@ ghost use Rattle.policy.specs.Policy.{Policy};
 ghost use Rattle.policy.specs.Value.{widthPlaces, wordPlaces, slot, noRule, ruleOf};
 ghost use Rattle.policy.specs.Valid.{sameSlot, sameRule};
 ghost use Rattle.policy.specs.Inner.Sound.{ruleSound};
-ghost use Rattle.validity.specs.Parts.{ShapedBy, ruleValid, rulesValid};
+ghost use Rattle.validity.specs.Inner.{ShapedBy, ruleValid, rulesValid};
 use checks::side::Shape;
 use policy::value::RULE_PLACES;
 use policy::value::RuleValue;

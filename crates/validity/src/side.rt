@@ -1,20 +1,18 @@
 // The lists of a side: its widths and its direct seniorities.
 ghost use mathlib.Core.Path.{_≡_};
-ghost use Prim.Native.Nat.{_≤_, _<_};
-ghost use lib.ListN.{take};
-ghost use Rattle.basis.specs.Lists.{sum};
+ghost use Prim.Native.Nat.{_≤_};
 ghost use Rattle.seniority.specs.Seniority.{direct};
-ghost use Rattle.policy.specs.Limits.{mostValues};
 ghost use Rattle.policy.specs.Policy as policy;
-ghost use Rattle.policy.specs.Value.{widthPlaces, sideOf};
+ghost use Rattle.policy.specs.Checks.{sideSizes};
+ghost use Rattle.policy.specs.Value.{widthPlaces};
 ghost use Rattle.policy.specs.Valid.{sameLine};
-ghost use Rattle.checks.specs.Sides.{Shaped};
-ghost use Rattle.validity.specs.Parts.{widthsValid, linesValid, sideValid, SmallShape};
+ghost use Rattle.checks.specs.Inner.{sizesIn};
+ghost use Rattle.validity.specs.Inner.{widthsValid, linesValid, sideValid};
 use checks::side::Shape;
+use policy::value::LINE_PLACES;
 use policy::value::SideValue;
 use policy::value::WIDTH_PLACES;
 use seniority::Direct;
-use policy::value::LINE_PLACES;
 
 // At least one width and no more than there are places, each sound, and nothing behind the last.
 fn widths_valid(most: u32, widths: [u32; WIDTH_PLACES], n: usize) -> bool
@@ -56,7 +54,7 @@ fn no_line(l: Direct) -> bool
 // No more lines than there are places, each sound, and nothing behind the last.
 fn lines_valid(side: Shape, lines: [Direct; LINE_PLACES], n: usize) -> bool
     requires { ⌜ side .attributes ≤ widthPlaces ⌝ }
-    ensures { λ r. ⌜ ((s : policy.Side) → Shaped side s → r ≡ linesValid s lines n) ⌝ }
+    ensures { λ r. ⌜ ((s : policy.Side) → sizesIn side ≡ sideSizes s → r ≡ linesValid s lines n) ⌝ }
 {
     if LINE_PLACES < n {
         return false;
@@ -97,13 +95,4 @@ pub fn side_valid(most: u32, x: SideValue) -> bool
     let shape = checks::side::measure(widths, x.attributes);
     let lines = x.seniority;
     lines_valid(shape, lines, x.lines)
-}
-
-// The shape of a valid side.
-pub fn shape(x: SideValue) -> Shape
-    requires { ⌜ (x .attributes ≤ widthPlaces) × (sum (take (x .attributes) (x .widths)) ≤ mostValues) ⌝ }
-    ensures { λ r. ⌜ SmallShape r (sideOf x) ⌝ }
-{
-    let widths = x.widths;
-    checks::side::measure(widths, x.attributes)
 }

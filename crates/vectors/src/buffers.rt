@@ -25,6 +25,7 @@ pub fn first_entries(buffer: &mut [u16], n: usize) -> &mut [u16] {
 }
 
 // The first place, from 1, at which a buffer is not these numbers with blanks behind them; 0 where there is none.
+// More numbers than the buffer has places differ behind its end.
 pub fn unlike(due: &[u32], buffer: &[u8]) -> usize {
     let mut i = 0;
     while i < buffer.len() {
@@ -33,7 +34,7 @@ pub fn unlike(due: &[u32], buffer: &[u8]) -> usize {
         }
         i += 1;
     }
-    0
+    if i < due.len() { i + 1 } else { 0 }
 }
 
 // The same for a text with blanks behind it.

@@ -1,4 +1,4 @@
-// A line of a case file: a tag, and numbers that each stand behind a comma.
+// A line of a case file: a tag, a mark where the line is wrong on purpose, and numbers that each stand behind a comma.
 ghost use Prim.Native.Nat.{_<_};
 
 // The most numbers of a line: a table's bytes, and those before them.
@@ -40,6 +40,14 @@ pub fn tag(line: &[u8]) -> u8 {
         return 0;
     }
     line[0]
+}
+
+// Whether a line is wrong on purpose: the mark stands behind its tag.
+pub fn is_wrong(line: &[u8]) -> bool {
+    if line.len() < 2 {
+        return false;
+    }
+    line[1] == b'!'
 }
 
 // A number as a length or a place.

@@ -52,7 +52,7 @@ fn told(text: &[u8], witness: Witness, one: u32, other: u32) -> u32 {
 
 // `P`: Apart.
 pub fn apart(a: &[u32; NUMBERS], text: &[u8]) -> Found {
-    let answer = labels::apart::apart(policy_of(text), a[2], a[3]);
+    let answer = labels::apart(policy_of(text), a[2], a[3]);
     match answer {
         Apartness::Alike => found::bare(found::ALIKE),
         Apartness::Apart(witness) => found::bare(told(text, witness, a[2], a[3])),
@@ -60,12 +60,22 @@ pub fn apart(a: &[u32; NUMBERS], text: &[u8]) -> Found {
     }
 }
 
+// `D`: whether an action and an object set tell two user sets apart.
+pub fn tells(a: &[u32; NUMBERS], text: &[u8]) -> Found {
+    let witness = Witness {
+        action: a[4],
+        object: a[5],
+    };
+    found::bare(told(text, witness, a[2], a[3]))
+}
+
 fn wide(x: u16) -> u32 {
     x as u32
 }
 
-// The first place, from 1, at which a buffer is not these runs of tuples, each as its first and last, with blanks behind them; 0 where
-// there is none. Behind the runs both ends are blank.
+// The first place, from 1, at which a buffer is not these runs of tuples, each as its first and last, with blanks
+// behind them; 0 where there is none. Behind the runs both ends are blank. Runs that the buffer has no places for
+// differ behind its end.
 fn unlike_runs(runs: &[u32], buffer: &[u16; PAIRS]) -> usize {
     let mut k = 0;
     let mut due = cursor::at(runs, 0, BLANK as u32);
@@ -83,7 +93,7 @@ fn unlike_runs(runs: &[u32], buffer: &[u16; PAIRS]) -> usize {
         }
         i += 1;
     }
-    0
+    if k < runs.len() { i + 1 } else { 0 }
 }
 
 // `T`: a listing.

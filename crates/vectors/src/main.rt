@@ -1,5 +1,6 @@
-// Plays stored cases on the engine and compares: the document's examples, and texts, decisions, labels and lists of calls with the answers of
-// a second implementation. Prints how many lines of each kind agree, or the first that does not.
+// Plays stored cases on the engine and compares: the document's examples, and texts, decisions, labels and lists of
+// calls with the answers of a second implementation. Prints how many lines of each kind agree, or the first that does
+// not. Some lines are wrong on purpose: one that is not found different shows what this program does not compare.
 ghost use Prim.Native.Nat.{_≤_, _<_};
 use cursor::NUMBERS;
 use found::Found;
@@ -29,28 +30,31 @@ struct Case {
 fn answer(tag: u8, a: &[u32; NUMBERS], n: usize, text: &[u8]) -> Found {
     match tag {
         b'R' | b'Y' => texts::read(text),
+        b'V' => texts::checked(text),
         b'W' => texts::written(a, text),
         b'u' | b'o' | b'g' => labelling::compiled(tag, a, n, text),
         b'T' => decisions::listed(a, n, text),
         b'F' => decisions::by_formula(a, text),
         b'B' => decisions::by_tuples(a, text),
         b'P' => decisions::apart(a, text),
+        b'D' => decisions::tells(a, text),
         b'S' => sessions::played(a, n, text),
         _ => found::bare(found::NO_KIND),
     }
 }
 
-// Plays a line, and says whether it agrees.
+// Plays a line, and says whether it agrees, or differs where it is wrong on purpose.
 fn play_line(line: &[u8], text: &[u8], counts: &mut [u32; KINDS]) -> bool {
     let mut a = [0u32; NUMBERS];
     let n = cursor::numbers(line, &mut a);
     let tag = cursor::tag(line);
     let found = answer(tag, &a, n, text);
-    if !found::agrees(found, a[0], cursor::size(a[1])) {
+    let wrong = cursor::is_wrong(line);
+    if found::agrees(found, a[0], cursor::size(a[1])) == wrong {
         tally::print_found(line, found);
         return false;
     }
-    tally::count(counts, tag, a[1]);
+    tally::count(counts, tag, wrong, a[1]);
     true
 }
 
@@ -84,7 +88,7 @@ fn play_lines(file: &[u8], counts: &mut [u32; KINDS]) -> bool {
             case = begin(line, at);
             at = case.to + 1;
         } else if !play_line(line, cursor::bytes(file, case.from, case.to), counts) {
-            tally::print(b"differs: a line of case ", cursor::size(case.number));
+            tally::print(b"failed: a line of case ", cursor::size(case.number));
             return false;
         }
     }
@@ -131,7 +135,7 @@ fn main() {
     let mut counts = [0u32; KINDS];
     if play_files(&mut counts) {
         tally::print_counts(
-            b"texts refused alike: ,texts accepted alike: ,writings alike: ,label buffers and tables alike: ,listings alike: ,decisions by formula alike: ,decisions by tuples alike: ,answers of Apart alike: ,lists of calls alike: ,calls in these lists: ,",
+            b"texts refused alike: ,texts accepted alike: ,checks of what was read alike: ,writings alike: ,label buffers and tables alike: ,listings alike: ,decisions by formula alike: ,decisions by tuples alike: ,answers of Apart alike: ,lists of calls alike: ,calls in these lists: ,lines wrong on purpose found different: ,",
             &counts,
         );
     }

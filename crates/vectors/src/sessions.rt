@@ -79,8 +79,8 @@ fn run(
         users: a[2],
         objects: a[3],
     };
-    let to = 7 + 4 * cursor::size(a[1]);
-    let end = 7 + 5 * cursor::size(a[1]);
+    let to = 8 + 4 * cursor::size(a[7]);
+    let end = 8 + 5 * cursor::size(a[7]);
     let mut answers = [BLANK; CALLS];
     let ran = runner::run(
         policy_of(text),
@@ -88,7 +88,7 @@ fn run(
         cursor::bytes(users, 0, cursor::size(a[4])),
         cursor::bytes(objects, 0, cursor::size(a[5])),
         cursor::bytes(table, 0, cursor::size(a[6])),
-        cursor::part(a, 7, to),
+        cursor::part(a, 8, to),
         &mut answers,
     );
     let verdict = ran.verdict;
@@ -116,6 +116,6 @@ pub fn played(a: &[u32; NUMBERS], n: usize, text: &[u8]) -> Found {
     let mut users = [BLANK; SETS];
     let mut objects = [BLANK; SETS];
     let mut table = [BLANK; PAIRS];
-    labels::compiler::compile(policy_of(text), &mut users, &mut objects, &mut table);
+    labels::compile(policy_of(text), &mut users, &mut objects, &mut table);
     run(a, n, text, &users, &objects, &table)
 }

@@ -4,23 +4,26 @@ use crate::found::Found;
 use libc::STDOUT_FILENO;
 use text::parts;
 
-// The kinds of comparisons, and the calls of all lists.
-pub const KINDS: usize = 10;
+// The kinds of comparisons, the calls of all lists, and the lines that are wrong on purpose.
+pub const KINDS: usize = 12;
 
-const CALLS: usize = 9;
+const CALLS: usize = 10;
+
+const WRONG: usize = 11;
 
 // The kind of a line.
 fn kind(tag: u8) -> usize {
     match tag {
         b'R' => 0,
         b'Y' => 1,
-        b'W' => 2,
-        b'u' | b'o' | b'g' => 3,
-        b'T' => 4,
-        b'F' => 5,
-        b'B' => 6,
-        b'P' => 7,
-        _ => 8,
+        b'V' => 2,
+        b'W' => 3,
+        b'u' | b'o' | b'g' => 4,
+        b'T' => 5,
+        b'F' => 6,
+        b'B' => 7,
+        b'P' | b'D' => 8,
+        _ => 9,
     }
 }
 
@@ -31,7 +34,11 @@ fn add(counts: &mut [u32; KINDS], k: usize, n: u32) {
 }
 
 // Counts a line; n is the number of calls of a list.
-pub fn count(counts: &mut [u32; KINDS], tag: u8, n: u32) {
+pub fn count(counts: &mut [u32; KINDS], tag: u8, wrong: bool, n: u32) {
+    if wrong {
+        add(counts, WRONG, 1);
+        return;
+    }
     add(counts, kind(tag), 1);
     if tag == b'S' {
         add(counts, CALLS, n);

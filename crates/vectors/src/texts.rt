@@ -6,6 +6,7 @@ use crate::cursor::NUMBERS;
 use crate::found;
 use crate::found::Found;
 use policy::limits::TEXT_BYTES;
+use policy::refusal::Refusal;
 use policy::refusal::number_of;
 use policy::value::PolicyValue;
 use policy::value::Verdict;
@@ -18,47 +19,46 @@ pub fn policy_of(text: &[u8]) -> PolicyValue {
     policy
 }
 
-fn mark(wrong: bool) -> usize {
-    if wrong { 1 } else { 0 }
-}
-
-// `Y` or `R`: reading. Check 11 passes what an accepted text yields, and nothing else.
+// `Y` or `R`: reading.
 pub fn read(text: &[u8]) -> Found {
     let reading = reader::read(text);
     let verdict = reading.verdict;
-    let policy = reading.policy;
-    let valid = validity::check(policy);
     match verdict {
-        Verdict::Accepted => Found {
-            answer: found::DONE,
-            count: 0,
-            place: mark(!valid),
-        },
+        Verdict::Accepted => found::bare(found::DONE),
         Verdict::Refused(why, at) => Found {
             answer: number_of(why),
             count: at,
-            place: mark(valid),
+            place: 0,
         },
     }
 }
 
-// `W`: writing leaves the text in the buffer, or nothing where it is refused.
+// `V`: check 11 on what the text is read as.
+pub fn checked(text: &[u8]) -> Found {
+    if validity::check(policy_of(text)) {
+        return found::bare(found::DONE);
+    }
+    found::bare(number_of(Refusal::InvalidState))
+}
+
+// `W`: writing; so many bytes of the text stand in the buffer afterwards.
 pub fn written(a: &[u32; NUMBERS], text: &[u8]) -> Found {
     let mut buffer = [BLANK; TEXT_BYTES];
     let written = writer::write(
         policy_of(text),
         buffers::first(&mut buffer, cursor::size(a[2])),
     );
+    let place = buffers::unlike_text(cursor::bytes(text, 0, cursor::size(a[3])), &buffer);
     match written {
         Written::Stored(length) => Found {
             answer: found::DONE,
             count: length,
-            place: buffers::unlike_text(text, &buffer),
+            place,
         },
         Written::Refused(why) => Found {
             answer: number_of(why),
             count: 0,
-            place: buffers::unlike_text(&[], &buffer),
+            place,
         },
     }
 }

@@ -1,125 +1,115 @@
--- Putting one text after another: after what was put so far, a byte, a part of the buffer that a callee filled, or the next element of a list.
+-- Putting one text after another: what stands in a buffer once a text is put, the next text behind it, a line in the rest of the buffer, and the
+-- lines of a list.
 use Prim.Native.Nat.{ℕ, suc, _+_, _-_, _≤_, _<_}
 use mathlib.Core.Path.{_≡_, refl, sym, ap, _∙_}
 use mathlib.Core.List.{List, [], _∷_, _++_, append-assoc, append-nil}
 use native.Mathlib.Numerals.{add-one}
 use native.Mathlib.Omega.{arith}
 use borrow.Rule.Slice.PartMut.{putMid}
-use lib.ListN.{length, getD, take, drop, set, length-append, length-set, length-drop, drop-of-length-le}
-use lib.Seq.{append-snoc, drop-at, drop-cons, drop-drop, getD-take, length-take-le, set-at, split-at, take-all, take-at, take-suc, take-take}
+use lib.ListN.{length, getD, take, drop, set, length-append, length-drop, take-append-drop, drop-of-length-le}
+use lib.Seq.{drop-at, drop-cons, drop-drop, getD-take, length-take-le, set-split, split-at, take-all, take-at, take-suc, take-take}
 use Rattle.basis.specs.Lists.{over}
-use Rattle.basis.proofs.Over.{over-long}
-use Rattle.text.specs.Parts.{lineFeed}
-use Rattle.writer.specs.Put.{Room, Put, each, ended}
+use Rattle.writer.specs.Inner.Put.{Room, Put, each}
 
-pub put-none : (b : List ℕ) → Put [] b b 0
+-- ---- what was put
+
+pub put-none : (b : List ℕ) (at : ℕ) → at ≤ length b → Put [] at b b at
 unfolding over
-put-none b = record { bytes = refl; count = refl; long = refl }
+put-none b at h = record { bytes = sym (take-append-drop at b); end = omega arith; fits = h }
 
-pub shorter : (s t : List ℕ) {b : List ℕ} → Room (s ++ t) b → Room s b
-shorter s t h = record { fits = omega (arith, h .fits, length-append s t) }
+module _ {t b m : List ℕ} {at r : ℕ} (p : Put t at b m r) where
+  long-before : length (take at b) ≡ at
+  long-before = length-take-le at b (omega (arith, p .end, p .fits))
 
--- what was put stands at the start
-pub put-taken : {t b m : List ℕ} {r : ℕ} → Put t b m r → take r m ≡ t
-unfolding over
-put-taken {t} {b} {m} {r} p = ap (take r) (p .bytes) ∙ take-at t (drop (length t) b) r (sym (p .count))
-
-pub put-fits : {t b m : List ℕ} {r : ℕ} → Put t b m r → r ≤ length b
-put-fits {t} {b} p = omega (arith, p .count, p .long, ap length (p .bytes), over-long t b)
-
--- s was put into b, which is m now; t comes next and has room
-pub record Next (s t b m : List ℕ) (r : ℕ) : Type 0 where
-  pub put : Put s b m r
-  pub room : Room (s ++ t) b
-
-pub next : (t : List ℕ) {s b m : List ℕ} {r : ℕ} → Put s b m r → Room (s ++ t) b → Next s t b m r
-next t p h = record { put = p; room = h }
-
-module _ {s t b m : List ℕ} {r : ℕ} (x : Next s t b m r) where
-  pub next-fits : r + length t ≤ length m
-  next-fits = omega (arith, x .put .count, x .put .long, x .room .fits, length-append s t)
-
-  pub next-start : r ≤ length m
-  next-start = omega (arith, next-fits)
-
-  pub next-rest : Room t (take (length m - r) (drop r m))
-  next-rest = record { fits = omega (arith, next-fits, length-take-le (length m - r) (drop r m) (omega (arith, length-drop r m))) }
-
-  -- what is left of the buffer is what was left of it
-  left : drop r m ≡ drop (length s) b
+  -- the bytes before the place where the text ends, and those past it
+  put-before : take r m ≡ take at b ++ t
   unfolding over
-  left = ap (drop r) (x .put .bytes) ∙ drop-at s (drop (length s) b) r (sym (x .put .count))
+  put-before =
+      let e : m ≡ (take at b ++ t) ++ drop (length t) (drop at b) = p .bytes ∙ sym (append-assoc (take at b) t (drop (length t) (drop at b))) in
+      ap (take r) e ∙ take-at (take at b ++ t) (drop (length t) (drop at b)) r (omega (arith, length-append (take at b) t, long-before, p .end))
 
-  module _ {ys : List ℕ} {q : ℕ} (y : Put t (take (length m - r) (drop r m)) ys q) where
-    pub next-sum : r + q ≤ length b
-    next-sum = omega (arith, next-fits, y .count, x .put .long)
+  put-past : drop r m ≡ drop r b
+  unfolding over
+  put-past =
+      let e : m ≡ (take at b ++ t) ++ drop (length t) (drop at b) = p .bytes ∙ sym (append-assoc (take at b) t (drop (length t) (drop at b))) in
+      ap (drop r) e
+      ∙ drop-at (take at b ++ t) (drop (length t) (drop at b)) r (omega (arith, length-append (take at b) t, long-before, p .end))
+      ∙ rw (drop-drop (length t) at b, ← p .end)
 
-    pub next-put : Put (s ++ t) b (putMid r (length m - r) m ys) (r + q)
-    unfolding over
-    next-put =
-        let z : length (drop r m) ≤ length m - r = omega (arith, length-drop r m) in
-        let e : ys ≡ t ++ drop (length s + length t) b = y .bytes ∙ rw (take-all (length m - r) (drop r m) z, left, drop-drop) in
-        let k : putMid r (length m - r) m ys ≡ (s ++ t) ++ drop (length (s ++ t)) b =
-        rw (drop-of-length-le (drop r m) z, append-nil, put-taken (x .put), e, length-append) (sym (append-assoc s t (drop (length s + length t) b))) in
-        record {
-          bytes = k;
-          count = omega (arith, x .put .count, y .count, length-append s t);
-          long = ap length k ∙ omega (arith, x .room .fits, length-append (s ++ t) (drop (length (s ++ t)) b), length-drop (length (s ++ t)) b);
-        }
+  pub put-long : length m ≡ length b
+  put-long =
+      omega (
+        arith,
+        ap length (take-append-drop r m),
+        length-append (take r m) (drop r m),
+        ap length put-before,
+        ap length put-past,
+        length-append (take at b) t,
+        long-before,
+        length-drop r b,
+        p .end,
+        p .fits,
+      )
 
--- a byte more
-pub next-byte : {s b m : List ℕ} {r c : ℕ} → Next s (c ∷ []) b m r → Put (s ++ (c ∷ [])) b (set m r c) (r + 1)
+-- ---- one text behind another
+
+pub room-first : (s t : List ℕ) {at : ℕ} {b : List ℕ} → Room (s ++ t) at b → Room s at b
+room-first s t h = record { fits = omega (arith, h .fits, length-append s t) }
+
+pub room-next : {s t b m : List ℕ} {at r : ℕ} → Room (s ++ t) at b → Put s at b m r → Room t r m
+room-next {s} {t} h p = record { fits = omega (arith, h .fits, length-append s t, p .end, put-long p) }
+
+pub put-next : {s t b m n : List ℕ} {at r q : ℕ} → Put s at b m r → Put t r m n q → Put (s ++ t) at b n q
 unfolding over
-next-byte {s} {b} {m} {r} {c} x =
-    let h : length s < length b = omega (arith, x .room .fits, length-append s (c ∷ [])) in
+put-next {s} {t} {b} {m} {n} {at} {r} {q} p y =
+    let z : at + length (s ++ t) ≡ r + length t = omega (arith, length-append s t, p .end) in
     record {
       bytes =
-          rw (x .put .bytes, drop-cons b (length s) 0 h, set-at s (getD b (length s) 0) (drop (suc (length s)) b) c r (sym (x .put .count)), length-append, add-one (length s))
-          (sym (append-snoc s c (drop (suc (length s)) b)));
-      count = omega (arith, x .put .count, length-append s (c ∷ []));
-      long = length-set m r c ∙ x .put .long;
+          y .bytes
+          ∙ rw (put-before p, put-past p, drop-drop (length t) r b, drop-drop (length (s ++ t)) at b, z, append-assoc (take at b) s (t ++ drop (r + length t) b), append-assoc s t (drop (r + length t) b));
+      end = y .end ∙ sym z;
+      fits = omega (arith, y .fits, put-long p);
     }
 
--- a byte at the start, and then t
-pub lead : {c : ℕ} {t b : List ℕ} → Room (c ∷ t) b → Next (c ∷ []) t b (set b 0 c) 1
-lead h = record { put = next-byte (record { put = put-none _; room = record { fits = omega (arith, h .fits) } }); room = h }
+-- a byte
+pub put-byte : {c at : ℕ} {b : List ℕ} → Room (c ∷ []) at b → Put (c ∷ []) at b (set b at c) (at + 1)
+unfolding over
+put-byte {c} {at} {b} h =
+    let l : at < length b = omega (arith, h .fits) in
+    record { bytes = set-split b at c l ∙ rw (drop-drop 1 at b, add-one at); end = refl; fits = omega arith }
 
--- ---- lines
+-- ---- a line in the rest of the buffer
 
-module _ {l b : List ℕ} (h : Room (ended l) b) where
-  pub unended : Room l b
-  unfolding ended
-  unended = shorter l (lineFeed ∷ []) h
+module _ {t m : List ℕ} {at : ℕ} (h : Room t at m) where
+  pub part-start : at ≤ length m
+  part-start = omega (arith, h .fits)
 
-  module _ {m : List ℕ} {r : ℕ} (p : Put l b m r) where
-    pub feed-fits : r + 1 ≤ length m
-    unfolding ended
-    feed-fits = next-fits (next (lineFeed ∷ []) p h)
+  pub part-room : Room t 0 (take (length m - at) (drop at m))
+  part-room = record { fits = omega (arith, h .fits, length-take-le (length m - at) (drop at m) (omega (arith, length-drop at m))) }
 
-    pub feed-put : Put (ended l) b (set m r lineFeed) (r + 1)
-    unfolding ended
-    feed-put = next-byte (next (lineFeed ∷ []) p h)
+  module _ {ys : List ℕ} {q : ℕ} (y : Put t 0 (take (length m - at) (drop at m)) ys q) where
+    pub part-sum : at + q ≤ length m
+    part-sum = omega (arith, h .fits, y .end)
 
--- a line of two parts
-module _ {s t b m : List ℕ} {r : ℕ} (h : Room (ended (s ++ t)) b) (p : Put s b m r) where
-  pub last-next : Next s t b m r
-  last-next = next t p (unended h)
-
-  module _ {ys : List ℕ} {q : ℕ} (y : Put t (take (length m - r) (drop r m)) ys q) where
-    pub last-fits : r + q + 1 ≤ length (putMid r (length m - r) m ys)
-    last-fits = feed-fits h (next-put last-next y)
-
-    pub last-put : Put (ended (s ++ t)) b (set (putMid r (length m - r) m ys) (r + q) lineFeed) (r + q + 1)
-    last-put = feed-put h (next-put last-next y)
+    pub part-put : Put t at m (putMid at (length m - at) m ys) (at + q)
+    unfolding over
+    part-put =
+        let l : length (drop at m) ≤ length m - at = omega (arith, length-drop at m) in
+        let e : ys ≡ t ++ drop (length t) (drop at m) = y .bytes ∙ rw (take-all (length m - at) (drop at m) l) in
+        record {
+          bytes = rw (drop-of-length-le (drop at m) l, append-nil, e);
+          end = omega (arith, y .end);
+          fits = part-sum;
+        }
 
 -- ---- the first n elements of a list, one after the other
 
--- i of them were put into b, which is m now
-pub record Run {A : Type 0} (f : A → List ℕ) (xs : List A) (n : ℕ) (b : List ℕ) (i : ℕ) (m : List ℕ) (at : ℕ) : Type 0 where
+-- i of them were put into b from `start` on; it is m now, and the last ends at `at`
+pub record Run {A : Type 0} (f : A → List ℕ) (xs : List A) (n start : ℕ) (b : List ℕ) (i : ℕ) (m : List ℕ) (at : ℕ) : Type 0 where
   pub places : n ≤ length xs
-  pub room : Room (each f (take n xs)) b
+  pub room : Room (each f (take n xs)) start b
   pub most : i ≤ n
-  pub put : Put (each f (take i xs)) b m at
+  pub put : Put (each f (take i xs)) start b m at
 
 pub each-append : {A : Type 0} (f : A → List ℕ) (xs ys : List A) → each f (xs ++ ys) ≡ each f xs ++ each f ys
 unfolding each
@@ -131,25 +121,39 @@ pub each-next : {A : Type 0} (f : A → List ℕ) (xs : List A) (i : ℕ) (d : A
 unfolding each
 each-next f xs i d h = rw (add-one i, take-suc xs i d h, each-append, append-nil)
 
-module _ {A : Type 0} {f : A → List ℕ} {xs : List A} {n : ℕ} {b : List ℕ} where
-  pub run-start : n ≤ length xs → Room (each f (take n xs)) b → Run f xs n b 0 b 0
+module _ {A : Type 0} {f : A → List ℕ} {xs : List A} {n start : ℕ} {b : List ℕ} where
+  pub run-start : n ≤ length xs → Room (each f (take n xs)) start b → Run f xs n start b 0 b start
   unfolding each
-  run-start h l = record { places = h; room = l; most = omega arith; put = put-none b }
+  run-start h l = record { places = h; room = l; most = omega arith; put = put-none b start (omega (arith, l .fits)) }
 
-  module _ {i : ℕ} {m : List ℕ} {at : ℕ} (x : Run f xs n b i m at) where
-    pub run-end : n ≤ i → Put (each f (take n xs)) b m at
+  module _ {i : ℕ} {m : List ℕ} {at : ℕ} (x : Run f xs n start b i m at) where
+    pub run-end : n ≤ i → Put (each f (take n xs)) start b m at
     run-end h =
         let e : i ≡ n = omega (arith, x .most) in
         rw e at (x .put)
 
-    module _ (d : A) (h : i < n) where
-      pub run-next : Next (each f (take i xs)) (f (getD xs i d)) b m at
-      unfolding each
-      run-next =
-          let l : length (take n xs) ≡ n = length-take-le n xs (x .places) in
-          let e : each f (take n xs) ≡ (each f (take i xs) ++ f (getD xs i d)) ++ each f (drop (suc i) (take n xs)) =
-          ap (each f) (split-at (take n xs) i d (omega arith)) ∙ rw (take-take i n xs (omega arith), getD-take n xs i d h, each-append) (sym (append-assoc (each f (take i xs)) (f (getD xs i d)) (each f (drop (suc i) (take n xs))))) in
-          record { put = x .put; room = shorter (each f (take i xs) ++ f (getD xs i d)) (each f (drop (suc i) (take n xs))) (rw e at (x .room)) }
+    pub run-fits : at ≤ length m
+    run-fits = omega (arith, x .put .fits, put-long (x .put))
 
-      pub run-put : {ys : List ℕ} {q : ℕ} → Put (f (getD xs i d)) (take (length m - at) (drop at m)) ys q → Run f xs n b (i + 1) (putMid at (length m - at) m ys) (at + q)
-      run-put y = record { places = x .places; room = x .room; most = omega arith; put = rw (each-next f xs i d (omega (arith, x .places))) (next-put run-next y) }
+    module _ (d : A) (h : i < n) where
+      pub run-room : Room (f (getD xs i d)) at m
+      unfolding each
+      run-room =
+          let l : length (take n xs) ≡ n = length-take-le n xs (x .places) in
+          let e : each f (take n xs) ≡ each f (take i xs) ++ (f (getD xs i d) ++ each f (drop (suc i) (take n xs))) =
+          ap (each f) (split-at (take n xs) i d (omega arith)) ∙ rw (take-take i n xs (omega arith), getD-take n xs i d h, each-append) in
+          room-first (f (getD xs i d)) (each f (drop (suc i) (take n xs))) (room-next (rw e at (x .room)) (x .put))
+
+      pub run-next : {m′ : List ℕ} {r : ℕ} → Put (f (getD xs i d)) at m m′ r → Run f xs n start b (i + 1) m′ r
+      run-next y = record { places = x .places; room = x .room; most = omega arith; put = rw (each-next f xs i d (omega (arith, x .places))) (put-next (x .put) y) }
+
+      -- the next element as a line in the rest of the buffer
+      pub run-part : Room (f (getD xs i d)) 0 (take (length m - at) (drop at m))
+      run-part = part-room run-room
+
+      module _ {ys : List ℕ} {q : ℕ} (y : Put (f (getD xs i d)) 0 (take (length m - at) (drop at m)) ys q) where
+        pub run-sum : at + q ≤ length b
+        run-sum = omega (arith, part-sum run-room y, put-long (x .put))
+
+        pub run-line : Run f xs n start b (i + 1) (putMid at (length m - at) m ys) (at + q)
+        run-line = run-next (part-put run-room y)

@@ -18,8 +18,8 @@ use Rattle.policy.proofs.Parts.{RuleParts, Parts, parts, whole}
 use Rattle.policy.proofs.Bounds.{WithinSide, rule-bounds, rule-digits, parts-within}
 use Rattle.policy.proofs.RoundTrip.{text-short}
 use Rattle.policy.proofs.Valid.{valid-stored}
-use Rattle.writer.specs.Put.{ruleWritable}
-use Rattle.writer.specs.Whole.{SideWithin, RulesWithin, Writable}
+use Rattle.writer.specs.Inner.Put.{ruleWritable}
+use Rattle.writer.specs.Inner.Whole.{SideWithin, RulesWithin, Writable}
 
 side-within : (s : Side) → WithinSide s → SideWithin (sideValue s)
 unfolding sideValue

@@ -1,26 +1,33 @@
-// Bytes, put at the start of a buffer.
-ghost use Rattle.writer.specs.Put.{Room, Put, field};
+// Bytes, put into a buffer from a place on; each call gives the place where they end.
+ghost use Rattle.writer.specs.Inner.Put.{Room, Put, field, feed};
 
 // The bytes s.
-pub fn put(s: &[u8], buf: &mut [u8]) -> usize
-    requires { ⌜ Room (now s) (now buf) ⌝ }
-    ensures { λ r. ⌜ Put (now (s .entry)) (now (buf .entry)) (now (buf .exit)) r ⌝ }
+pub fn put(s: &[u8], buf: &mut [u8], at: usize) -> usize
+    requires { ⌜ Room (now s) at (now buf) ⌝ }
+    ensures { λ r. ⌜ Put (now (s .entry)) at (now (buf .entry)) (now (buf .exit)) r ⌝ }
 {
     let mut i = 0;
     while i < s.len() {
-        buf[i] = s[i];
+        buf[at + i] = s[i];
         i += 1;
     }
-    i
+    at + i
 }
 
 // A comma and the bytes s.
-pub fn put_field(s: &[u8], buf: &mut [u8]) -> usize
-    requires { ⌜ Room (field (now s)) (now buf) ⌝ }
-    ensures { λ r. ⌜ Put (field (now (s .entry))) (now (buf .entry)) (now (buf .exit)) r ⌝ }
+pub fn put_field(s: &[u8], buf: &mut [u8], at: usize) -> usize
+    requires { ⌜ Room (field (now s)) at (now buf) ⌝ }
+    ensures { λ r. ⌜ Put (field (now (s .entry))) at (now (buf .entry)) (now (buf .exit)) r ⌝ }
 {
-    buf[0] = b',';
-    let at = 1;
-    let n = put(s, &mut buf[at..]);
-    at + n
+    buf[at] = b',';
+    put(s, buf, at + 1)
+}
+
+// A line feed.
+pub fn put_feed(buf: &mut [u8], at: usize) -> usize
+    requires { ⌜ Room feed at (now buf) ⌝ }
+    ensures { λ r. ⌜ Put feed at (now (buf .entry)) (now (buf .exit)) r ⌝ }
+{
+    buf[at] = b'\n';
+    at + 1
 }

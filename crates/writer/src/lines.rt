@@ -1,26 +1,32 @@
-// The lines of each list in order, each put into the rest of the buffer.
+// The lines of each list in order, from a place on: each line is put into the rest of the buffer.
 ghost use mathlib.Core.Path.{_≡_};
 ghost use mathlib.Core.Bool.{true};
 ghost use Prim.Native.Nat.{_≤_};
 ghost use lib.ListN.{take};
 ghost use Rattle.basis.specs.Lists.{all};
 ghost use Rattle.policy.specs.Value.{widthPlaces, entryPlaces, rulePlaces, linePlaces};
-ghost use Rattle.writer.specs.Put.{Room, Put, each, oneLine, pairLine, entryLine, ruleLine, ruleWritable};
+ghost use Rattle.writer.specs.Inner.Put.{Room, Put, each, bareLine, oneLine, pairLine, entryLine, ruleLine, ruleWritable};
 use crate::line;
 use policy::value::ENTRY_PLACES;
 use policy::value::Entry;
+use policy::value::LINE_PLACES;
 use policy::value::RULE_PLACES;
 use policy::value::RuleValue;
 use policy::value::WIDTH_PLACES;
 use seniority::Direct;
-use policy::value::LINE_PLACES;
 
 // The first n widths of a side.
-pub fn put_widths(word: &[u8], widths: [u32; WIDTH_PLACES], n: usize, buf: &mut [u8]) -> usize
-    requires { ⌜ (n ≤ widthPlaces) × Room (each (oneLine (now word)) (take n widths)) (now buf) ⌝ }
-    ensures { λ r. ⌜ Put (each (oneLine (now (word .entry))) (take n widths)) (now (buf .entry)) (now (buf .exit)) r ⌝ }
+pub fn put_widths(
+    word: &[u8],
+    widths: [u32; WIDTH_PLACES],
+    n: usize,
+    buf: &mut [u8],
+    start: usize,
+) -> usize
+    requires { ⌜ (n ≤ widthPlaces) × Room (each (oneLine (now word)) (take n widths)) start (now buf) ⌝ }
+    ensures { λ r. ⌜ Put (each (oneLine (now (word .entry))) (take n widths)) start (now (buf .entry)) (now (buf .exit)) r ⌝ }
 {
-    let mut at = 0;
+    let mut at = start;
     let mut i = 0;
     while i < n {
         let m = line::put_one(word, widths[i], &mut buf[at..]);
@@ -31,11 +37,17 @@ pub fn put_widths(word: &[u8], widths: [u32; WIDTH_PLACES], n: usize, buf: &mut 
 }
 
 // The first n seniorities of a side.
-pub fn put_pairs(word: &[u8], pairs: [Direct; LINE_PLACES], n: usize, buf: &mut [u8]) -> usize
-    requires { ⌜ (n ≤ linePlaces) × Room (each (pairLine (now word)) (take n pairs)) (now buf) ⌝ }
-    ensures { λ r. ⌜ Put (each (pairLine (now (word .entry))) (take n pairs)) (now (buf .entry)) (now (buf .exit)) r ⌝ }
+pub fn put_pairs(
+    word: &[u8],
+    pairs: [Direct; LINE_PLACES],
+    n: usize,
+    buf: &mut [u8],
+    start: usize,
+) -> usize
+    requires { ⌜ (n ≤ linePlaces) × Room (each (pairLine (now word)) (take n pairs)) start (now buf) ⌝ }
+    ensures { λ r. ⌜ Put (each (pairLine (now (word .entry))) (take n pairs)) start (now (buf .entry)) (now (buf .exit)) r ⌝ }
 {
-    let mut at = 0;
+    let mut at = start;
     let mut i = 0;
     while i < n {
         let pair = pairs[i];
@@ -47,11 +59,17 @@ pub fn put_pairs(word: &[u8], pairs: [Direct; LINE_PLACES], n: usize, buf: &mut 
 }
 
 // The first n users or objects.
-pub fn put_entries(word: &[u8], entries: [Entry; ENTRY_PLACES], n: usize, buf: &mut [u8]) -> usize
-    requires { ⌜ (n ≤ entryPlaces) × Room (each (entryLine (now word)) (take n entries)) (now buf) ⌝ }
-    ensures { λ r. ⌜ Put (each (entryLine (now (word .entry))) (take n entries)) (now (buf .entry)) (now (buf .exit)) r ⌝ }
+pub fn put_entries(
+    word: &[u8],
+    entries: [Entry; ENTRY_PLACES],
+    n: usize,
+    buf: &mut [u8],
+    start: usize,
+) -> usize
+    requires { ⌜ (n ≤ entryPlaces) × Room (each (entryLine (now word)) (take n entries)) start (now buf) ⌝ }
+    ensures { λ r. ⌜ Put (each (entryLine (now (word .entry))) (take n entries)) start (now (buf .entry)) (now (buf .exit)) r ⌝ }
 {
-    let mut at = 0;
+    let mut at = start;
     let mut i = 0;
     while i < n {
         let entry = entries[i];
@@ -63,18 +81,33 @@ pub fn put_entries(word: &[u8], entries: [Entry; ENTRY_PLACES], n: usize, buf: &
 }
 
 // The first n rules.
-pub fn put_rules(word: &[u8], rules: [RuleValue; RULE_PLACES], n: usize, buf: &mut [u8]) -> usize
-    requires { ⌜ (n ≤ rulePlaces) × (all ruleWritable (take n rules) ≡ true) × Room (each (ruleLine (now word)) (take n rules)) (now buf) ⌝ }
-    ensures { λ r. ⌜ Put (each (ruleLine (now (word .entry))) (take n rules)) (now (buf .entry)) (now (buf .exit)) r ⌝ }
+pub fn put_rules(
+    word: &[u8],
+    rules: [RuleValue; RULE_PLACES],
+    n: usize,
+    buf: &mut [u8],
+    start: usize,
+) -> usize
+    requires { ⌜ (n ≤ rulePlaces) × (all ruleWritable (take n rules) ≡ true) × Room (each (ruleLine (now word)) (take n rules)) start (now buf) ⌝ }
+    ensures { λ r. ⌜ Put (each (ruleLine (now (word .entry))) (take n rules)) start (now (buf .entry)) (now (buf .exit)) r ⌝ }
 {
-    let mut at = 0;
+    let mut at = start;
     let mut i = 0;
     while i < n {
         let rule = rules[i];
         let words = rule.words;
-        let m = line::put_rule(word, rule.action, words, rule.count, &mut buf[at..]);
+        let m = line::put_formula(word, rule.action, words, rule.count, &mut buf[at..]);
         at += m;
         i += 1;
     }
     at
+}
+
+// A line of a word alone.
+pub fn put_bare(word: &[u8], buf: &mut [u8], start: usize) -> usize
+    requires { ⌜ Room (bareLine (now word)) start (now buf) ⌝ }
+    ensures { λ r. ⌜ Put (bareLine (now (word .entry))) start (now (buf .entry)) (now (buf .exit)) r ⌝ }
+{
+    let m = line::put_bare(word, &mut buf[start..]);
+    start + m
 }

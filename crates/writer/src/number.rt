@@ -1,11 +1,12 @@
-// A number field, put at the start of a buffer.
+// A number field, put into a buffer from a place on.
 ghost use mathlib.Core.Path.{_≡_};
-ghost use Prim.Native.Nat.{_+_, _%_, _≤_};
-ghost use lib.ListN.{drop};
+ghost use Prim.Native.Nat.{_+_, _%_};
 ghost use Rattle.basis.specs.Bytes.{byte};
-ghost use Rattle.text.specs.Number.{decimal};
-ghost use Rattle.writer.specs.Put.{Room, Put, field, fiveDigits};
+ghost use Rattle.writer.specs.Inner.Put.{Room, Put, numberField};
 use crate::bytes;
+
+// The most digits that a number has.
+const DIGITS: usize = 10;
 
 // The byte of the last digit of n.
 fn digit(n: u32) -> u8
@@ -15,37 +16,19 @@ fn digit(n: u32) -> u8
     b'0' + d
 }
 
-// How many of the last five digits of n are not written.
-fn unwritten(n: u32) -> usize
-    ensures { λ r. ⌜ (r ≤ 4) × (drop r (fiveDigits n) ≡ decimal n) ⌝ }
+// A comma and a number. Its digits are worked out from the last one on.
+pub fn put(n: u32, buf: &mut [u8], at: usize) -> usize
+    requires { ⌜ Room (numberField n) at (now buf) ⌝ }
+    ensures { λ r. ⌜ Put (numberField n) at (now (buf .entry)) (now (buf .exit)) r ⌝ }
 {
-    if n < 10 {
-        return 4;
+    let mut digits = [0u8; DIGITS];
+    let mut from = DIGITS - 1;
+    let mut rest = n;
+    while 10 <= rest {
+        digits[from] = digit(rest);
+        rest = rest / 10;
+        from -= 1;
     }
-    if n < 100 {
-        return 3;
-    }
-    if n < 1000 {
-        return 2;
-    }
-    if n < 10000 {
-        return 1;
-    }
-    0
-}
-
-// A comma and a number.
-pub fn put(n: u32, buf: &mut [u8]) -> usize
-    requires { ⌜ Room (field (decimal n)) (now buf) ⌝ }
-    ensures { λ r. ⌜ Put (field (decimal n)) (now (buf .entry)) (now (buf .exit)) r ⌝ }
-{
-    let digits = [
-        digit(n / 10000),
-        digit(n / 1000),
-        digit(n / 100),
-        digit(n / 10),
-        digit(n),
-    ];
-    let from = unwritten(n);
-    bytes::put_field(&digits[from..], buf)
+    digits[from] = digit(rest);
+    bytes::put_field(&digits[from..], buf, at)
 }

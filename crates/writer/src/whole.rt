@@ -6,9 +6,8 @@ ghost use lib.ListN.{length};
 ghost use Rattle.policy.specs.Limits.{textBytes};
 ghost use Rattle.policy.specs.Text.{textOf};
 ghost use Rattle.policy.specs.Value.{policyOf};
-ghost use Rattle.writer.specs.Put.{Room, Put};
-ghost use Rattle.writer.specs.Whole.{SideWithin, RegisterWithin, RulesWithin, Writable, widthsText, seniorityText, registeredText, rulesText};
-use crate::bytes;
+ghost use Rattle.writer.specs.Inner.Put.{Room, Put};
+ghost use Rattle.writer.specs.Inner.Whole.{SideWithin, RegisterWithin, RulesWithin, Writable, sidesText, listsText};
 use crate::line;
 use crate::lines;
 use policy::limits::TEXT_BYTES;
@@ -16,70 +15,56 @@ use policy::value::PolicyValue;
 use policy::value::Register;
 use policy::value::Rules;
 use policy::value::SideValue;
+use text::kind;
 
-// The form and the attributes: policy, uattr and oattr lines.
-fn put_widths(form: u32, user: SideValue, object: SideValue, buf: &mut [u8]) -> usize
-    requires { ⌜ SideWithin user × SideWithin object × Room (widthsText form user object) (now buf) ⌝ }
-    ensures { λ r. ⌜ Put (widthsText form user object) (now (buf .entry)) (now (buf .exit)) r ⌝ }
+// The form and the sides, from the policy line to the osen lines.
+fn put_sides(form: u32, user: SideValue, object: SideValue, buf: &mut [u8]) -> usize
+    requires { ⌜ SideWithin user × SideWithin object × Room (sidesText form user object) 0 (now buf) ⌝ }
+    ensures { λ r. ⌜ Put (sidesText form user object) 0 (now (buf .entry)) (now (buf .exit)) r ⌝ }
 {
     let user_widths = user.widths;
     let object_widths = object.widths;
-    let mut at = line::put_one(b"policy", form, buf);
-    at += lines::put_widths(b"uattr", user_widths, user.attributes, &mut buf[at..]);
-    at += lines::put_widths(b"oattr", object_widths, object.attributes, &mut buf[at..]);
-    at
-}
-
-// The seniorities: usen and osen lines.
-fn put_seniority(user: SideValue, object: SideValue, buf: &mut [u8]) -> usize
-    requires { ⌜ SideWithin user × SideWithin object × Room (seniorityText user object) (now buf) ⌝ }
-    ensures { λ r. ⌜ Put (seniorityText user object) (now (buf .entry)) (now (buf .exit)) r ⌝ }
-{
     let user_pairs = user.seniority;
     let object_pairs = object.seniority;
-    let at = lines::put_pairs(b"usen", user_pairs, user.lines, buf);
-    let n = lines::put_pairs(b"osen", object_pairs, object.lines, &mut buf[at..]);
-    at + n
+    let mut at = line::put_one(&kind::POLICY, form, buf);
+    at = lines::put_widths(&kind::UATTR, user_widths, user.attributes, buf, at);
+    at = lines::put_widths(&kind::OATTR, object_widths, object.attributes, buf, at);
+    at = lines::put_pairs(&kind::USEN, user_pairs, user.lines, buf, at);
+    lines::put_pairs(&kind::OSEN, object_pairs, object.lines, buf, at)
 }
 
-// The registers: user and object lines.
-fn put_registered(users: Register, objects: Register, buf: &mut [u8]) -> usize
-    requires { ⌜ RegisterWithin users × RegisterWithin objects × Room (registeredText users objects) (now buf) ⌝ }
-    ensures { λ r. ⌜ Put (registeredText users objects) (now (buf .entry)) (now (buf .exit)) r ⌝ }
+// The registers and the rules, from the user lines to the end line.
+fn put_lists(
+    users: Register,
+    objects: Register,
+    rules: Rules,
+    buf: &mut [u8],
+    start: usize,
+) -> usize
+    requires { ⌜ RegisterWithin users × RegisterWithin objects × RulesWithin rules × Room (listsText users objects rules) start (now buf) ⌝ }
+    ensures { λ r. ⌜ Put (listsText users objects rules) start (now (buf .entry)) (now (buf .exit)) r ⌝ }
 {
     let user_entries = users.entries;
     let object_entries = objects.entries;
-    let at = lines::put_entries(b"user", user_entries, users.count, buf);
-    let n = lines::put_entries(b"object", object_entries, objects.count, &mut buf[at..]);
-    at + n
-}
-
-// The rules and the end: rule lines and the end line.
-fn put_rules(rules: Rules, buf: &mut [u8]) -> usize
-    requires { ⌜ RulesWithin rules × Room (rulesText rules) (now buf) ⌝ }
-    ensures { λ r. ⌜ Put (rulesText rules) (now (buf .entry)) (now (buf .exit)) r ⌝ }
-{
-    let entries = rules.entries;
-    let at = lines::put_rules(b"rule", entries, rules.count, buf);
-    let n = bytes::put(b"end\n", &mut buf[at..]);
-    at + n
+    let rule_entries = rules.entries;
+    let mut at = lines::put_entries(&kind::USER, user_entries, users.count, buf, start);
+    at = lines::put_entries(&kind::OBJECT, object_entries, objects.count, buf, at);
+    at = lines::put_rules(&kind::RULE, rule_entries, rules.count, buf, at);
+    lines::put_bare(&kind::END, buf, at)
 }
 
 // The text of v.
 pub fn put(v: PolicyValue, buf: &mut [u8]) -> usize
-    requires { ⌜ Writable v × Room (textOf (policyOf v)) (now buf) ⌝ }
-    ensures { λ r. ⌜ Put (textOf (policyOf v)) (now (buf .entry)) (now (buf .exit)) r ⌝ }
+    requires { ⌜ Writable v × Room (textOf (policyOf v)) 0 (now buf) ⌝ }
+    ensures { λ r. ⌜ Put (textOf (policyOf v)) 0 (now (buf .entry)) (now (buf .exit)) r ⌝ }
 {
     let user = v.user;
     let object = v.object;
     let users = v.users;
     let objects = v.objects;
     let rules = v.rules;
-    let mut at = put_widths(v.form, user, object, buf);
-    at += put_seniority(user, object, &mut buf[at..]);
-    at += put_registered(users, objects, &mut buf[at..]);
-    at += put_rules(rules, &mut buf[at..]);
-    at
+    let at = put_sides(v.form, user, object, buf);
+    put_lists(users, objects, rules, buf, at)
 }
 
 // The length of the text of v, found by putting it into a buffer of the greatest length.

@@ -1,9 +1,9 @@
-// A word field, put at the start of a buffer.
+// A word field, put into a buffer from a place on.
 ghost use mathlib.Core.Path.{_≡_};
 ghost use mathlib.Core.Bool.{true};
 ghost use Rattle.words.specs.Word.{written};
 ghost use Rattle.words.specs.Inner.{inDigits};
-ghost use Rattle.writer.specs.Put.{Room, Put, field, Spelt};
+ghost use Rattle.writer.specs.Inner.Put.{Room, Put, field, Spelt};
 use crate::bytes;
 use words::Comparison;
 use words::Holding;
@@ -34,12 +34,12 @@ fn spell(w: Word) -> Spelling
 }
 
 // A comma and the word.
-pub fn put(w: Word, buf: &mut [u8]) -> usize
-    requires { ⌜ (inDigits w ≡ true) × (Room (field (written w)) (now buf)) ⌝ }
-    ensures { λ r. ⌜ Put (field (written w)) (now (buf .entry)) (now (buf .exit)) r ⌝ }
+pub fn put(w: Word, buf: &mut [u8], at: usize) -> usize
+    requires { ⌜ (inDigits w ≡ true) × Room (field (written w)) at (now buf) ⌝ }
+    ensures { λ r. ⌜ Put (field (written w)) at (now (buf .entry)) (now (buf .exit)) r ⌝ }
 {
     let s = spell(w);
     let spelt = s.0;
     let n = s.1;
-    bytes::put_field(&spelt[..n], buf)
+    bytes::put_field(&spelt[..n], buf, at)
 }

@@ -1,36 +1,62 @@
--- `board::add` meets its contract: the ruling and the session's next entry settle the call.
-use mathlib.Core.Path.{_∙_}
+-- `board::add` meets its contract: check 11, then the ruling and the session's next entry settle the call.
+use mathlib.Core.Path.{_≡_, refl, _∙_}
 use borrow.Author.Needs.{needs}
 use Rattle.board.specs.Machine.{adds}
-use Rattle.board.specs.Inner.{refusalOf}
-use Rattle.board.proofs.Settled.{settled-near, added}
+use Rattle.board.specs.Inner.{refusalOf, lower}
+use Rattle.board.proofs.Settled.{stopped, ready, change-ruled, settled-near, added}
 use Rattle.board.proofs.add.Statement.{statement}
 use Rattle.board.proofs.add.Tie as tie
 
-of-change-requires : tie.Need-of-change-requires
-of-change-requires c κs = search needs
+fits-requires : tie.Need-fits-requires
+fits-requires c κs = search needs
+
+invalid-requires : tie.Need-invalid-requires
+invalid-requires c κs = search needs
+
+returns : tie.Need-returns
+returns c l = search stopped
 
 at-requires : tie.Need-at-requires
 at-requires c κs = search needs
 
+of-requires : tie.Need-of-requires
+of-requires c κs = search ready
+
+of-add-requires : tie.Need-of-add-requires
+of-add-requires c κs = search needs
+
 union-requires : tie.Need-union-requires
 union-requires c κs = search needs
 
+-- the ruling is of the call's checks
+ruled : (c : tie.After-of-add) → (let a = c .before .before .before .before .before .before .before .before .args in refusalOf (c .of-add .result) ≡ lower (a .policy) (adds (a .user) (a .session) (a .set)) (a .board))
+ruled c =
+    let f = c .before .before .before .before .before .before .before in let a = f .before .args in let x = c .before .before .before .before .at in let r = c .before .of in
+    change-ruled (a .policy) (a .board) (f .fits2 .result) (f .fits2 .ensures) (c .before .before .before .before .before .before .if1 .left)
+    (a .user) (a .session) (x .result) (x .ensures) (c .of-add .result) (r .result) (r .ensures)
+    (adds (a .user) (a .session) (a .set)) refl (c .of-add .ensures)
+
 settle-requires : tie.Need-settle-requires
 settle-requires c κs =
-    let a = c .before .before .before .args in
-    let w = c .before .before .of-change in
-    settled-near (a .policy) (adds (a .user) (a .session) (a .set)) (a .board) (refusalOf (w .result)) (w .ensures)
+    let a = c .before .before .before .before .before .before .before .before .before .args in
+    settled-near (a .policy) (adds (a .user) (a .session) (a .set)) (a .board) _ (ruled (c .before))
 
-returns : tie.Need-returns
-returns c l =
-    let a = c .before .before .before .before .args in
-    let w = c .before .before .before .of-change in
-    let x = c .before .before .at in
+returns-2 : tie.Need-returns-2
+returns-2 c l =
+    let a = c .before .before .before .before .before .before .before .before .before .before .args in let x = c .before .before .before .before .before .before .at in let h = c .before .union in
     c .settle .ensures
-    ∙ added l (a .policy) (a .board) (a .user) (a .session) (refusalOf (w .result)) (a .set) (w .ensures) (x .result) (x .ensures)
-    (c .before .union .result) (c .before .union .ensures)
+    ∙ added l (a .policy) (a .board) (a .user) (a .session) _ (a .set) (x .result) (x .ensures) (h .result) (ruled (c .before .before)) (h .ensures)
 
 pub add-spec : {M : Type 1} → statement M
 add-spec =
-    tie.close (tie.spec of-change-requires at-requires union-requires settle-requires returns)
+    tie.close
+    (tie.spec
+    fits-requires
+    invalid-requires
+    returns
+    at-requires
+    of-requires
+    of-add-requires
+    union-requires
+    settle-requires
+    returns-2)

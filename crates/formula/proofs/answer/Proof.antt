@@ -3,6 +3,7 @@ use mathlib.Core.Path.{refl, sym, _∙_}
 use mathlib.Core.Bool.{true, false}
 use borrow.Author.Needs.{needs}
 use Rattle.policy.specs.Value.{policyOf}
+use Rattle.formula.specs.Truth.{at}
 use Rattle.formula.proofs.Checked.{valid-fits}
 use Rattle.formula.proofs.Answers.{sets-fit, no-action, no-set, by-formula}
 use Rattle.formula.proofs.answer.Statement.{statement}
@@ -14,7 +15,7 @@ actions-requires c κs = search needs
 returns : tie.Need-returns
 returns c =
     let t = c .before .before in let a = t .args in
-    no-action (a .v) (a .action) (a .user) (a .object) (t .pre) (rw (c .before .actions .ensures) at (c .if1 .taken))
+    no-action (a .v) (a .action) (at (a .user) (a .object)) (t .pre) (rw (c .before .actions .ensures) at (c .if1 .taken))
 
 of-sides-requires : tie.Need-of-sides-requires
 of-sides-requires c κs =
@@ -30,16 +31,16 @@ unfolding policyOf
 returns-2 c =
     let n = c .before .before .before .before .before in let t = n .before .before in let a = t .args in
     let p = policyOf (a .v) in
-    no-set (a .v) (a .action) (a .user) (a .object) (t .pre) (rw (n .before .actions .ensures) at (n .if1 .left))
+    no-set (a .v) (a .action) (at (a .user) (a .object)) (t .pre) (rw (n .before .actions .ensures) at (n .if1 .left))
     (sym (c .before .lacks .ensures p (c .before .before .of-sides .ensures p refl refl)) ∙ c .if2 .taken)
 
-granted-requires : tie.Need-granted-requires
+allows-requires : tie.Need-allows-requires
 unfolding policyOf
-granted-requires c κs =
+allows-requires c κs =
     let t = c .before .before .before .before .before .before .before in let a = t .args in
     let p = policyOf (a .v) in
     let x = c .before .before .of-sides .ensures p refl refl in
-    let f = sets-fit p (c .before .before .of-sides .result) x (a .user) (a .object) (sym (c .before .lacks .ensures p x) ∙ c .if2 .left) in
+    let f = sets-fit p (c .before .before .of-sides .result) x (at (a .user) (a .object)) (sym (c .before .lacks .ensures p x) ∙ c .if2 .left) in
     (valid-fits (a .v) (t .pre), x, f .0, f .1)
 
 returns-3 : tie.Need-returns-3
@@ -47,18 +48,18 @@ unfolding policyOf
 returns-3 c =
     let n = c .before .before .before .before .before .before .before in let t = n .before .before in let a = t .args in
     let p = policyOf (a .v) in
-    by-formula (a .v) (a .action) (a .user) (a .object) (t .pre) (rw (n .before .actions .ensures) at (n .if1 .left))
+    by-formula (a .v) (a .action) (at (a .user) (a .object)) (t .pre) (rw (n .before .actions .ensures) at (n .if1 .left))
     (sym (c .before .before .before .lacks .ensures p (c .before .before .before .before .of-sides .ensures p refl refl)) ∙ c .before .before .if2 .left)
-    (c .before .granted .result) true (c .before .granted .ensures) (c .if3 .taken)
+    (c .before .allows .result) true (c .before .allows .ensures) (c .if3 .taken)
 
 returns-4 : tie.Need-returns-4
 unfolding policyOf
 returns-4 c =
     let n = c .before .before .before .before .before .before .before in let t = n .before .before in let a = t .args in
     let p = policyOf (a .v) in
-    by-formula (a .v) (a .action) (a .user) (a .object) (t .pre) (rw (n .before .actions .ensures) at (n .if1 .left))
+    by-formula (a .v) (a .action) (at (a .user) (a .object)) (t .pre) (rw (n .before .actions .ensures) at (n .if1 .left))
     (sym (c .before .before .before .lacks .ensures p (c .before .before .before .before .of-sides .ensures p refl refl)) ∙ c .before .before .if2 .left)
-    (c .before .granted .result) false (c .before .granted .ensures) (c .if3 .left)
+    (c .before .allows .result) false (c .before .allows .ensures) (c .if3 .left)
 
 pub answer-spec : {M : Type 1} → statement M
 answer-spec =
@@ -69,6 +70,6 @@ answer-spec =
     of-sides-requires
     lacks-requires
     returns-2
-    granted-requires
+    allows-requires
     returns-3
     returns-4)

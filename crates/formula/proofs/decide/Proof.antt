@@ -2,6 +2,7 @@
 use mathlib.Core.Path.{sym, _∙_}
 use borrow.Author.Needs.{needs}
 use borrow.Author.Tests.{not-true, not-false}
+use Rattle.formula.specs.Truth.{at}
 use Rattle.formula.proofs.Answers.{invalid}
 use Rattle.formula.proofs.decide.Statement.{statement}
 use Rattle.formula.proofs.decide.Tie as tie
@@ -12,7 +13,7 @@ check-requires c κs = search needs
 returns : tie.Need-returns
 returns c =
     let a = c .before .before .args in
-    invalid (a .v) (a .action) (a .user) (a .object) (sym (c .before .check .ensures) ∙ not-true (c .before .check .result) (c .if1 .taken))
+    invalid (a .v) (a .action) (at (a .user) (a .object)) (sym (c .before .check .ensures) ∙ not-true (c .before .check .result) (c .if1 .taken))
 
 answer-requires : tie.Need-answer-requires
 answer-requires c κs = sym (c .before .check .ensures) ∙ not-false (c .before .check .result) (c .if1 .left)

@@ -1,20 +1,22 @@
--- `lister::values_of` meets its contract: a side of a policy that passes check 11 has at most seven values.
+-- `lister::values_of` meets its contract: a side of a policy that passes check 11 is not too wide.
 use Prim.Native.Nat.{_≤_}
-use mathlib.Core.Path.{_≡_, refl}
+use mathlib.Core.Path.{_≡_, ap}
 use mathlib.Core.Bool.{true}
 use native.Mathlib.Omega.{arith}
 use lib.ListN.{take}
 use Rattle.basis.specs.Lists.{sum}
+use Rattle.policy.specs.Limits.{mostValues}
 use Rattle.policy.specs.Policy.{total}
 use Rattle.policy.specs.Value.{sideOf, policyOf}
 use Rattle.policy.specs.Valid.{valid}
 use Rattle.policy.specs.declared.value.PolicyValue.{PolicyValue}
+use Rattle.checks.specs.declared.side.Shape.{Shape}
 use Rattle.writer.proofs.Ready.{valid-writable}
 use Rattle.report.proofs.Enough.{few-objects}
 use Rattle.lister.proofs.values_of.Statement.{statement}
 use Rattle.lister.proofs.values_of.Tie as tie
 
-few : (v : PolicyValue) → valid v ≡ true → sum (take (v .object .attributes) (v .object .widths)) ≤ 7
+few : (v : PolicyValue) → valid v ≡ true → sum (take (v .object .attributes) (v .object .widths)) ≤ mostValues
 unfolding total policyOf sideOf
 few v e = few-objects v e
 
@@ -24,8 +26,8 @@ measure-requires c κs =
     (valid-writable (s .args .policy) (s .pre) .object .widths, omega (arith, few (s .args .policy) (s .pre)))
 
 returns : tie.Need-returns
-unfolding policyOf sideOf
-returns c = c .measure .ensures (policyOf (c .before .before .before .args .policy) .object) refl .total
+unfolding total policyOf sideOf
+returns c = ap (λ (x : Shape). x .total) (c .measure .ensures)
 
 pub values-of-spec : {M : Type 1} → statement M
 values-of-spec = tie.close (tie.spec measure-requires returns)

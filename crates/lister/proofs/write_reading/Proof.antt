@@ -1,7 +1,7 @@
 -- `lister::write_reading` meets its contract: the policy value of an accepted text passes check 11, and a refusal's line is small.
 use native.Mathlib.Omega.{arith}
 use borrow.Author.Needs.{needs}
-use Rattle.writer.proofs.Putting.{put-fits}
+use Rattle.writer.proofs.Putting.{put-long}
 use Rattle.report.proofs.Reading.{read-valid, read-line}
 use Rattle.lister.proofs.write_reading.Statement.{statement}
 use Rattle.lister.proofs.write_reading.Tie as tie
@@ -22,7 +22,7 @@ write-rules-requires c κs =
     let l = c .before .before .before in
     let m = l .before .before .before in
     let s = m .before .before .before .before in
-    (read-valid (s .pre .0 .0) (s .pre .0 .2) (m .enum-told .given .1), omega (arith, put-fits (l .labels-line .ensures), l .labels-line .ensures .long), omega (arith, l .labels-line .ensures .long, s .pre .1))
+    (read-valid (s .pre .0 .0) (s .pre .0 .2) (m .enum-told .given .1), omega (arith, l .labels-line .ensures .fits, put-long (l .labels-line .ensures)), omega (arith, put-long (l .labels-line .ensures), s .pre .1))
 
 enum-known-verdict : tie.Need-enum-known-verdict
 enum-known-verdict c = search needs
@@ -48,7 +48,7 @@ same-length-2 : tie.Need-same-length-2
 same-length-2 c = search needs
 
 returns-2 : tie.Need-returns-2
-returns-2 c = put-fits (c .before .before .refusal-line .ensures)
+returns-2 c = c .before .before .refusal-line .ensures .fits
 
 pub write-reading-spec : {M : Type 1} → statement M
 write-reading-spec =

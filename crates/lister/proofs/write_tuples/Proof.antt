@@ -5,7 +5,7 @@ use mathlib.Core.List.{List}
 use native.Mathlib.Omega.{arith}
 use borrow.Author.Needs.{needs}
 use lib.ListN.{length}
-use Rattle.report.specs.Lines.{lineRoom}
+use Rattle.report.specs.Inner.{lineRoom}
 use Rattle.lister.proofs.Rest.{rest-room, rest-fits, rest-same}
 use Rattle.lister.proofs.write_tuples.Statement.{statement}
 use Rattle.lister.proofs.write_tuples.Tie as tie

@@ -2,7 +2,7 @@
 use borrow.Author.Needs.{needs}
 use lib.Dec.{lit≤}
 use Rattle.basis.specs.Bytes.{bytes}
-use Rattle.report.proofs.Short.{two-room}
+use Rattle.report.proofs.Short.{two-is, two-room}
 use Rattle.report.proofs.action_line.Statement.{statement}
 use Rattle.report.proofs.action_line.Tie as tie
 
@@ -10,13 +10,13 @@ slice-aggregate-put-two : tie.Need-slice-aggregate-put-two
 slice-aggregate-put-two c = search needs
 
 put-two-requires : tie.Need-put-two-requires
-put-two-requires c κs = two-room (bytes "action") (c .before .before .before .args .action) (c .before .before .before .args .count) (lit≤ tt) (c .before .before .before .pre)
+put-two-requires c κs = two-room (bytes "action") (c .before .before .before .args .action) (c .before .before .before .args .count) (lit≤ tt) (search needs) (search needs) (c .before .before .before .pre)
 
 same-length : tie.Need-same-length
 same-length c = search needs
 
 returns : tie.Need-returns
-returns c = search needs
+returns c = rw two-is at (c .before .before .put-two .ensures)
 
 pub action-line-spec : {M : Type 1} → statement M
 action-line-spec =

@@ -1,4 +1,5 @@
--- `sets::holds` meets its contract: a shift past the last bit is never made, and no set of 32 bits has a value from 32 on.
+-- `sets::holds` meets its contract: a shift past the last bit is never made, and no set of 32 bits has a value from 32
+-- on.
 use mathlib.Core.Path.{sym}
 use borrow.Author.Needs.{needs}
 use Rattle.sets.proofs.Laws.{has-none}

@@ -1,8 +1,10 @@
 -- `writer::write` meets its contract: by the checks in their order.
-use Prim.Native.Nat.{ℕ, _≤_, _<_}
-use mathlib.Core.Path.{_≡_, sym, _∙_}
+use Prim.Native.Nat.{ℕ, _+_, _≤_, _<_}
+use mathlib.Core.Path.{_≡_, sym, ap, _∙_}
 use mathlib.Core.Bool.{Bool, true, false, not}
 use mathlib.Core.List.{List}
+use native.Mathlib.Nat.{zero-add}
+use native.Mathlib.Omega.{arith}
 use borrow.Author.Tests.{lt-ltb, le-ltb, leb-true, leb-false, not-true, not-false}
 use borrow.Author.Needs.{needs}
 use lib.Dec.{leb}
@@ -13,7 +15,7 @@ use Rattle.policy.specs.Valid.{valid}
 use Rattle.policy.specs.Value.{policyOf}
 use Rattle.policy.specs.Write.{write, writeBuffer}
 use Rattle.policy.specs.declared.value.PolicyValue.{PolicyValue}
-use Rattle.writer.specs.Put.{Room, Put}
+use Rattle.writer.specs.Inner.Put.{Room, Put}
 use Rattle.writer.proofs.Ready.{valid-writable, valid-short}
 use Rattle.writer.proofs.write.Statement.{statement}
 use Rattle.writer.proofs.write.Tie as tie
@@ -31,11 +33,11 @@ module _ (v : PolicyValue) (b : List ℕ) where
         let t = lt-ltb (length b) (length (textOf (policyOf v))) h in
         (rw (e, t), rw (e, t))
 
-    stored : {m : List ℕ} {r : ℕ} → Room (textOf (policyOf v)) b → Put (textOf (policyOf v)) b m r → (gives r ≡ write v b) × (m ≡ writeBuffer v b)
+    stored : {m : List ℕ} {r : ℕ} → Room (textOf (policyOf v)) 0 b → Put (textOf (policyOf v)) 0 b m r → (gives r ≡ write v b) × (m ≡ writeBuffer v b)
     unfolding write writeBuffer lowest
     stored h p =
-        let t = le-ltb (length b) (length (textOf (policyOf v))) (h .fits) in
-        (rw (e, t, p .count), rw (e, t) (p .bytes))
+        let t = le-ltb (length b) (length (textOf (policyOf v))) (omega (arith, h .fits)) in
+        (rw (e, t) (ap gives (p .end ∙ zero-add _)), rw (e, t) (p .bytes))
 
 -- what the answer of `fits` says
 tight : {m n : ℕ} {r : Bool} → r ≡ leb m n → not r ≡ true → n < m
@@ -43,6 +45,9 @@ tight {m} {n} e t = leb-false m n (sym e ∙ not-true _ t)
 
 loose : {m n : ℕ} {r : Bool} → r ≡ leb m n → not r ≡ false → m ≤ n
 loose {m} {n} e t = leb-true m n (sym e ∙ not-false _ t)
+
+from-start : {m n : ℕ} → m ≤ n → 0 + m ≤ n
+from-start h = omega arith
 
 check-requires : tie.Need-check-requires
 check-requires c κs = search needs
@@ -57,10 +62,10 @@ returns-2 : tie.Need-returns-2
 returns-2 c = short _ _ (sym (c .before .before .before .check .ensures) ∙ not-false _ (c .before .before .if1 .left)) (tight (c .before .fits2 .ensures) (c .if2 .taken))
 
 put-requires : tie.Need-put-requires
-put-requires c κs = (valid-writable _ (sym (c .before .before .before .before .check .ensures) ∙ not-false _ (c .before .before .before .if1 .left)), record { fits = loose (c .before .before .fits2 .ensures) (c .before .if2 .left) })
+put-requires c κs = (valid-writable _ (sym (c .before .before .before .before .check .ensures) ∙ not-false _ (c .before .before .before .if1 .left)), record { fits = from-start (loose (c .before .before .fits2 .ensures) (c .before .if2 .left)) })
 
 returns-3 : tie.Need-returns-3
-returns-3 c = stored _ _ (sym (c .before .before .before .before .before .before .before .check .ensures) ∙ not-false _ (c .before .before .before .before .before .before .if1 .left)) (record { fits = loose (c .before .before .before .before .before .fits2 .ensures) (c .before .before .before .before .if2 .left) }) (c .before .before .put .ensures)
+returns-3 c = stored _ _ (sym (c .before .before .before .before .before .before .before .check .ensures) ∙ not-false _ (c .before .before .before .before .before .before .if1 .left)) (record { fits = from-start (loose (c .before .before .before .before .before .fits2 .ensures) (c .before .before .before .before .if2 .left)) }) (c .before .before .put .ensures)
 
 same-length : tie.Need-same-length
 same-length c = search needs

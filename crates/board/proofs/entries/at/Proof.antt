@@ -1,35 +1,33 @@
 -- `board::entries::at` meets its contract: past the last session number the definition's default is closed.
 use Prim.Native.Nat.{_≤_}
-use mathlib.Core.Path.{_≡_, sym, ap, _∙_}
+use mathlib.Core.Path.{_≡_, sym, _∙_}
 use native.Mathlib.Omega.{arith}
 use lib.ListN.{length, List·getD-eq-default}
 use borrow.Author.Needs.{needs}
 use Rattle.basis.proofs.Lists.{long}
 use Rattle.policy.specs.Limits.{sessionNumbers}
-use Rattle.board.specs.Board.{closed, entryOf, entryAt}
+use Rattle.board.specs.Board.{closed}
 use Rattle.board.proofs.entries.at.Statement.{statement}
 use Rattle.board.proofs.entries.at.Tie as tie
 
 mul-result : tie.Need-mul-result
 mul-result c = search needs
 
-element-copy-out-result : tie.Need-element-copy-out-result
-element-copy-out-result c = search needs
+array-copy-out-result : tie.Need-array-copy-out-result
+array-copy-out-result c = search needs
 
 closed-requires : tie.Need-closed-requires
 closed-requires c κs = search needs
 
 returns : tie.Need-returns
-unfolding entryAt
 returns c = search needs
 
 returns-2 : tie.Need-returns-2
-unfolding entryAt
 returns-2 c =
-    let xs = c .before .before .args .t1 .sessions in
+    let xs = c .before .before .args .t1 in
     let l : length xs ≡ sessionNumbers = search (needs, long) in
     let h : length xs ≤ c .before .before .args .session = omega arith in
-    ap entryOf (c .closed .ensures ∙ sym (List·getD-eq-default xs closed h))
+    c .closed .ensures ∙ sym (List·getD-eq-default xs closed h)
 
 pub at-spec : {M : Type 1} → statement M
-at-spec = tie.close (tie.spec mul-result element-copy-out-result closed-requires returns returns-2)
+at-spec = tie.close (tie.spec mul-result array-copy-out-result closed-requires returns returns-2)

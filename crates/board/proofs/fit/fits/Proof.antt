@@ -9,17 +9,18 @@ use Rattle.board.proofs.fit.fits.Tie as tie
 check-requires : tie.Need-check-requires
 check-requires c κs = search needs
 
-entries-fit-requires : tie.Need-entries-fit-requires
-entries-fit-requires c κs =
-    reachable (c .before .before .before .before .args .policy) (sym (c .before .before .before .check .ensures) ∙ c .before .before .if1 .taken)
+sessions-fit-requires : tie.Need-sessions-fit-requires
+sessions-fit-requires c κs =
+    let k = c .before .before .before in
+    reachable (k .before .before .args .policy) (sym (k .before .check .ensures) ∙ k .if1 .taken)
 
 returns : tie.Need-returns
 returns c =
-    fits-entries (c .before .before .before .before .before .args .policy) (c .before .before .before .before .before .args .board)
-    (sym (c .before .before .before .before .check .ensures) ∙ c .before .before .before .if1 .taken) (c .entries-fit .result) (c .entries-fit .ensures)
+    let k = c .before .before .before .before in let a = k .before .before .args in
+    fits-entries (a .policy) (a .board) (sym (k .before .check .ensures) ∙ k .if1 .taken) (c .sessions-fit .result) (c .sessions-fit .ensures)
 
 returns-2 : tie.Need-returns-2
 returns-2 c = fits-invalid (c .before .before .args .policy) (c .before .before .args .board) (sym (c .before .check .ensures) ∙ c .if1 .left)
 
 pub fits-spec : {M : Type 1} → statement M
-fits-spec = tie.close (tie.spec check-requires entries-fit-requires returns returns-2)
+fits-spec = tie.close (tie.spec check-requires sessions-fit-requires returns returns-2)

@@ -8,6 +8,7 @@ use borrow.Author.Needs.{needs}
 use Rattle.basis.proofs.Lists.{long}
 use Rattle.seniority.specs.Inner.{wordBits}
 use Rattle.seniority.proofs.Laws.{lowered, has-lowered, line-bounds, lower-line}
+use Rattle.policy.specs.Value.{linePlaces}
 use Rattle.board.proofs.juniors.with_juniors.Statement.{statement}
 use Rattle.board.proofs.juniors.with_juniors.Tie as tie
 
@@ -21,7 +22,7 @@ loop-holds : tie.Need-loop-holds Inv-loop μ-loop
 unfolding lowered
 loop-holds c =
     let a = c .args in
-    let l : length (a .t1) ≡ 21 = search (needs, long) in
+    let l : length (a .t1) ≡ linePlaces = search (needs, long) in
     let h : a .n ≤ length (a .t1) = omega arith in
     let k : length (take (a .n) (a .t1)) ≤ a .n = omega (arith, length-take-le (a .n) (a .t1) h) in
     (omega arith, h, rw (drop-of-length-le (take (a .n) (a .t1)) k))

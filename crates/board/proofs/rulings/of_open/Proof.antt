@@ -1,32 +1,26 @@
--- `board::rulings::of_open` meets its contract: 11 first, then the checks of the call on its session's entry.
+-- `board::rulings::of_open` meets its contract: one law for each way out.
 use borrow.Author.Needs.{needs}
-use Rattle.board.proofs.Ways.{ruled-bad, ready, open-ruled}
+use Rattle.board.proofs.Ways.{open-unknown, open-unregistered, open-open, open-allowed, open-outside}
 use Rattle.board.proofs.rulings.of_open.Statement.{statement}
 use Rattle.board.proofs.rulings.of_open.Tie as tie
 
-fits-requires : tie.Need-fits-requires
-fits-requires c κs = search needs
-
 returns : tie.Need-returns
-returns c = search ruled-bad
-
-of-requires : tie.Need-of-requires
-of-requires c κs = search ready
-
-at-requires : tie.Need-at-requires
-at-requires c κs = search needs
-
-open-checks-requires : tie.Need-open-checks-requires
-open-checks-requires c κs = search needs
+returns c = search open-unknown
 
 returns-2 : tie.Need-returns-2
-returns-2 c =
-    let s = c .before .before .before .before .before .before in
-    open-ruled (s .before .args .policy) (s .before .args .board) (s .fits2 .result) (s .fits2 .ensures) (c .before .before .before .before .before .if1 .left)
-    (s .before .args .user) (s .before .args .session) (c .before .at .result) (c .before .at .ensures) (c .open-checks .result)
-    (s .before .args .set) (c .before .before .of .result) (c .before .before .of .ensures) (c .open-checks .ensures)
+returns-2 c = search open-unregistered
+
+returns-3 : tie.Need-returns-3
+returns-3 c = search open-open
+
+within-requires : tie.Need-within-requires
+within-requires c κs = search needs
+
+returns-4 : tie.Need-returns-4
+returns-4 c = search open-allowed
+
+returns-5 : tie.Need-returns-5
+returns-5 c = search open-outside
 
 pub of-open-spec : {M : Type 1} → statement M
-of-open-spec =
-    tie.close
-    (tie.spec fits-requires returns of-requires at-requires open-checks-requires returns-2)
+of-open-spec = tie.close (tie.spec returns returns-2 returns-3 within-requires returns-4 returns-5)

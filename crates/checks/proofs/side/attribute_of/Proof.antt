@@ -1,4 +1,5 @@
--- `checks::side::attribute_of` meets its contract: i attributes passed, and the attribute among those from place i on of what is left of v.
+-- `checks::side::attribute_of` meets its contract: i attributes passed, and the attribute among those from place i on
+-- of what is left of v.
 use Prim.Native.Nat.{suc, _+_, _-_, _≤_}
 use mathlib.Core.Path.{_≡_, _∙_}
 use native.Mathlib.Omega.{arith}

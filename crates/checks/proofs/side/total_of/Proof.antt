@@ -1,4 +1,5 @@
--- `checks::side::total_of` meets its contract: the sum so far and the sum of the widths from place i on are the whole sum.
+-- `checks::side::total_of` meets its contract: the sum so far and the sum of the widths from place i on are the whole
+-- sum.
 use Prim.Native.Nat.{_+_, _-_, _≤_}
 use mathlib.Core.Path.{_≡_}
 use native.Mathlib.Omega.{arith}

@@ -6,17 +6,18 @@ use mathlib.Core.Logic.{⊎-elim}
 use native.Mathlib.Omega.{arith}
 use lib.ListN.{getD}
 use borrow.Author.Tests.{eq-eqb, ne-eqb}
-use Rattle.sets.specs.Set.{has, setOf}
-use Rattle.formula.proofs.Rows.{bit-fits, bit-shifted, setOf-next}
 use borrow.Author.Needs.{needs}
+use Rattle.sets.specs.Set.{has, setOf}
+use Rattle.policy.specs.Limits.{mostActions}
+use Rattle.formula.proofs.Granting.{bit-fits, bit-shifted, setOf-next}
 use Rattle.formula.proofs.entries.entry.Statement.{statement}
 use Rattle.formula.proofs.entries.entry.Tie as tie
 
 abbrev Inv-loop : tie.InvT-loop
-Inv-loop grants k r₀ a₀ r a = (a ≤ 8) × (r ≡ setOf (λ n. has (getD grants n 0) k) a)
+Inv-loop granted n k r₀ a₀ r a = (a ≤ n) × (r ≡ setOf (λ b. has (getD granted b 0) k) a)
 
 abbrev μ-loop : tie.MeasureT-loop
-μ-loop grants k r₀ a₀ r a = 8 - a
+μ-loop granted n k r₀ a₀ r a = n - a
 
 loop-holds : tie.Need-loop-holds Inv-loop μ-loop
 unfolding setOf
@@ -40,8 +41,8 @@ shl-r c = search needs
 add-r : tie.Need-add-r Inv-loop μ-loop
 add-r c =
     let l = c .before .before .before .loop in let b = c .before .before .before .before .args in
-    let h : l .a < 8 = omega arith in
-    omega (arith, l .inv .1, bit-shifted (l .a) h, bit-fits (λ n. has (getD (b .grants .now) n 0) (b .k)) (l .a) h)
+    let h : l .a < mostActions = omega arith in
+    omega (arith, l .inv .1, bit-shifted (l .a) h, bit-fits (λ i. has (getD (b .granted .now) i 0) (b .k)) (l .a) h)
 
 add-a : tie.Need-add-a Inv-loop μ-loop
 add-a c = search needs
@@ -52,8 +53,8 @@ loop-less c = search needs
 loop-again : tie.Need-loop-again Inv-loop μ-loop
 loop-again c =
     let l = c .before .before .before .loop in let b = c .before .before .before .before .args in
-    let f : ℕ → Bool = λ n. has (getD (b .grants .now) n 0) (b .k) in
-    let h : l .a < 8 = omega arith in (
+    let f : ℕ → Bool = λ i. has (getD (b .granted .now) i 0) (b .k) in
+    let h : l .a < mostActions = omega arith in (
       omega arith,
       rw (setOf-next f (l .a))
           (⊎-elim
@@ -63,7 +64,7 @@ loop-again c =
     )
 
 returns : tie.Need-returns Inv-loop μ-loop
-returns c = let e : c .before .loop .a ≡ 8 = omega arith in rw e at (c .before .loop .inv .1)
+returns c = let e : c .before .loop .a ≡ c .before .before .args .n = omega arith in rw e at (c .before .loop .inv .1)
 
 pub entry-spec : {M : Type 1} → statement M
 entry-spec =

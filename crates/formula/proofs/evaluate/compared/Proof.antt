@@ -1,7 +1,7 @@
 -- `formula::evaluate::compared` meets its contract, by the comparison.
 use mathlib.Core.Path.{sym, ap, _∙_}
-use Rattle.formula.specs.Truth.{compares}
 use borrow.Author.Needs.{needs}
+use Rattle.formula.specs.Truth.{compares}
 use Rattle.formula.proofs.evaluate.compared.Statement.{statement}
 use Rattle.formula.proofs.evaluate.compared.Tie as tie
 
@@ -18,10 +18,10 @@ matched-requires-2 : tie.Need-matched-requires-2
 matched-requires-2 c κs = search needs
 
 returns : tie.Need-returns
-returns c p k u o h x = c .matched .ensures p k u o h x ∙ sym (ap (compares p u o) (c .before .before .c .given .1))
+returns c p k s h x = c .matched .ensures p k s h x ∙ sym (ap (compares p s) (c .before .before .c .given .1))
 
 returns-2 : tie.Need-returns-2
-returns-2 c p k u o h x = c .matched2 .ensures p k u o h x ∙ sym (ap (compares p u o) (c .before .before .c2 .given .1))
+returns-2 c p k s h x = c .matched2 .ensures p k s h x ∙ sym (ap (compares p s) (c .before .before .c2 .given .1))
 
 pub compared-spec : {M : Type 1} → statement M
 compared-spec =

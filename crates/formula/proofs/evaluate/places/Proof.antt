@@ -2,25 +2,26 @@
 use Prim.Native.Nat.{ℕ, _+_, _-_, _≤_}
 use mathlib.Core.Path.{_≡_, ap₂, _∙_}
 use native.Mathlib.Omega.{arith}
+use borrow.Author.Needs.{needs}
 use Rattle.basis.specs.Numbers.{every}
 use Rattle.sets.specs.Set.{has}
 use Rattle.policy.specs.Policy.{Policy}
-use Rattle.formula.specs.Lane.{Pair, passes}
+use Rattle.formula.specs.Truth.{Sets}
+use Rattle.formula.specs.Inner.Lane.{InLane, passes}
 use Rattle.formula.proofs.Vectors.{has-ones, every-next}
-use borrow.Author.Needs.{needs}
 use Rattle.formula.proofs.evaluate.places.Statement.{statement}
 use Rattle.formula.proofs.evaluate.places.Tie as tie
 
 abbrev Inv-loop : tie.InvT-loop
 Inv-loop users objects w a b exact r₀ q₀ r q =
-    (q ≤ w) × ((p : Policy) (k u o : ℕ) → Pair p users objects k u o → has r k ≡ every (λ n. passes exact (has o (b + n)) (has u (a + n))) q)
+    (q ≤ w) × ((p : Policy) (k : ℕ) (s : Sets) → InLane p users objects k s → has r k ≡ every (λ n. passes exact (has (s .object) (b + n)) (has (s .user) (a + n))) q)
 
 abbrev μ-loop : tie.MeasureT-loop
 μ-loop users objects w a b exact r₀ q₀ r q = w - q
 
 loop-holds : tie.Need-loop-holds Inv-loop μ-loop
 unfolding every
-loop-holds c = (omega arith, λ p k u o x. has-ones k (x .lane))
+loop-holds c = (omega arith, λ p k s x. has-ones k (x .lane))
 
 add-x : tie.Need-add-x Inv-loop μ-loop
 add-x c = search needs
@@ -59,14 +60,14 @@ loop-again : tie.Need-loop-again Inv-loop μ-loop
 loop-again c =
     let l = c .before .before .before .before .loop in let a = c .before .before .before .before .before .args in (
       omega arith,
-      λ p k u o x.
-          every-next (λ n. passes (a .exact) (has o (a .b + n)) (has u (a .a + n))) (l .q) (l .r) (c .place .result) k (l .inv .1 p k u o x)
+      λ p k s x.
+          every-next (λ n. passes (a .exact) (has (s .object) (a .b + n)) (has (s .user) (a .a + n))) (l .q) (l .r) (c .place .result) k (l .inv .1 p k s x)
           (c .place .ensures k (x .lane)
           ∙ ap₂ (passes (a .exact)) (x .object .held (a .b + l .q) (omega arith)) (x .user .held (a .a + l .q) (omega arith))),
     )
 
 returns : tie.Need-returns Inv-loop μ-loop
-returns c p k u o x = let e : c .before .loop .q ≡ c .before .before .args .w = omega arith in rw e at (c .before .loop .inv .1 p k u o x)
+returns c p k s x = let e : c .before .loop .q ≡ c .before .before .args .w = omega arith in rw e at (c .before .loop .inv .1 p k s x)
 
 pub places-spec : {M : Type 1} → statement M
 places-spec =

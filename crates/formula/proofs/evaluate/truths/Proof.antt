@@ -4,26 +4,27 @@ use mathlib.Core.Path.{_≡_, refl, ap, _∙_}
 use mathlib.Core.List.{[]}
 use native.Mathlib.Omega.{arith}
 use lib.ListN.{length, length-set}
+use borrow.Author.Needs.{needs}
 use Rattle.basis.proofs.Lists.{long}
 use Rattle.policy.specs.Policy.{Policy}
-use Rattle.formula.specs.Truth.{top, run, truth}
-use Rattle.formula.specs.Lane.{ShapeOf, Pair, wordsOf, column}
+use Rattle.policy.specs.Value.{wordPlaces}
+use Rattle.formula.specs.Truth.{Sets, top, run, truth}
+use Rattle.formula.specs.Inner.Lane.{AttributesOf, InLane, wordsOf, column}
 use Rattle.formula.proofs.Stack.{column-next}
-use borrow.Author.Needs.{needs}
 use Rattle.formula.proofs.evaluate.truths.Statement.{statement}
 use Rattle.formula.proofs.evaluate.truths.Tie as tie
 
 abbrev Inv-loop : tie.InvT-loop
-Inv-loop s users objects n words stack₀ d₀ i₀ stack d i =
-    (i ≤ n) × (d ≤ i) × (length stack ≡ 32)
-    × ((p : Policy) (k u o : ℕ) → ShapeOf p s → Pair p users objects k u o → column stack d k ≡ run p u o (wordsOf i words) [])
+Inv-loop sides users objects n words stack₀ d₀ i₀ stack d i =
+    (i ≤ n) × (d ≤ i) × (length stack ≡ wordPlaces)
+    × ((p : Policy) (k : ℕ) (s : Sets) → AttributesOf p sides → InLane p users objects k s → column stack d k ≡ run p s (wordsOf i words) [])
 
 abbrev μ-loop : tie.MeasureT-loop
-μ-loop s users objects n words stack₀ d₀ i₀ stack d i = n - i
+μ-loop sides users objects n words stack₀ d₀ i₀ stack d i = n - i
 
 loop-holds : tie.Need-loop-holds Inv-loop μ-loop
 unfolding run column
-loop-holds c = (omega arith, omega arith, refl, λ p k u o s x. refl)
+loop-holds c = (omega arith, omega arith, refl, λ p k s h x. refl)
 
 mul-slot : tie.Need-mul-slot Inv-loop μ-loop
 mul-slot c = search needs
@@ -52,14 +53,14 @@ loop-less c = search needs
 loop-again : tie.Need-loop-again Inv-loop μ-loop
 loop-again c =
     let l = c .before .before .before .before .loop in let a = c .before .before .before .before .before .args in
-    let n : length (a .t4) ≡ 32 = search (needs, long) in
+    let n : length (a .t4) ≡ wordPlaces = search (needs, long) in
     let t = c .worked in (
       omega arith,
       omega (arith, t .ensures .0),
       simp length-set (l .inv .2),
-      λ p k u o s x.
-          column-next p u o (a .t4) _ (l .stack) k (l .i) (l .d) (t .result .above) (t .result .truths) (omega arith) (omega (arith, t .ensures .0))
-          (l .inv .3 p k u o s x) (t .ensures .1 p k u o s x),
+      λ p k s h x.
+          column-next p s (a .t4) _ (l .stack) k (l .i) (l .d) (t .result .1) (t .result .0) (omega arith) (omega (arith, t .ensures .0))
+          (l .inv .3 p k s h x) (t .ensures .1 p k s h x),
     )
 
 top-of-requires : tie.Need-top-of-requires Inv-loop μ-loop
@@ -67,10 +68,10 @@ top-of-requires c κs = search needs
 
 returns : tie.Need-returns Inv-loop μ-loop
 unfolding truth
-returns c p k u o s x =
+returns c p k s h x =
     let l = c .before .before .before .loop in
     let e : l .i ≡ c .before .before .before .before .args .n = omega arith in
-    rw e at (c .top-of .ensures k ∙ ap top (l .inv .3 p k u o s x))
+    rw e at (c .top-of .ensures k ∙ ap top (l .inv .3 p k s h x))
 
 pub truths-spec : {M : Type 1} → statement M
 truths-spec =

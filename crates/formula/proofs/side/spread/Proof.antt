@@ -3,15 +3,16 @@ use Prim.Native.Nat.{_-_, _≤_}
 use mathlib.Core.Path.{refl, _∙_}
 use native.Mathlib.Omega.{arith}
 use borrow.Author.Needs.{needs}
+use Rattle.policy.specs.Limits.{mostValues}
 use Rattle.formula.proofs.Vectors.{Filled, filled-none, filled-next, filled-plain}
 use Rattle.formula.proofs.side.spread.Statement.{statement}
 use Rattle.formula.proofs.side.spread.Tie as tie
 
 abbrev Inv-loop : tie.InvT-loop
-Inv-loop set r₀ v₀ r v = (v ≤ 7) × Filled (λ k. set) v r
+Inv-loop set r₀ v₀ r v = (v ≤ mostValues) × Filled (λ k. set) v r
 
 abbrev μ-loop : tie.MeasureT-loop
-μ-loop set r₀ v₀ r v = 7 - v
+μ-loop set r₀ v₀ r v = mostValues - v
 
 loop-holds : tie.Need-loop-holds Inv-loop μ-loop
 loop-holds c = (omega arith, filled-none (λ k. c .args .set) _ refl)

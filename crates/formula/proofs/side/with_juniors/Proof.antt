@@ -9,6 +9,8 @@ use Rattle.basis.proofs.Lists.{long}
 use Rattle.seniority.specs.Seniority.{direct, heldOrSenior}
 use Rattle.seniority.proofs.Laws.{lowered, has-lowered, heldOrSenior-none, line-bounds, lower-line}
 use Rattle.policy.specs.Limits.{mostValues}
+use Rattle.policy.specs.Value.{linePlaces}
+use Rattle.formula.specs.Inner.Lane.{vectorPlaces}
 use Rattle.formula.proofs.Vectors.{Grown, grown-none, grown-line, grown-stands}
 use Rattle.formula.proofs.side.with_juniors.Statement.{statement}
 use Rattle.formula.proofs.side.with_juniors.Tie as tie
@@ -23,8 +25,8 @@ loop-holds : tie.Need-loop-holds Inv-loop μ-loop
 unfolding lowered
 loop-holds c =
     let a = c .args in
-    let l : length (a .t2) ≡ 21 = search (needs, long) in
-    let g : length (a .plain) ≡ 14 = search needs in
+    let l : length (a .t2) ≡ linePlaces = search (needs, long) in
+    let g : length (a .plain) ≡ vectorPlaces = search needs in
     let h : a .n ≤ length (a .t2) = omega arith in
     let k : length (take (a .n) (a .t2)) ≤ a .n = omega (arith, length-take-le (a .n) (a .t2) h) in
     (omega arith, h, rw (drop-of-length-le (take (a .n) (a .t2)) k) (grown-none (a .plain) g))

@@ -10,6 +10,8 @@ use Rattle.seniority.specs.Seniority.{direct, heldOrJunior}
 use Rattle.seniority.specs.Inner.{extended}
 use Rattle.seniority.proofs.Laws.{raised, has-raised, heldOrJunior-none, line-bounds, raise-line}
 use Rattle.policy.specs.Limits.{mostValues}
+use Rattle.policy.specs.Value.{linePlaces}
+use Rattle.formula.specs.Inner.Lane.{vectorPlaces}
 use Rattle.formula.proofs.Vectors.{Grown, grown-none, grown-line, grown-stands}
 use Rattle.formula.proofs.side.with_seniors.Statement.{statement}
 use Rattle.formula.proofs.side.with_seniors.Tie as tie
@@ -23,8 +25,8 @@ abbrev μ-loop : tie.MeasureT-loop
 
 loop-holds : tie.Need-loop-holds Inv-loop μ-loop
 loop-holds c =
-    let l : length (c .args .t2) ≡ 21 = search (needs, long) in
-    let g : length (c .args .plain) ≡ 14 = search needs in
+    let l : length (c .args .t2) ≡ linePlaces = search (needs, long) in
+    let g : length (c .args .plain) ≡ vectorPlaces = search needs in
     (omega arith, omega arith, (λ s. s), grown-none (c .args .plain) g, λ s. refl)
 
 mul-l : tie.Need-mul-l Inv-loop μ-loop

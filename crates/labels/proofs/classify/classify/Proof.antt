@@ -3,7 +3,7 @@ use Prim.Native.Nat.{_-_}
 use mathlib.Core.Logic.{⊎-elim}
 use native.Mathlib.Omega.{arith}
 use borrow.Author.Needs.{needs}
-use Rattle.labels.specs.Grid.{likeRows}
+use Rattle.labels.specs.Inner.Grid.{likeRows}
 use Rattle.labels.proofs.Alike.{rows-equivalence}
 use Rattle.labels.proofs.Turn.{Turned, turned-none, leader-row, found-le, turned-old, turned-new, turned-all}
 use Rattle.labels.proofs.classify.classify.Statement.{statement}

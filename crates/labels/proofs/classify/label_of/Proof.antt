@@ -3,7 +3,7 @@ use Prim.Native.Nat.{_-_}
 use mathlib.Core.Path.{_≡_, refl, sym, _∙_}
 use borrow.Author.Count.{below-none}
 use borrow.Author.Needs.{needs}
-use Rattle.labels.specs.Grid.{cell}
+use Rattle.labels.specs.Inner.Grid.{cell}
 use Rattle.labels.proofs.Alike.{Passed, Comparing, none-like, compare-none, compare-more, passed-more, found-like}
 use Rattle.labels.proofs.classify.label_of.Statement.{statement}
 use Rattle.labels.proofs.classify.label_of.Tie as tie

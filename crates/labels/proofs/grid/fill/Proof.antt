@@ -3,7 +3,7 @@ use Prim.Native.Nat.{ℕ, _+_, _*_, _-_, _≤_, _<_}
 use mathlib.Core.Path.{_≡_, ap}
 use native.Mathlib.Omega.{arith}
 use borrow.Author.Needs.{needs}
-use Rattle.labels.specs.Grid.{gridPlaces}
+use Rattle.policy.specs.Limits.{mostPairs}
 use Rattle.labels.proofs.Grids.{place-below, Entered, entered-more, entered-count, entered-all}
 use Rattle.labels.proofs.grid.fill.Statement.{statement}
 use Rattle.labels.proofs.grid.fill.Tie as tie
@@ -21,7 +21,7 @@ abbrev μ-loop : tie.MeasureT-loop
 μ-loop grid₀ from m n u₀ grid u = m - u
 
 loop-holds : tie.Need-loop-holds Inv-loop2 μ-loop2 Inv-loop μ-loop
-loop-holds c = (search needs, record { long = c .pre .1; entries = λ p source i h. absurd (omega arith) })
+loop-holds c = (search needs, record { long = c .pre .1; entries = λ p source few i h. absurd (omega arith) })
 
 cast-row : tie.Need-cast-row Inv-loop2 μ-loop2 Inv-loop μ-loop
 cast-row c = search needs
@@ -29,7 +29,7 @@ cast-row c = search needs
 row-requires : tie.Need-row-requires Inv-loop2 μ-loop2 Inv-loop μ-loop
 row-requires c κs =
     let s = c .before .before .pre .0 in
-    ((s .0, s .1), omega (arith, s .2 .few-users, c .loop-test .taken), s .2 .few-objects)
+    ((s .0, s .1, omega (arith, s .2 .objects)), omega (arith, s .2 .few-users, c .loop-test .taken))
 
 loop2-holds : tie.Need-loop2-holds Inv-loop2 μ-loop2 Inv-loop μ-loop
 loop2-holds c = (search needs, entered-count (c .before .before .loop .inv .1) (omega arith))
@@ -40,7 +40,7 @@ array-read-grid c = search needs
 -- the place is in the grid
 room : (c : tie.In-loop2 Inv-loop2 μ-loop2 Inv-loop μ-loop)
     → let l = c .before .before .before .before in
-    l .loop .u * l .before .args .view .columns + c .before .loop2 .o < gridPlaces
+    l .loop .u * l .before .args .view .columns + c .before .loop2 .o < mostPairs
 room c =
     let l = c .before .before .before in
     let v = l .before .before .pre .0 .2 in
@@ -62,7 +62,7 @@ loop2-less : tie.Need-loop2-less Inv-loop2 μ-loop2 Inv-loop μ-loop
 loop2-less c = search needs
 
 loop2-again : tie.Need-loop2-again Inv-loop2 μ-loop2 Inv-loop μ-loop
-loop2-again c = (omega arith, entered-more _ _ (c .before .loop2 .inv .1) (c .loop2-test .taken) (room c) (λ p source. c .before .before .row .ensures p _ source (c .loop2-test .taken)))
+loop2-again c = (omega arith, entered-more _ _ (c .before .loop2 .inv .1) (c .loop2-test .taken) (room c) (λ p source few. c .before .before .row .ensures p _ source few (c .loop2-test .taken)))
 
 add-u : tie.Need-add-u Inv-loop2 μ-loop2 Inv-loop μ-loop
 add-u c = search needs

@@ -1,4 +1,4 @@
--- `labels::grid::view_of` meets its contract: a side of at most 7 values has at most 128 sets.
+-- `labels::grid::view_of` meets its contract: a side has at most the most sets.
 use mathlib.Core.Path.{refl}
 use lib.Pow.{pow-mono}
 use borrow.Author.Needs.{needs}

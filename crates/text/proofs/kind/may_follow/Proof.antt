@@ -1,4 +1,5 @@
--- `text::kind::may_follow` meets its contract: one computed test over the whole table, and the law that gives it at each entry.
+-- `text::kind::may_follow` meets its contract: one computed test over the whole table, and the law that gives it at
+-- each entry.
 use Prim.Native.Nat.{ℕ}
 use mathlib.Core.Path.{_≡_, _∙_}
 use mathlib.Core.Bool.{Bool, true, false, _&&_}

@@ -13,10 +13,10 @@ use Rattle.policy.specs.Value.{entryPlaces, noEntry}
 use Rattle.policy.specs.Valid.{sameEntry}
 use Rattle.policy.specs.declared.value.Entry.{Entry}
 use Rattle.policy.proofs.Parts.{numberFits}
-use Rattle.validity.specs.Parts.{registerValid}
+use Rattle.validity.specs.Inner.{registerValid}
 use Rattle.validity.proofs.Blank.{BlankTo, blank-all, blank-more}
 use Rattle.validity.proofs.Rising.{Risen, risen-none, risen-blank, risen-all, risen-unfit, risen-falls, risen-more}
-use Rattle.validity.proofs.Stored.{entries-out, entries-in}
+use Rattle.validity.proofs.Stored.{entries-out, entries-in, entry-for}
 use Rattle.validity.proofs.register.register_valid.Statement.{statement}
 use Rattle.validity.proofs.register.register_valid.Tie as tie
 
@@ -50,7 +50,7 @@ entry-fits-requires : tie.Need-entry-fits-requires Inv-loop μ-loop Inv-loop2 μ
 entry-fits-requires c κs = search needs
 
 returns-2 : tie.Need-returns-2 Inv-loop μ-loop Inv-loop2 μ-loop2
-returns-2 c = risen-unfit (c .before .before .before .before .loop .inv) noEntry (search needs) (c .before .entry-fits .ensures) (not-true _ (c .if2 .taken))
+returns-2 c = risen-unfit (c .before .before .before .before .loop .inv) noEntry (search needs) (entry-for _ _ _ _ (c .before .entry-fits .ensures)) (not-true _ (c .if2 .taken))
 
 number-rises-requires : tie.Need-number-rises-requires Inv-loop μ-loop Inv-loop2 μ-loop2
 number-rises-requires c κs = search needs
@@ -58,7 +58,7 @@ number-rises-requires c κs = search needs
 returns-3 : tie.Need-returns-3 Inv-loop μ-loop Inv-loop2 μ-loop2
 returns-3 c =
     risen-falls (c .before .before .before .before .before .before .loop .inv) noEntry (search needs)
-    (c .before .before .before .entry-fits .ensures) (not-false _ (c .before .before .if2 .left)) (c .before .number-rises .ensures) (not-true _ (c .if3 .taken))
+    (entry-for _ _ _ _ (c .before .before .before .entry-fits .ensures)) (not-false _ (c .before .before .if2 .left)) (c .before .number-rises .ensures) (not-true _ (c .if3 .taken))
 
 add-i : tie.Need-add-i Inv-loop μ-loop Inv-loop2 μ-loop2
 add-i c = search needs
@@ -69,7 +69,7 @@ loop-less c = search needs
 loop-again : tie.Need-loop-again Inv-loop μ-loop Inv-loop2 μ-loop2
 loop-again c =
     risen-more (c .before .before .before .before .before .before .loop .inv) noEntry (search needs)
-    (c .before .before .before .entry-fits .ensures) (not-false _ (c .before .before .if2 .left)) (c .before .number-rises .ensures) (not-false _ (c .if3 .left))
+    (entry-for _ _ _ _ (c .before .before .before .entry-fits .ensures)) (not-false _ (c .before .before .if2 .left)) (c .before .number-rises .ensures) (not-false _ (c .if3 .left))
 
 loop2-holds : tie.Need-loop2-holds Inv-loop μ-loop Inv-loop2 μ-loop2
 loop2-holds c = risen-blank (c .before .loop .inv) (c .loop-test .left)

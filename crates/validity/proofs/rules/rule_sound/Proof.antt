@@ -19,7 +19,7 @@ returns-2 : tie.Need-returns-2
 returns-2 c = λ p q.
     let x = c .before .before .before .before .before .args .x in
     let f = c .before .all-fit in
-    rw (rule-is p x (search needs), lt-ltb (x .action) (actions (p .form)) (omega (arith, q .actions)), ← f .ensures p (q .user) (q .object), not-true (f .result) (c .if2 .taken))
+    rw (rule-is p x (search needs), lt-ltb (x .action) (actions (p .form)) (omega (arith, q .actions)), ← q .sizes, ← f .ensures, not-true (f .result) (c .if2 .taken))
 
 all-equal-requires : tie.Need-all-equal-requires
 all-equal-requires c κs = search needs
@@ -32,9 +32,10 @@ returns-3 c = λ p q.
     rw (
       rule-is p x (search needs),
       lt-ltb (x .action) (actions (p .form)) (omega (arith, q .actions)),
-      ← f .ensures p (q .user) (q .object),
+      ← q .sizes,
+      ← f .ensures,
       not-false (f .result) (c .before .before .if2 .left),
-      ← e .ensures p (q .user) (q .object),
+      ← e .ensures,
       not-true (e .result) (c .if3 .taken),
     )
 
@@ -49,9 +50,10 @@ returns-4 c = λ p q.
     rw (
       rule-is p x (search needs),
       lt-ltb (x .action) (actions (p .form)) (omega (arith, q .actions)),
-      ← f .ensures p (q .user) (q .object),
+      ← q .sizes,
+      ← f .ensures,
       not-false (f .result) (c .before .before .before .if2 .left),
-      ← e .ensures p (q .user) (q .object),
+      ← e .ensures,
       not-false (e .result) (c .before .if3 .left),
     )
     (c .balanced .ensures)

@@ -3,7 +3,7 @@ use mathlib.Core.Bool.{and-false, and-true}
 use borrow.Author.Tests.{not-true, not-false}
 use borrow.Author.Needs.{needs}
 use Rattle.basis.proofs.Lists.{long}
-use Rattle.validity.specs.Parts.{ruleValid}
+use Rattle.validity.specs.Inner.{ruleValid}
 use Rattle.validity.proofs.Stored.{rule-out, rule-stored}
 use Rattle.validity.proofs.rules.rule_valid.Statement.{statement}
 use Rattle.validity.proofs.rules.rule_valid.Tie as tie

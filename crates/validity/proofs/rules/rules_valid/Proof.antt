@@ -10,7 +10,7 @@ use Rattle.basis.proofs.Lists.{long}
 use Rattle.policy.specs.Value.{rulePlaces, noRule}
 use Rattle.policy.specs.Valid.{sameRule}
 use Rattle.policy.specs.declared.value.RuleValue.{RuleValue}
-use Rattle.validity.specs.Parts.{ShapedBy, ruleValid, rulesValid}
+use Rattle.validity.specs.Inner.{ShapedBy, ruleValid, rulesValid}
 use Rattle.validity.proofs.Blank.{BlankTo, blank-all, blank-more, emptyRule}
 use Rattle.validity.proofs.Rising.{Risen, risen-none, risen-blank, risen-all, risen-unfit, risen-falls, risen-more}
 use Rattle.validity.proofs.Whole.{rules-out, rules-in}

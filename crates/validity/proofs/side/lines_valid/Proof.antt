@@ -6,21 +6,23 @@ use borrow.Author.Needs.{needs}
 use lib.ListN.{drop}
 use Rattle.basis.specs.Lists.{all}
 use Rattle.basis.proofs.Lists.{long}
+use mathlib.Core.Path.{_≡_}
+use Rattle.policy.specs.Checks.{sideSizes}
 use Rattle.policy.specs.Value.{linePlaces}
 use Rattle.seniority.specs.Seniority.{direct}
 use Rattle.policy.specs.Valid.{sameLine}
 use Rattle.policy.proofs.Parts.{lineFits, lineAbove}
-use Rattle.checks.specs.Sides.{Shaped}
-use Rattle.validity.specs.Parts.{linesValid}
+use Rattle.checks.specs.Inner.{sizesIn}
+use Rattle.validity.specs.Inner.{linesValid}
 use Rattle.validity.proofs.Blank.{BlankTo, blank-all, blank-more}
 use Rattle.validity.proofs.Rising.{Risen, risen-none, risen-blank, risen-all, risen-unfit, risen-falls, risen-more}
-use Rattle.validity.proofs.Stored.{lines-out, lines-in}
+use Rattle.validity.proofs.Stored.{lines-out, lines-in, pair-for}
 use Rattle.validity.proofs.side.lines_valid.Statement.{statement}
 use Rattle.validity.proofs.side.lines_valid.Tie as tie
 
 abbrev Inv-loop : tie.InvT-loop
 Inv-loop side n lines last₀ i₀ last i =
-    Risen (Shaped side) (λ s. linesValid s lines n) (sameLine (direct 0 0)) lineFits (λ l. l) lineAbove lines linePlaces n i last
+    Risen (λ s. sizesIn side ≡ sideSizes s) (λ s. linesValid s lines n) (sameLine (direct 0 0)) lineFits (λ l. l) lineAbove lines linePlaces n i last
 
 abbrev μ-loop : tie.MeasureT-loop
 μ-loop side n lines last₀ i₀ last i = n - i
@@ -47,7 +49,7 @@ pair-fits-requires : tie.Need-pair-fits-requires Inv-loop μ-loop Inv-loop2 μ-l
 pair-fits-requires c κs = search needs
 
 returns-2 : tie.Need-returns-2 Inv-loop μ-loop Inv-loop2 μ-loop2
-returns-2 c = risen-unfit (c .before .before .before .before .loop .inv) (direct 0 0) (search needs) (c .before .pair-fits .ensures) (not-true _ (c .if2 .taken))
+returns-2 c = risen-unfit (c .before .before .before .before .loop .inv) (direct 0 0) (search needs) (pair-for _ _ _ (c .before .pair-fits .ensures)) (not-true _ (c .if2 .taken))
 
 pair-rises-requires : tie.Need-pair-rises-requires Inv-loop μ-loop Inv-loop2 μ-loop2
 pair-rises-requires c κs = search needs
@@ -55,7 +57,7 @@ pair-rises-requires c κs = search needs
 returns-3 : tie.Need-returns-3 Inv-loop μ-loop Inv-loop2 μ-loop2
 returns-3 c =
     risen-falls (c .before .before .before .before .before .before .loop .inv) (direct 0 0) (search needs)
-    (c .before .before .before .pair-fits .ensures) (not-false _ (c .before .before .if2 .left)) (c .before .pair-rises .ensures) (not-true _ (c .if3 .taken))
+    (pair-for _ _ _ (c .before .before .before .pair-fits .ensures)) (not-false _ (c .before .before .if2 .left)) (c .before .pair-rises .ensures) (not-true _ (c .if3 .taken))
 
 add-i : tie.Need-add-i Inv-loop μ-loop Inv-loop2 μ-loop2
 add-i c = search needs
@@ -66,7 +68,7 @@ loop-less c = search needs
 loop-again : tie.Need-loop-again Inv-loop μ-loop Inv-loop2 μ-loop2
 loop-again c =
     risen-more (c .before .before .before .before .before .before .loop .inv) (direct 0 0) (search needs)
-    (c .before .before .before .pair-fits .ensures) (not-false _ (c .before .before .if2 .left)) (c .before .pair-rises .ensures) (not-false _ (c .if3 .left))
+    (pair-for _ _ _ (c .before .before .before .pair-fits .ensures)) (not-false _ (c .before .before .if2 .left)) (c .before .pair-rises .ensures) (not-false _ (c .if3 .left))
 
 loop2-holds : tie.Need-loop2-holds Inv-loop μ-loop Inv-loop2 μ-loop2
 loop2-holds c = risen-blank (c .before .loop .inv) (c .loop-test .left)

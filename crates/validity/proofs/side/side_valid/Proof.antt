@@ -3,9 +3,8 @@ use mathlib.Core.Path.{refl, sym, _∙_}
 use native.Mathlib.Omega.{arith}
 use borrow.Author.Tests.{not-true, not-false}
 use borrow.Author.Needs.{needs}
-use Rattle.policy.specs.Value.{widthPlaces, sideOf}
-use Rattle.checks.proofs.Laws.{measured-places}
-use Rattle.validity.proofs.Whole.{side-parts, widths-small}
+use Rattle.policy.specs.Value.{sideOf}
+use Rattle.validity.proofs.Whole.{side-parts, widths-small, shape-places, shape-is}
 use Rattle.validity.proofs.side.side_valid.Statement.{statement}
 use Rattle.validity.proofs.side.side_valid.Tie as tie
 
@@ -29,15 +28,16 @@ lines-valid-requires c κs =
     let a = c .before .before .before .before .before .args in
     let z = c .before .before .before .widths-valid in
     let s = widths-small (a .most) (a .x .widths) (a .x .attributes) (search needs) (sym (z .ensures) ∙ not-false (z .result) (c .before .before .if1 .left)) in
-    measured-places _ _ _ (c .before .measure .ensures) widthPlaces (s .places)
+    shape-places s (c .before .measure .ensures)
 
 returns-2 : tie.Need-returns-2
 unfolding sideOf
 returns-2 c =
     let a = c .before .before .before .before .before .before .args in
     let z = c .before .before .before .before .widths-valid in
+    let s = widths-small (a .most) (a .x .widths) (a .x .attributes) (search needs) (sym (z .ensures) ∙ not-false (z .result) (c .before .before .before .if1 .left)) in
     rw (side-parts (a .most) (a .x), ← z .ensures, not-false (z .result) (c .before .before .before .if1 .left))
-    (c .lines-valid .ensures (sideOf (a .x)) (c .before .before .measure .ensures (sideOf (a .x)) refl))
+    (c .lines-valid .ensures (sideOf (a .x)) (shape-is s (c .before .before .measure .ensures) (search needs) (sideOf (a .x)) refl))
 
 pub side-valid-spec : {M : Type 1} → statement M
 side-valid-spec =

@@ -7,7 +7,7 @@ use borrow.Author.Tests.{not-true, not-false}
 use borrow.Author.Needs.{needs}
 use lib.Dec.{eqb}
 use Rattle.policy.specs.Value.{widthPlaces}
-use Rattle.validity.specs.Parts.{widthsValid}
+use Rattle.validity.specs.Inner.{widthsValid}
 use Rattle.validity.proofs.Blank.{BlankTo, blank-all, blank-more}
 use Rattle.validity.proofs.Stored.{widths-none, widths-many, widths-in}
 use Rattle.validity.proofs.Widths.{Summed, summed-none, summed-all, summed-not, summed-more, sum-bound}

@@ -41,8 +41,14 @@ loop-less c = search needs
 loop-again : tie.Need-loop-again Inv-loop μ-loop
 loop-again c = search needs
 
+add-result-2 : tie.Need-add-result-2 Inv-loop μ-loop
+add-result-2 c = search needs
+
 returns-2 : tie.Need-returns-2 Inv-loop μ-loop
 returns-2 c = search needs
+
+returns-3 : tie.Need-returns-3 Inv-loop μ-loop
+returns-3 c = search needs
 
 pub unlike-spec : {M : Type 1} → statement M
 unlike-spec =
@@ -60,4 +66,6 @@ unlike-spec =
     add-i
     loop-less
     loop-again
-    returns-2)
+    add-result-2
+    returns-2
+    returns-3)

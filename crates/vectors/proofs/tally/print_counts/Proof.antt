@@ -5,10 +5,10 @@ use Rattle.vectors.proofs.tally.print_counts.Statement.{statement}
 use Rattle.vectors.proofs.tally.print_counts.Tie as tie
 
 abbrev Inv-loop : tie.InvT-loop
-Inv-loop names counts at₀ i₀ at i = i ≤ 10
+Inv-loop names counts at₀ i₀ at i = i ≤ 12
 
 abbrev μ-loop : tie.MeasureT-loop
-μ-loop names counts at₀ i₀ at i = 10 - i
+μ-loop names counts at₀ i₀ at i = 12 - i
 
 loop-holds : tie.Need-loop-holds Inv-loop μ-loop
 loop-holds c = search needs

@@ -1,24 +1,29 @@
--- `writer::line::put_one` meets its contract: the line feed stands after the word and the number.
-use native.Mathlib.Omega.{arith}
-use Rattle.writer.proofs.Putting.{unended, feed-fits, feed-put}
+-- `writer::line::put_one` meets its contract: the number and the line feed stand after the word.
+use borrow.Author.Needs.{needs}
+use Rattle.writer.specs.Inner.Put.{oneLine}
+use Rattle.writer.proofs.Putting.{put-long, room-first, room-next, put-next}
 use Rattle.writer.proofs.line.put_one.Statement.{statement}
 use Rattle.writer.proofs.line.put_one.Tie as tie
 
-put-first-requires : tie.Need-put-first-requires
-put-first-requires c κs = search unended
+put-requires : tie.Need-put-requires
+unfolding oneLine
+put-requires c κs = room-first _ _ (c .before .before .before .pre)
 
-slice-write-buf : tie.Need-slice-write-buf
-slice-write-buf c = omega (arith, feed-fits (c .before .before .before .before .before .before .pre) (c .before .before .put-first .ensures))
+put-requires-2 : tie.Need-put-requires-2
+unfolding oneLine
+put-requires-2 c κs = room-first _ _ (room-next (c .before .before .before .before .before .before .before .pre) (c .before .before .before .put .ensures))
 
-add-result : tie.Need-add-result
-add-result c = omega (arith, feed-fits (c .before .before .before .before .before .before .pre) (c .before .before .put-first .ensures))
+put-feed-requires : tie.Need-put-feed-requires
+unfolding oneLine
+put-feed-requires c κs = room-next (room-next (c .before .before .before .before .before .before .before .before .before .before .before .pre) (c .before .before .before .before .before .before .before .put .ensures)) (c .before .before .before .put2 .ensures)
 
 returns : tie.Need-returns
-returns c = feed-put (c .before .before .before .before .before .before .pre) (c .before .before .put-first .ensures)
+unfolding oneLine
+returns c = search put-next
 
 same-length : tie.Need-same-length
-same-length c = returns c .long
+same-length c = put-long (returns c)
 
 pub put-one-spec : {M : Type 1} → statement M
 put-one-spec =
-    tie.close (tie.spec put-first-requires slice-write-buf add-result same-length returns)
+    tie.close (tie.spec put-requires put-requires-2 put-feed-requires same-length returns)

@@ -1,84 +1,75 @@
--- `writer::number::put` meets its contract: of the last five digits it puts those that are written.
-use Prim.Native.Nat.{ℕ, _+_, _-_, _/_, _%_, _≤_}
-use mathlib.Core.Path.{_≡_}
-use mathlib.Core.List.{List, [], _∷_}
-use native.Mathlib.Omega.{arith}
+-- `writer::number::put` meets its contract: the digits behind `from` are worked out, and then the first of them.
 use borrow.Author.Needs.{needs}
-use lib.ListN.{length, take, drop, length-drop}
-use lib.Seq.{take-all}
-use Rattle.basis.specs.Bytes.{byte}
-use Rattle.text.specs.Number.{decimal}
-use Rattle.writer.specs.Put.{Room, Put, field, fiveDigits}
+use Rattle.writer.proofs.Digits.{Behind, behind-start, behind-more, behind-next, behind-long, behind-end}
 use Rattle.writer.proofs.number.put.Statement.{statement}
 use Rattle.writer.proofs.number.put.Tie as tie
 
--- the digits that the code works out, from the first that is written
-module _
-    (n d₁ d₂ d₃ d₄ d₅ r : ℕ)
-    (e₁ : d₁ ≡ byte "0" + n / 10000 % 10)
-    (e₂ : d₂ ≡ byte "0" + n / 1000 % 10)
-    (e₃ : d₃ ≡ byte "0" + n / 100 % 10)
-    (e₄ : d₄ ≡ byte "0" + n / 10 % 10)
-    (e₅ : d₅ ≡ byte "0" + n % 10)
-    (u : (r ≤ 4) × (drop r (fiveDigits n) ≡ decimal n))
-  where
-    are : take (5 - r) (drop r (d₁ ∷ d₂ ∷ d₃ ∷ d₄ ∷ d₅ ∷ [])) ≡ decimal n
-    are =
-        let l : length (drop r (fiveDigits n)) ≤ 5 - r = omega (arith, length-drop r (fiveDigits n)) in
-        rw (e₁, e₂, e₃, e₄, e₅, take-all (5 - r) (drop r (fiveDigits n)) l) (u .1)
+abbrev Inv-loop : tie.InvT-loop
+Inv-loop n buf at digits₀ from₀ rest₀ digits from rest = Behind 10 n digits from rest
 
-    fits : (b : List ℕ) → Room (field (decimal n)) b → Room (field (take (5 - r) (drop r (d₁ ∷ d₂ ∷ d₃ ∷ d₄ ∷ d₅ ∷ [])))) b
-    fits b h = rw are h
+abbrev μ-loop : tie.MeasureT-loop
+μ-loop n buf at digits₀ from₀ rest₀ digits from rest = rest
 
-    puts : (b m : List ℕ) (q : ℕ) → Put (field (take (5 - r) (drop r (d₁ ∷ d₂ ∷ d₃ ∷ d₄ ∷ d₅ ∷ [])))) b m q → Put (field (decimal n)) b m q
-    puts b m q x = rw are at x
+sub-from : tie.Need-sub-from Inv-loop μ-loop
+sub-from c = search needs
 
-digit-requires : tie.Need-digit-requires
+loop-holds : tie.Need-loop-holds Inv-loop μ-loop
+loop-holds c = behind-start 9 _ _ (search needs) (search needs)
+
+digit-requires : tie.Need-digit-requires Inv-loop μ-loop
 digit-requires c κs = search needs
 
-digit-requires-2 : tie.Need-digit-requires-2
+array-write-digits : tie.Need-array-write-digits Inv-loop μ-loop
+array-write-digits c = search needs
+
+sub-from-2 : tie.Need-sub-from-2 Inv-loop μ-loop
+sub-from-2 c = behind-more (c .before .before .loop .inv) (search needs)
+
+loop-less : tie.Need-loop-less Inv-loop μ-loop
+loop-less c = search needs
+
+loop-again : tie.Need-loop-again Inv-loop μ-loop
+loop-again c = behind-next (c .before .before .loop .inv) (search needs) (c .digit .ensures)
+
+digit-requires-2 : tie.Need-digit-requires-2 Inv-loop μ-loop
 digit-requires-2 c κs = search needs
 
-digit-requires-3 : tie.Need-digit-requires-3
-digit-requires-3 c κs = search needs
+array-write-digits-2 : tie.Need-array-write-digits-2 Inv-loop μ-loop
+array-write-digits-2 c = search needs
 
-digit-requires-4 : tie.Need-digit-requires-4
-digit-requires-4 c κs = search needs
-
-digit-requires-5 : tie.Need-digit-requires-5
-digit-requires-5 c κs = search needs
-
-unwritten-requires : tie.Need-unwritten-requires
-unwritten-requires c κs = search needs
-
-sub-put-field : tie.Need-sub-put-field
+sub-put-field : tie.Need-sub-put-field Inv-loop μ-loop
 sub-put-field c = search needs
 
-part-put-field-start : tie.Need-part-put-field-start
+part-put-field-start : tie.Need-part-put-field-start Inv-loop μ-loop
 part-put-field-start c = search needs
 
-part-put-field-end : tie.Need-part-put-field-end
-part-put-field-end c = search needs
+part-put-field-end : tie.Need-part-put-field-end Inv-loop μ-loop
+part-put-field-end c = behind-long (c .before .before .before .loop .inv) (c .before .digit2 .ensures)
 
-put-field-requires : tie.Need-put-field-requires
-put-field-requires c κs = search fits
+put-field-requires : tie.Need-put-field-requires Inv-loop μ-loop
+put-field-requires c κs = rw (behind-end (c .before .before .before .before .before .loop .inv) (c .before .before .before .digit2 .ensures) (search needs)) (c .before .before .before .before .before .before .before .pre)
 
-same-length : tie.Need-same-length
+same-length : tie.Need-same-length Inv-loop μ-loop
 same-length c = search needs
 
-returns : tie.Need-returns
-returns c = search puts
+returns : tie.Need-returns Inv-loop μ-loop
+returns c = rw (behind-end (c .before .before .before .before .before .before .before .before .loop .inv) (c .before .before .before .before .before .before .digit2 .ensures) (search needs)) at (c .before .before .put-field .ensures)
 
 pub put-spec : {M : Type 1} → statement M
 put-spec =
     tie.close
     (tie.spec
+    Inv-loop
+    μ-loop
+    sub-from
+    loop-holds
     digit-requires
+    array-write-digits
+    sub-from-2
+    loop-less
+    loop-again
     digit-requires-2
-    digit-requires-3
-    digit-requires-4
-    digit-requires-5
-    unwritten-requires
+    array-write-digits-2
     sub-put-field
     part-put-field-start
     part-put-field-end

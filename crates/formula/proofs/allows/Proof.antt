@@ -1,0 +1,60 @@
+-- `formula::allows` meets its contract: with both sets in every lane, lane 0 has the truth of the action's formula.
+use Prim.Native.Nat.{ℕ, _%_}
+use mathlib.Core.Path.{refl, sym, ap, _∙_}
+use native.Mathlib.Nat.{div-one}
+use lib.Dec.{eqb, lit<}
+use borrow.Author.Needs.{needs}
+use Rattle.policy.specs.Value.{sideOf, policyOf}
+use Rattle.formula.specs.Truth.{at}
+use Rattle.formula.specs.Inner.Lane.{InLane}
+use Rattle.formula.proofs.allows.Statement.{statement}
+use Rattle.formula.proofs.allows.Tie as tie
+
+spread-requires : tie.Need-spread-requires
+spread-requires c κs = search needs
+
+with-juniors-requires : tie.Need-with-juniors-requires
+with-juniors-requires c κs = search needs
+
+spread-requires-2 : tie.Need-spread-requires-2
+spread-requires-2 c κs = search needs
+
+with-seniors-requires : tie.Need-with-seniors-requires
+with-seniors-requires c κs = search needs
+
+of-action-requires : tie.Need-of-action-requires
+of-action-requires c κs = search needs
+
+where-granted-requires : tie.Need-where-granted-requires
+unfolding policyOf
+where-granted-requires c κs =
+    let t = c .before .before .before .before .before .before .before .before .before .before .before .before in let a = t .args in
+    (policyOf (a .v), a .action, t .pre .1, c .before .before .of-action .ensures (policyOf (a .v)) refl)
+
+returns : tie.Need-returns
+unfolding policyOf sideOf
+returns c =
+    let g = c .before .before .before in
+    let seniors = g .before .before in
+    let juniors = seniors .before .before .before .before in
+    let t = juniors .before .before .before .before in let a = t .args in
+    let x : InLane (policyOf (a .v)) (juniors .with-juniors .result) (seniors .with-seniors .result) 0 (at (a .user) (a .object)) =
+    record {
+      lane = lit< tt;
+      user = juniors .with-juniors .ensures 0 (a .user) (juniors .before .spread .ensures 0 (lit< tt));
+      object = seniors .with-seniors .ensures 0 (a .object) (seniors .before .spread2 .ensures 0 (lit< tt));
+    } in
+    ap (λ (n : ℕ). eqb (n % 2) 1) (sym (div-one (c .where-granted .result)))
+    ∙ c .where-granted .ensures (policyOf (a .v)) (a .action) 0 (at (a .user) (a .object)) (t .pre .1) (g .of-action .ensures (policyOf (a .v)) refl) x
+
+pub allows-spec : {M : Type 1} → statement M
+allows-spec =
+    tie.close
+    (tie.spec
+    spread-requires
+    with-juniors-requires
+    spread-requires-2
+    with-seniors-requires
+    of-action-requires
+    where-granted-requires
+    returns)

@@ -1,0 +1,86 @@
+-- 64 pairs of a user set and an object set at once: bit k of a number says what holds at pair k. What the evaluator's vectors stand for.
+use Prim.Native.Nat.{ℕ, zero, suc, _+_, _*_, _^_, _≤_, _<_}
+use mathlib.Core.Path.{_≡_}
+use mathlib.Core.Bool.{Bool, true, false}
+use mathlib.Core.List.{List, [], _∷_, map}
+use lib.Bits.{bitOr}
+use lib.ListN.{length, getD, take, set}
+use Rattle.basis.specs.Numbers.{agree, implies}
+use Rattle.sets.specs.Set.{has}
+use Rattle.seniority.specs.Seniority.{heldOrSenior, heldOrJunior}
+use Rattle.words.specs.declared.Word.{Word}
+use Rattle.policy.specs.Limits.{mostValues}
+use Rattle.policy.specs.Policy.{Side, Policy, total, start}
+use Rattle.policy.specs.declared.value.Slot.{Slot}
+use Rattle.formula.specs.Truth.{Sets}
+use Rattle.formula.specs.declared.attributes.Attributes.{Attributes}
+
+-- a lane is a bit's place in a word of the machine, and a place is a number of so many bits
+abbrev pub laneBits : ℕ
+laneBits = 6
+
+abbrev pub lanes : ℕ
+lanes = 2 ^ laneBits
+
+-- a side has a vector for each value, twice
+abbrev pub vectorPlaces : ℕ
+vectorPlaces = 2 * mostValues
+
+-- ---- attributes
+
+-- the first values of a side's attributes and, past these, the number of its values
+pub record Starts (s : Side) (xs : List ℕ) : Type 0 where
+  pub few : length (s .widths) ≤ mostValues
+  pub most : total s ≤ mostValues
+  pub at : (i : ℕ) → i ≤ mostValues → getD xs i 0 ≡ start s i
+
+pub record AttributesOf (p : Policy) (x : Attributes) : Type 0 where
+  pub user : Starts (p .user) (x .user)
+  pub object : Starts (p .object) (x .object)
+
+-- ---- sets
+
+-- lane k of a side's vectors holds the set s, twice
+pub record Plain (vectors : List ℕ) (k s : ℕ) : Type 0 where
+  pub below : s < 2 ^ mostValues
+  pub held : (v : ℕ) → v < mostValues → has (getD vectors v 0) k ≡ has s v
+  pub again : (v : ℕ) → v < mostValues → has (getD vectors (mostValues + v) 0) k ≡ has s v
+
+-- lane k stands for the set s: it holds s and, the second time, what seniority makes of it
+pub record Stands (grown : ℕ → ℕ → Bool) (vectors : List ℕ) (k s : ℕ) : Type 0 where
+  pub held : (v : ℕ) → v < mostValues → has (getD vectors v 0) k ≡ has s v
+  pub taken : (v : ℕ) → v < mostValues → has (getD vectors (mostValues + v) 0) k ≡ grown s v
+  pub past : (v : ℕ) → mostValues ≤ v → grown s v ≡ false
+
+-- the vectors, with b in the second half where it holds a
+abbrev pub extendedLanes : List ℕ → ℕ → ℕ → List ℕ
+extendedLanes vectors a b =
+    set vectors (mostValues + b) (bitOr (getD vectors (mostValues + b) 0) (getD vectors (mostValues + a) 0))
+
+-- lane k stands for these sets
+pub record InLane (p : Policy) (users objects : List ℕ) (k : ℕ) (s : Sets) : Type 0 where
+  pub lane : k < lanes
+  pub user : Stands (heldOrSenior (p .user .lines)) users k (s .user)
+  pub object : Stands (heldOrJunior (p .object .lines)) objects k (s .object)
+
+-- ---- words
+
+-- the words of a formula of n words
+abbrev pub wordsOf : ℕ → List Slot → List Word
+wordsOf n slots = map (λ (x : Slot). x .word) (take n slots)
+
+-- whether a place passes a comparison, by whether the object set and the user set hold it
+abbrev pub passes : Bool → Bool → Bool → Bool
+passes true o u = agree o u
+passes false o u = implies o u
+
+-- bit k of the d lowest places of a stack, the top first
+unfoldable pub column : List ℕ → ℕ → ℕ → List Bool
+column stack zero k = []
+column stack (suc d) k = has (getD stack d 0) k ∷ column stack d k
+
+-- ---- entries
+
+-- the width of a table entry, which has a bit for each action
+abbrev pub entryBits : ℕ
+entryBits = 8

@@ -1,0 +1,89 @@
+// What grants an action, and where it does: the one place that says so, for 64 pairs at once.
+ghost use Prim.Native.Nat.{ℕ, _≤_, _<_};
+ghost use mathlib.Core.Path.{_≡_};
+ghost use Rattle.sets.specs.Set.{has};
+ghost use Rattle.policy.specs.Limits.{actions};
+ghost use Rattle.policy.specs.Policy.{Policy};
+ghost use Rattle.policy.specs.Value.{rulesOf};
+ghost use Rattle.formula.specs.Truth.{Sets, grants};
+ghost use Rattle.formula.specs.Inner.Fits.{RulesFit};
+ghost use Rattle.formula.specs.Inner.Grant.{GrantOf, GrantsOf};
+ghost use Rattle.formula.specs.Inner.Lane.{AttributesOf, InLane};
+use crate::attributes::Attributes;
+use crate::evaluate;
+use crate::side::VECTORS;
+use policy::limits;
+use policy::limits::MOST_ACTIONS;
+use policy::value::Rules;
+use policy::value::Slot;
+use policy::value::WORD_PLACES;
+use words::Word;
+
+// What grants one action: the words of its formula, and none where it has no rule.
+pub struct Grant {
+    pub count: usize,
+    pub words: [Slot; WORD_PLACES],
+}
+
+// What grants each action of a policy.
+pub struct Grants {
+    pub count: usize,
+    pub each: [Grant; MOST_ACTIONS],
+}
+
+// What grants nothing.
+fn nothing() -> Grant
+    ensures { λ r. ⌜ r .count ≡ 0 ⌝ }
+{
+    let words = [Slot { word: Word::False }; WORD_PLACES];
+    Grant { count: 0, words }
+}
+
+// What grants an action by these rules.
+pub fn of_action(rules: Rules, action: u32) -> Grant
+    requires { ⌜ RulesFit rules ⌝ }
+    ensures { λ r. ⌜ ((p : Policy) → p .rules ≡ rulesOf rules → GrantOf p action r) ⌝ }
+{
+    let entries = rules.entries;
+    let n = rules.count;
+    let mut i: usize = 0;
+    while i < n {
+        let rule = entries[i];
+        if rule.action == action {
+            let words = rule.words;
+            return Grant {
+                count: rule.count,
+                words,
+            };
+        }
+        i += 1;
+    }
+    nothing()
+}
+
+// What grants each action of this form by these rules.
+pub fn of_actions(form: u32, rules: Rules) -> Grants
+    requires { ⌜ RulesFit rules ⌝ }
+    ensures { λ r. ⌜ ((p : Policy) → p .form ≡ form → p .rules ≡ rulesOf rules → GrantsOf p r) ⌝ }
+{
+    let n = limits::actions(form) as usize;
+    let mut each = [nothing(); MOST_ACTIONS];
+    for a in 0..n {
+        each[a] = of_action(rules, a as u32);
+    }
+    Grants { count: n, each }
+}
+
+// The pairs at which an action is granted: those at which its formula is true.
+pub fn where_granted(
+    sides: Attributes,
+    users: &[u64; VECTORS],
+    objects: &[u64; VECTORS],
+    grant: Grant,
+) -> u64
+    requires { ⌜ ((p : Policy) × (a : ℕ) × AttributesOf p sides × GrantOf p a grant) ⌝ }
+    ensures { λ r. ⌜ ((p : Policy) (a k : ℕ) (s : Sets) → AttributesOf p sides → GrantOf p a grant → InLane p (now (users .entry)) (now (objects .entry)) k s → has r k ≡ grants p a s) ⌝ }
+{
+    let words = grant.words;
+    evaluate::truths(sides, users, objects, words, grant.count)
+}

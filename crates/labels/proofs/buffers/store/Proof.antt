@@ -1,0 +1,115 @@
+-- `labels::buffers::store` meets its contract: rows and columns are labelled, a buffer that is too short is refused before any is written,
+-- and the three writers leave the labels and the table.
+use Prim.Native.Nat.{_≤_}
+use denote.Ref.{now}
+use native.Mathlib.Nat.{le-trans, mul-le-mul}
+use native.Mathlib.Omega.{arith}
+use borrow.Author.Needs.{needs}
+use Rattle.policy.specs.Limits.{mostSets}
+use Rattle.labels.specs.Inner.Grid.{turnedView, likeRows, Labelled}
+use Rattle.labels.proofs.Alike.{rows-equivalence}
+use Rattle.labels.proofs.Grids.{turned-inside}
+use Rattle.labels.proofs.Storing.{short-users, short-objects, short-table, stored-all}
+use Rattle.labels.proofs.Turn.{labelled-few, labelled-leader}
+use Rattle.labels.proofs.buffers.store.Statement.{statement}
+use Rattle.labels.proofs.buffers.store.Tie as tie
+
+classify-requires : tie.Need-classify-requires
+classify-requires c κs = search needs
+
+turned-requires : tie.Need-turned-requires
+turned-requires c κs = search needs
+
+classify-requires-2 : tie.Need-classify-requires-2
+classify-requires-2 c κs = rw (c .turned .ensures) (turned-inside _ (c .before .before .before .before .before .pre))
+
+returns : tie.Need-returns
+returns c = λ v ok G. short-users v ok _ _ _ G (c .if1 .taken)
+
+returns-2 : tie.Need-returns-2
+returns-2 c = λ v ok G. short-objects v ok _ _ _ G (c .if2 .taken)
+
+-- what is known once rows and columns are labelled
+users-are : (c : tie.After-classify2) → let a = c .before .before .before .before .before .before .args in let r = c .before .before .classify .result in
+    Labelled (likeRows (now (a .grid)) (a .view)) (a .view .rows) (r .labels) (r .leaders) (r .count)
+users-are c = c .before .before .classify .ensures
+
+objects-are : (c : tie.After-classify2) → let a = c .before .before .before .before .before .before .args in let r = c .classify2 .result in
+    Labelled (likeRows (now (a .grid)) (turnedView (a .view))) (a .view .columns) (r .labels) (r .leaders) (r .count)
+objects-are c = rw (c .before .turned .ensures) at (c .classify2 .ensures)
+
+users-few : (c : tie.After-classify2) → c .before .before .classify .result .count ≤ mostSets
+users-few c = le-trans (labelled-few (users-are c)) (c .before .before .before .before .before .before .pre .few-rows)
+
+objects-few : (c : tie.After-classify2) → c .classify2 .result .count ≤ mostSets
+objects-few c = le-trans (labelled-few (objects-are c)) (c .before .before .before .before .before .before .pre .few-columns)
+
+mul-places : tie.Need-mul-places
+mul-places c =
+    let k = c .before .before .before .before in omega (arith, mul-le-mul (users-few k) (objects-few k))
+
+returns-3 : tie.Need-returns-3
+returns-3 c =
+    let k = c .before .before .before .before .before in
+    λ v ok G. short-table v ok _ _ _ G (record { users = _; objects = _ }) (users-are k) (objects-are k) (c .if3 .taken)
+
+cast-t22 : tie.Need-cast-t22
+cast-t22 c = omega (arith, users-few (c .before .before .before .before .before))
+
+cast-t23 : tie.Need-cast-t23
+cast-t23 c = omega (arith, objects-few (c .before .before .before .before .before))
+
+put-labels-requires : tie.Need-put-labels-requires
+put-labels-requires c κs = search needs
+
+put-labels-requires-2 : tie.Need-put-labels-requires-2
+put-labels-requires-2 c κs = search needs
+
+put-table-requires : tie.Need-put-table-requires
+put-table-requires c κs =
+    let e = c .before .before .before .before .before .before .before .before .before .before .before .before .before .before .before .before .before in
+    let k = e .before .before .before .before .before in (
+      (k .before .before .before .before .before .before .pre, users-few k, objects-few k, e .if3 .left),
+      (labelled-leader (rows-equivalence _ _ _) (users-are k), labelled-leader (rows-equivalence _ _ _) (objects-are k)),
+    )
+
+same-length : tie.Need-same-length
+same-length c = search needs
+
+same-length-2 : tie.Need-same-length-2
+same-length-2 c = search needs
+
+same-length-3 : tie.Need-same-length-3
+same-length-3 c = search needs
+
+returns-4 : tie.Need-returns-4
+returns-4 c =
+    let t = c .before .before in
+    let o = t .before .before .before .before .before .before .before .before in
+    let u = o .before .before .before .before .before .before in
+    let e = u .before .before .before .before in
+    let k = e .before .before .before .before .before in
+    λ v ok G.
+    stored-all v ok _ _ _ G (record { users = _; objects = _ }) (users-are k) (objects-are k) _ _ _
+    (e .before .before .before .if1 .left) (e .before .if2 .left) (e .if3 .left) (u .put-labels .ensures) (o .put-labels2 .ensures) (t .put-table .ensures)
+
+pub store-spec : {M : Type 1} → statement M
+store-spec =
+    tie.close
+    (tie.spec
+    classify-requires
+    turned-requires
+    classify-requires-2
+    returns
+    returns-2
+    mul-places
+    returns-3
+    cast-t22
+    cast-t23
+    put-labels-requires
+    put-labels-requires-2
+    put-table-requires
+    same-length
+    same-length-2
+    same-length-3
+    returns-4)

@@ -1,0 +1,70 @@
+-- `labels::compile` meets its contract: check 11 gives what the grid asks, and the grid is stored.
+use Prim.Native.Nat.{ℕ}
+use mathlib.Core.Path.{_≡_, sym, _∙_}
+use mathlib.Core.Bool.{true}
+use lib.ListN.{length-replicate}
+use borrow.Author.Needs.{needs}
+use borrow.Author.Tests.{not-true, not-false}
+use Rattle.policy.specs.Limits.{mostPairs}
+use Rattle.policy.specs.Value.{policyOf}
+use Rattle.policy.specs.Valid.{valid}
+use Rattle.formula.proofs.Checked.{valid-fits}
+use Rattle.labels.specs.Inner.Grid.{ViewOf}
+use Rattle.labels.proofs.Grids.{view-inside}
+use Rattle.labels.proofs.Storing.{refused-value}
+use Rattle.labels.proofs.compile.Statement.{statement}
+use Rattle.labels.proofs.compile.Tie as tie
+
+check-requires : tie.Need-check-requires
+check-requires c κs = search needs
+
+returns : tie.Need-returns
+returns c = refused-value _ _ _ _ (sym (c .before .check .ensures) ∙ not-true (c .before .check .result) (c .if1 .taken))
+
+ok : (c : tie.Else1) → valid (c .before .before .before .before .before .args .policy) ≡ true
+ok c = sym (c .before .check .ensures) ∙ not-false (c .before .check .result) (c .if1 .left)
+
+rows-of-requires : tie.Need-rows-of-requires
+rows-of-requires c κs = valid-fits _ (ok c)
+
+view-of-requires : tie.Need-view-of-requires
+view-of-requires c κs = search needs
+
+seen : (c : tie.After-view-of) → ViewOf (policyOf (c .before .before .before .before .before .before .before .before .before .args .policy)) (c .view-of .result)
+seen c = c .view-of .ensures _ (c .before .before .before .rows-of .ensures .source .sides)
+
+fill-requires : tie.Need-fill-requires
+fill-requires c κs = ((policyOf _, c .before .before .before .before .rows-of .ensures, seen (c .before)), length-replicate {A = ℕ} mostPairs 0)
+
+store-requires : tie.Need-store-requires
+store-requires c κs = view-inside (seen (c .before .before .before .before .before .before))
+
+same-length : tie.Need-same-length
+same-length c = search needs
+
+same-length-2 : tie.Need-same-length-2
+same-length-2 c = search needs
+
+same-length-3 : tie.Need-same-length-3
+same-length-3 c = search needs
+
+returns-2 : tie.Need-returns-2
+returns-2 c =
+    let f = c .before .before .before .before .before .before .before .before .before .before .before in
+    let e = f .before .before .before .before .before .before in
+    c .before .before .before .before .before .before .store .ensures _ (ok e) (f .fill .ensures _ (f .before .before .before .before .before .rows-of .ensures) (seen (f .before .before)))
+
+pub compile-spec : {M : Type 1} → statement M
+compile-spec =
+    tie.close
+    (tie.spec
+    check-requires
+    returns
+    rows-of-requires
+    view-of-requires
+    fill-requires
+    store-requires
+    same-length
+    same-length-2
+    same-length-3
+    returns-2)

@@ -1,0 +1,3 @@
+-- What only the contracts of inner code and the proofs cite.
+pub mod Rows
+pub mod Grid

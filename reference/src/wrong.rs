@@ -1,0 +1,129 @@
+//! Lines that are wrong on purpose: each is a right line with one value changed,
+//! or with one entry less or more. Who compares must find each of them different.
+//! A line that is not shows what is not compared.
+//!
+//! Such a line has a mark behind its tag and stands after the line that it is
+//! made from.
+
+use crate::case_file::{case_of, WITHOUT_POLICY};
+use crate::stored::{ANSWERS, TEXT};
+
+/// Behind the tag of a line that is wrong on purpose.
+pub const MARK: char = '!';
+
+/// Of more entries than these only the first and the last are changed.
+const FEW: usize = 16;
+
+/// Right lines for the requirement's text, beside those of the requirement.
+const MORE: &str = "W,20,0,84,0
+u,20,0,3,2,6
+o,20,0,4,1,6
+g,20,0,4,2,5
+T,12,0,8,16384
+T,20,0,0,2
+F,1,0,0,3,1
+F,12,0,8,0,0
+F,19,0,0,4,0
+B,1,0,0,3,1,3
+B,2,0,0,3,1,2
+B,19,0,0,4,0,3
+B,20,0,0,0,0,16385
+P,3,0,2,3
+P,4,0,0,1
+P,19,0,0,4
+D,4,0,0,1,0,1
+D,4,0,1,2,3,0
+S,0,1,3,2,4,2,6,1,0,0,31,1,2,31,0,1
+";
+
+/// The most sets and pairs: results that fill their buffers.
+const WIDE: &str = "policy,1\nuattr,7\noattr,7\nrule,0,t\nend\n";
+
+/// The file: right lines, each with the wrong ones made from it.
+pub fn file() -> Vec<u8> {
+    let numbered = (0..).zip(right_cases());
+    numbered
+        .flat_map(|(case, (text, right))| {
+            let lines: String = right.lines().map(with_wrong).collect();
+            case_of(case, text.as_bytes(), &lines)
+        })
+        .collect()
+}
+
+/// Texts, each with right lines.
+fn right_cases() -> [(String, String); 4] {
+    let without_policy = WITHOUT_POLICY.join("\n");
+    let labels = ",0".repeat(128);
+    [
+        (TEXT.to_string(), format!("{ANSWERS}{MORE}")),
+        (String::new(), "R,10,0\n".to_string()),
+        (
+            TEXT.replace("end\n", "end\nend\n"),
+            format!("R,3,9\nV,11\n{without_policy}\n"),
+        ),
+        (
+            WIDE.to_string(),
+            format!(
+                "Y\nu,0,1,128,128,1{labels}\no,0,1,128,128,1{labels}\nT,0,16384,0,16384,0,16383\n"
+            ),
+        ),
+    ]
+}
+
+/// A right line, and the wrong ones made from it.
+fn with_wrong(right: &str) -> String {
+    let (tag, fields) = right.split_at(1);
+    let numbers: Vec<u32> = fields
+        .split(',')
+        .skip(1)
+        .map(|field| field.parse().expect("a number"))
+        .collect();
+    let mut lines = format!("{right}\n");
+    for wrong in wrong_numbers(tag, numbers) {
+        let fields: String = wrong.iter().map(|n| format!(",{n}")).collect();
+        lines += &format!("{tag}{MARK}{fields}\n");
+    }
+    lines
+}
+
+/// The numbers of the wrong lines. A line without an answer or a count has 0.
+fn wrong_numbers(tag: &str, mut right: Vec<u32>) -> Vec<Vec<u32>> {
+    right.resize(right.len().max(2), 0);
+    let mut wrong = vec![changed(&right, 0, right[0] + 1)];
+    wrong.push(changed(&right, 1, right[1] + 1));
+    match tag {
+        // A byte of the text less, or one where there is none.
+        "W" => wrong.push(changed(&right, 3, right[3].checked_sub(1).unwrap_or(1))),
+        // No set is told apart from itself.
+        "D" => wrong.push(changed(&right, 3, right[2])),
+        "u" | "o" | "g" => wrong.extend(wrong_entries(&right, 5, 1)),
+        "T" => wrong.extend(wrong_entries(&right, 4, 2)),
+        "S" => {
+            let calls = right[7] as usize;
+            let (answers, sessions) = (8 + 4 * calls, 8 + 5 * calls);
+            wrong.extend((answers..sessions).map(|i| changed(&right, i, right[i] + 1)));
+            wrong.extend(wrong_entries(&right, sessions, 3));
+        }
+        _ => {}
+    }
+    wrong
+}
+
+fn changed(right: &[u32], place: usize, value: u32) -> Vec<u32> {
+    let mut wrong = right.to_vec();
+    wrong[place] = value;
+    wrong
+}
+
+/// Wrong in the entries from a place on, each of so many numbers: one number
+/// changed, the last entry left out, or one entry more.
+fn wrong_entries(right: &[u32], from: usize, each: usize) -> Vec<Vec<u32>> {
+    let few = right.len() - from <= FEW;
+    let places = (from..right.len()).filter(|&i| few || i == from || i + 1 == right.len());
+    let mut wrong: Vec<_> = places.map(|i| changed(right, i, right[i] + 1)).collect();
+    if right.len() > from {
+        wrong.push(right[..right.len() - each].to_vec());
+    }
+    wrong.push([right, &vec![0; each]].concat());
+    wrong
+}

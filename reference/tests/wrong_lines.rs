@@ -1,0 +1,155 @@
+//! The lines that are wrong on purpose: each is wrong in one thing, and every
+//! kind of line has one for each thing that it compares.
+
+use reference::wrong::{file, MARK};
+use std::collections::BTreeSet;
+
+/// What the lines of each tag compare: an answer and a count; of entries also
+/// that the first and the last are as stored, and that none is missing or left.
+const COMPARED: [(char, &[&str]); 13] = [
+    ('R', &["answer", "count"]),
+    ('Y', &["answer", "count"]),
+    ('V', &["answer", "count"]),
+    ('W', &["answer", "bytes", "count"]),
+    ('u', &["answer", "count", "label", "less", "more"]),
+    ('o', &["answer", "count", "label", "less", "more"]),
+    ('g', &["answer", "byte", "count", "less", "more"]),
+    ('T', &["answer", "count", "first", "last", "less", "more"]),
+    ('F', &["answer", "count"]),
+    ('B', &["answer", "count"]),
+    ('P', &["answer", "count"]),
+    ('D', &["answer", "count", "set"]),
+    (
+        'S',
+        &[
+            "answer", "count", "held", "less", "more", "reply", "session", "user",
+        ],
+    ),
+];
+
+/// What stands at a place of a line.
+fn name(tag: char, right: &[u32], place: usize) -> &'static str {
+    match (tag, place) {
+        (_, 0) => "answer",
+        (_, 1) => "count",
+        ('W', 3) => "bytes",
+        ('D', 3) => "set",
+        ('u' | 'o', 5..) => "label",
+        ('g', 5..) => "byte",
+        ('T', 4..) => ["first", "last"][place % 2],
+        ('S', 8..) => {
+            let calls = right[7] as usize;
+            match place.checked_sub(8 + 5 * calls) {
+                Some(past) => ["session", "user", "held"][past % 3],
+                None if place >= 8 + 4 * calls => "reply",
+                None => "a call",
+            }
+        }
+        _ => "not compared",
+    }
+}
+
+/// The lines of a file that follow its texts.
+fn lines(file: &[u8]) -> Vec<String> {
+    let mut lines = Vec::new();
+    let mut rest = file;
+    while let Some(end) = rest.iter().position(|&byte| byte == b'\n') {
+        let line = String::from_utf8_lossy(&rest[..end]).into_owned();
+        rest = &rest[end + 1..];
+        match line
+            .strip_prefix("C,")
+            .and_then(|begun| begun.split_once(','))
+        {
+            Some((_, length)) => rest = &rest[length.parse::<usize>().expect("a length") + 1..],
+            None => lines.push(line),
+        }
+    }
+    lines
+}
+
+/// The tag of a line, whether it is wrong on purpose, and its numbers with an
+/// answer and a count.
+fn parsed(line: &str) -> (char, bool, Vec<u32>) {
+    let (tag, rest) = line.split_at(1);
+    let fields = rest.split(',').skip(1);
+    let mut numbers: Vec<u32> = fields
+        .map(|field| field.parse().expect("a number"))
+        .collect();
+    numbers.resize(numbers.len().max(2), 0);
+    (
+        tag.chars().next().expect("a tag"),
+        rest.starts_with(MARK),
+        numbers,
+    )
+}
+
+/// The one thing in which a wrong line is not the right one.
+fn difference(tag: char, right: &[u32], wrong: &[u32]) -> &'static str {
+    let entry = match tag {
+        'T' => 2,
+        'S' => 3,
+        _ => 1,
+    };
+    if wrong.len() + entry == right.len() && right.starts_with(wrong) {
+        return "less";
+    }
+    if wrong.len() == right.len() + entry && wrong.starts_with(right) {
+        return "more";
+    }
+    assert_eq!(wrong.len(), right.len());
+    let places: Vec<usize> = (0..right.len()).filter(|&i| right[i] != wrong[i]).collect();
+    assert_eq!(places.len(), 1, "{tag}: {right:?} and {wrong:?}");
+    name(tag, right, places[0])
+}
+
+/// Each wrong line as its tag and the answer of the right line that it stands
+/// after, with the thing in which it is wrong.
+fn differences() -> Vec<(char, u32, &'static str)> {
+    let mut right = ('C', Vec::new());
+    let mut all = Vec::new();
+    for (tag, wrong, numbers) in lines(&file()).iter().map(|line| parsed(line)) {
+        if !wrong {
+            right = (tag, numbers);
+            continue;
+        }
+        assert_eq!(tag, right.0);
+        all.push((tag, right.1[0], difference(tag, &right.1, &numbers)));
+    }
+    all
+}
+
+#[test]
+fn every_kind_of_line_has_one_for_each_thing_compared() {
+    let differences = differences();
+    let tags: BTreeSet<char> = differences.iter().map(|d| d.0).collect();
+    assert_eq!(tags, COMPARED.iter().map(|c| c.0).collect());
+    for (tag, names) in COMPARED {
+        let of_tag = differences.iter().filter(|d| d.0 == tag);
+        let found: BTreeSet<&str> = of_tag.map(|d| d.2).collect();
+        assert!(found.iter().eq(names), "{tag}: {found:?}");
+    }
+}
+
+#[test]
+fn refused_calls_have_one_that_stores_something() {
+    let differences = differences();
+    for (tag, what) in [
+        ('u', "more"),
+        ('o', "more"),
+        ('g', "more"),
+        ('T', "more"),
+        ('W', "bytes"),
+    ] {
+        for refusal in [11, 20] {
+            assert!(differences.contains(&(tag, refusal, what)), "{tag}");
+        }
+    }
+}
+
+#[test]
+fn no_other_kind_is_stored() {
+    let stored = reference::stored::files();
+    let lines = stored.iter().flat_map(|file| lines(file));
+    let tags: BTreeSet<char> = lines.filter_map(|line| line.chars().next()).collect();
+    assert_eq!(tags, COMPARED.iter().map(|c| c.0).collect());
+}
