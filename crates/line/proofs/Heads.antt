@@ -1,4 +1,4 @@
--- What taking a line apart says of its refusal: a fault is the lowest one, and a line that is taken breaks none of 2 to 4.
+-- What taking a line apart says of its refusal: a fault is the lowest one, and a line taken breaks none of 2 to 4.
 use Prim.Native.Nat.{ℕ}
 use mathlib.Core.Path.{_≡_, refl, sym, ap, _∙_}
 use mathlib.Core.Bool.{Bool, true, false, cond, not, and-false, _&&_}
@@ -7,9 +7,7 @@ use mathlib.Core.Option.{Option, none, some}
 use native.Mathlib.Omega.{arith}
 use lib.ListN.{length, drop}
 use Rattle.basis.specs.Choice.{Check, check, lowest}
-use Rattle.basis.specs.Lists.{all}
 use Rattle.text.specs.Kind.{layoutOf}
-use Rattle.text.specs.Number.{isNumber}
 use Rattle.text.specs.declared.kind.Kind.{Kind}
 use Rattle.text.specs.declared.kind.Kind.the-variants.{End}
 use Rattle.text.specs.declared.kind.Layout.{Layout}
@@ -18,7 +16,7 @@ use Rattle.text.specs.declared.kind.Named.{Named}
 use Rattle.text.specs.declared.kind.Named.the-variants.{Is, Unknown}
 use Rattle.text.specs.declared.number.Numbers.{Numbers}
 use Rattle.policy.specs.Answers.{numberOf}
-use Rattle.policy.specs.Line.{noNumbers, allowed, fieldAt, countFits, formFits, numbersOf}
+use Rattle.policy.specs.Line.{noNumbers, allowed, countFits, formFits, numbersOf}
 use Rattle.policy.specs.Policy.{Policy}
 use Rattle.policy.specs.Read.{checksOf, refusalOf}
 use Rattle.policy.specs.declared.refusal.Refusal.{Refusal}

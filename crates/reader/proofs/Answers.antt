@@ -5,7 +5,7 @@ use Prim.Native.Nat.{ℕ}
 use Rattle.text.specs.declared.kind.Kind.{Kind}
 use Rattle.policy.specs.Answers.{numberOf, ReadAs, valueIn}
 use Rattle.policy.specs.Policy.{Policy}
-use Rattle.policy.specs.Read.{Outcome, Refused}
+use Rattle.policy.specs.Read.{Refused}
 use Rattle.policy.specs.Value.{valueOf}
 use Rattle.policy.specs.declared.refusal.Refusal.{Refusal}
 use Rattle.policy.specs.declared.value.PolicyValue.{PolicyValue}

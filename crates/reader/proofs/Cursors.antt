@@ -12,14 +12,13 @@ use Rattle.basis.specs.Choice.{lowest}
 use Rattle.basis.specs.Lists.{all}
 use Rattle.text.specs.Kind.{layoutOf, placeOf, isKind}
 use Rattle.text.specs.Inner.{Found}
-use Rattle.text.specs.Parts.{TextLine, lineFeed, fields, lines}
+use Rattle.text.specs.Parts.{lineFeed, fields, lines}
 use Rattle.text.specs.declared.kind.Kind.{Kind}
 use Rattle.text.specs.declared.kind.Kind.the-variants.{End}
 use Rattle.text.specs.declared.kind.Named.{Named}
 use Rattle.text.specs.declared.kind.Named.the-variants.{Is, Unknown}
 use Rattle.text.specs.declared.number.Numbers.{Numbers}
 use Rattle.text.proofs.Naming.{place-lt, kindAt, kind-at}
-use Rattle.text.proofs.RoundTrip.{endedLine}
 use Rattle.policy.specs.Answers.{numberOf}
 use Rattle.policy.specs.Checks.{inRange, rises, balances, withLineOf, extended}
 use Rattle.policy.specs.Line.{allowed, countFits, formFits, wordsOf, lineOf}
@@ -33,7 +32,7 @@ use Rattle.line.specs.declared.head.Before.{Before}
 use Rattle.line.specs.declared.head.Before.the-variants.{Start, After}
 use Rattle.line.specs.declared.head.Head.{Head}
 use Rattle.line.specs.declared.head.Head.the-variants.{Line as LineHead, Fault as FaultHead}
-use Rattle.line.proofs.Heads.{Known, head-fault, head-known}
+use Rattle.line.proofs.Heads.{head-fault, head-known}
 use Rattle.reader.specs.Inner.Cursor.{fieldsAt, refusalAt, leftBy, left, bareAt, LineAt, Stands, Past, Bare, LookedAt, NextOf, aheadIs}
 use Rattle.reader.specs.declared.cursor.Ahead.{Ahead}
 use Rattle.reader.specs.declared.cursor.Ahead.the-variants.{Line, Over, Fault}
@@ -66,12 +65,6 @@ same-kind j k e = sym (kind-at j) ∙ ap kindAt (eqb-true (placeOf j) (placeOf k
 module _ (a : Ahead) (k : Kind) where
   pub ahead-line : (j : Kind) (r : Bool) → a ≡ Line j → r ≡ isKind j k → r ≡ aheadIs a k
   ahead-line j r e q = rw e q
-
-  pub ahead-over : a ≡ Over → false ≡ aheadIs a k
-  ahead-over e = rw e
-
-  pub ahead-fault : (r : Refusal) → a ≡ Fault r → false ≡ aheadIs a k
-  ahead-fault r e = rw e
 
 -- a line of kind k is ahead, or none
 pub ahead-is : (a : Ahead) (k : Kind) → aheadIs a k ≡ true → a ≡ Line k

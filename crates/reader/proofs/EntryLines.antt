@@ -8,13 +8,12 @@ use native.Mathlib.Omega.{arith}
 use borrow.Author.Tests.{ltb-true, le-leb, lt-leb}
 use lib.Dec.{leb}
 use lib.ListN.{length}
-use Rattle.basis.specs.Choice.{given, check, lowest}
+use Rattle.basis.specs.Choice.{check, lowest}
 use Rattle.basis.specs.Lists.{last}
 use Rattle.basis.proofs.Bools.{and-left}
-use Rattle.basis.proofs.Snoc.{length-snoc, last-snoc}
+use Rattle.basis.proofs.Snoc.{last-snoc}
 use Rattle.text.specs.Kind.{placeOf}
 use Rattle.text.specs.declared.kind.Kind.{Kind}
-use Rattle.text.specs.declared.number.Numbers.{Numbers}
 use Rattle.policy.specs.Checks.{entryFits}
 use Rattle.policy.specs.Policy.{Policy}
 use Rattle.policy.specs.Value.{entryPlaces, register}
@@ -33,7 +32,7 @@ use Rattle.reader.proofs.Runs.{two-refusal, none-read, all-read, one-re
 abbrev numberIn : Entry → ℕ
 numberIn e = e .number
 
--- what is held between two lines; as each number rises, there are no more entries than numbers below the least that rises
+-- what is held between two lines; as numbers rise, there are no more entries than numbers below the least that rises
 pub record EntriesHeld (t : List ℕ) (k : Kind) (most total : ℕ) (c : Cursor) (x : Register) (n : ℕ) (d : Cursor) : Type 0 where
   pub entries : List Entry
   pub stored : x ≡ register entries

@@ -6,7 +6,6 @@ use mathlib.Core.List.{List}
 use native.Mathlib.Omega.{arith}
 use Rattle.basis.specs.Choice.{lowest}
 use Rattle.text.specs.Kind.{placeOf}
-use Rattle.text.specs.declared.kind.Kind.{Kind}
 use Rattle.text.specs.declared.kind.Kind.the-variants.{Policy as PolicyKind}
 use Rattle.text.specs.declared.number.Numbers.{Numbers}
 use Rattle.policy.specs.Checks.{inRange, rises, withForm, extended}

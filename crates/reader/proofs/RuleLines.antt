@@ -17,7 +17,7 @@ use Rattle.words.specs.declared.Word.{Word}
 use Rattle.policy.specs.Checks.{Sizes, sizes, inRange, rises, widthsEqual, balanced, balances}
 use Rattle.policy.specs.Line.{oneNumber, formFits, numbersOf, wordsOf}
 use Rattle.policy.specs.Policy.{Rule, Policy}
-use Rattle.policy.specs.Value.{rulePlaces, ruleValue, rulesValue}
+use Rattle.policy.specs.Value.{rulePlaces, rulesValue}
 use Rattle.policy.specs.declared.refusal.Refusal.{Refusal}
 use Rattle.policy.specs.declared.value.Rules.{Rules}
 use Rattle.policy.proofs.Forms.{actions-most}

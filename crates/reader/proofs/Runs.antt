@@ -15,7 +15,6 @@ use Rattle.policy.specs.Checks.{sizes, inRange, rises, balances, withLineOf}
 use Rattle.policy.specs.Line.{formFits, numbersOf, wordsOf, lineOf}
 use Rattle.policy.specs.Policy.{Policy}
 use Rattle.policy.specs.declared.refusal.Refusal.{Refusal}
-use Rattle.policy.specs.declared.refusal.Refusal.the-variants.{OutOfRange, NotRising}
 use Rattle.line.specs.Inner.Head.{numbersFit}
 use Rattle.reader.specs.Inner.Cursor.{fieldsAt, refusalAt, left, bareAt, LineAt, Stands, NextOf, aheadIs}
 use Rattle.reader.specs.Inner.Lists.{Listed, ReadBy}

@@ -6,7 +6,7 @@ use Rattle.seniority.specs.declared.Direct.{Direct}
 use Rattle.text.specs.declared.kind.Kind.the-variants.{Uattr, Oattr, Usen, Osen, User, Object, Rule as RuleKind}
 use Rattle.policy.specs.Checks.{sideSizes, inRange, pairRises, entryRises, ruleRises, rises, withUser, withObject, withUsers, withObjects, withRules, extended}
 use Rattle.policy.specs.Limits.{userNumbers, objectNumbers}
-use Rattle.policy.specs.Policy.{Rule, Policy, total}
+use Rattle.policy.specs.Policy.{Rule, total}
 use Rattle.policy.specs.declared.value.Entry.{Entry}
 use Rattle.reader.specs.Inner.Lists.{Listed, WidthKind, PairKind, EntryKind, RuleKindOf}
 

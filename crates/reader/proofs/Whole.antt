@@ -6,16 +6,15 @@ use native.Mathlib.Omega.{arith}
 use borrow.Author.Tests.{lt-ltb, le-ltb}
 use lib.ListN.{length}
 use Rattle.basis.proofs.Padded.{take-padded}
-use Rattle.seniority.specs.declared.Direct.{Direct}
 use Rattle.text.specs.Kind.{placeOf}
 use Rattle.text.specs.Parts.{lines}
 use Rattle.text.specs.declared.kind.Kind.{Kind}
 use Rattle.text.specs.declared.kind.Kind.the-variants.{Uattr, Oattr, Usen, Osen, User, Object, End}
 use Rattle.policy.specs.Answers.{ReadAs}
-use Rattle.policy.specs.Checks.{SideSizes, sideSizes, withForm}
+use Rattle.policy.specs.Checks.{sideSizes}
 use Rattle.policy.specs.Limits.{textBytes, mostValues, values, userNumbers, objectNumbers}
 use Rattle.policy.specs.Policy.{Side, Policy, blank, total}
-use Rattle.policy.specs.Read.{Outcome, Refused, start, readLines, readText}
+use Rattle.policy.specs.Read.{Refused, start, readLines, readText}
 use Rattle.policy.specs.Value.{widthPlaces, sideValue, register, rulesValue, valueOf}
 use Rattle.policy.specs.declared.value.PolicyValue.{PolicyValue}
 use Rattle.policy.specs.declared.value.Reading.{Reading}
@@ -23,7 +22,7 @@ use Rattle.policy.specs.declared.value.Register.{Register}
 use Rattle.policy.specs.declared.value.Rules.{Rules}
 use Rattle.policy.specs.declared.value.SideValue.{SideValue}
 use Rattle.policy.proofs.Forms.{values-most}
-use Rattle.checks.specs.Inner.{sizesIn, bothIn}
+use Rattle.checks.specs.Inner.{sizesIn}
 use Rattle.checks.specs.declared.side.Shape.{Shape}
 use Rattle.line.specs.declared.head.Before.the-variants.{Start}
 use Rattle.reader.specs.Inner.Cursor.{left, Past, LookedAt}

@@ -12,12 +12,12 @@ use Rattle.basis.proofs.Snoc.{length-snoc, sum-snoc}
 use Rattle.text.specs.Kind.{placeOf}
 use Rattle.text.specs.declared.kind.Kind.{Kind}
 use Rattle.text.specs.declared.number.Numbers.{Numbers}
-use Rattle.policy.specs.Checks.{sizes, widthFits, inRange}
+use Rattle.policy.specs.Checks.{widthFits}
 use Rattle.policy.specs.Limits.{mostValues, values}
 use Rattle.policy.specs.Policy.{Policy}
 use Rattle.policy.specs.Value.{widthPlaces}
 use Rattle.policy.specs.declared.refusal.Refusal.the-variants.{OutOfRange}
-use Rattle.policy.proofs.Bounds.{Width, width-fits}
+use Rattle.policy.proofs.Bounds.{width-fits}
 use Rattle.reader.specs.Inner.Cursor.{fieldsAt, refusalAt, bareAt, Stands, NextOf, aheadIs}
 use Rattle.reader.specs.Inner.Lists.{Listed, ReadBy, WidthsFit, WidthsFrom}
 use Rattle.reader.specs.declared.cursor.Ahead.the-variants.{Line, Fault}

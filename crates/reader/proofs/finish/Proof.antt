@@ -1,9 +1,8 @@
+-- `reader::finish` meets its contract.
 use Rattle.reader.proofs.Answers.{answer-over, answer-fault, answer-line}
 use borrow.Author.Needs.{needs}
 use Rattle.reader.proofs.finish.Statement.{statement}
 use Rattle.reader.proofs.finish.Tie as tie
-use Rattle.reader.proofs.pass_end.Reads as pass-end-reads
-use Rattle.reader.proofs.refused.Reads as refused-reads
 
 pass-end-requires : tie.Need-pass-end-requires
 pass-end-requires c κs = search needs

@@ -1,10 +1,9 @@
+-- `reader::pass_end` meets its contract.
 use mathlib.Core.Path.{sym, _∙_}
 use Rattle.reader.proofs.Cursors.{ahead-is, end-passed, end-away}
 use borrow.Author.Needs.{needs}
 use Rattle.reader.proofs.pass_end.Statement.{statement}
 use Rattle.reader.proofs.pass_end.Tie as tie
-use Rattle.reader.proofs.cursor.is_at.Reads as is-at-reads
-use Rattle.reader.proofs.cursor.next.Reads as next-reads
 
 is-at-requires : tie.Need-is-at-requires
 is-at-requires c κs = search needs

@@ -1,9 +1,8 @@
+-- `reader::read` meets its contract.
 use Rattle.reader.proofs.Whole.{text-long, text-read}
 use borrow.Author.Needs.{needs}
 use Rattle.reader.proofs.read.Statement.{statement}
 use Rattle.reader.proofs.read.Tie as tie
-use Rattle.reader.proofs.read_lists.Reads as read-lists-reads
-use Rattle.reader.proofs.refused.Reads as refused-reads
 
 refused-requires : tie.Need-refused-requires
 refused-requires c κs = search needs

@@ -1,12 +1,9 @@
+-- `reader::read_lists` meets its contract: each list starts where the one before it ends.
 use mathlib.Core.Path.{refl}
 use Rattle.reader.proofs.Whole.{lists-past, lists-read}
 use borrow.Author.Needs.{needs}
 use Rattle.reader.proofs.read_lists.Statement.{statement}
 use Rattle.reader.proofs.read_lists.Tie as tie
-use Rattle.reader.proofs.entries.read.Reads as entries-read-reads
-use Rattle.reader.proofs.finish.Reads as finish-reads
-use Rattle.reader.proofs.rules.read.Reads as rules-read-reads
-use Rattle.reader.proofs.sides.read.Reads as sides-read-reads
 
 read-requires : tie.Need-read-requires
 read-requires c κs = search needs

@@ -14,7 +14,6 @@ use Rattle.policy.specs.Checks.{lineInRange, lineRises, lineWidthsEqual, lineBa
 use Rattle.policy.specs.Line.{noNumbers, allowed, countFits, formFits, numbersOf, lineOf}
 use Rattle.policy.specs.Policy.{Policy}
 use Rattle.policy.specs.Read.{Outcome, Accepted, Refused, readLines}
-use Rattle.policy.specs.declared.refusal.Refusal.{Refusal}
 use Rattle.line.specs.Inner.Head.{beforeOf, between, numbersFit}
 use Rattle.line.specs.declared.head.Before.{Before}
 use Rattle.reader.specs.declared.cursor.Ahead.{Ahead}

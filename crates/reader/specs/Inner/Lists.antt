@@ -1,4 +1,4 @@
--- The lines of one kind, which stand together in a text, as a list of a policy: what the functions that read such a list go by.
+-- The lines of one kind, which stand together in a text, as a list of a policy: what the functions that read it go by.
 use Prim.Native.Nat.{ℕ, suc, _≤_}
 use mathlib.Core.Path.{_≡_}
 use mathlib.Core.Bool.{true}

@@ -1,8 +1,8 @@
+-- `line::head::bare` meets its contract: without a comma there is one field, and else more.
 use Rattle.line.proofs.Fields.{bare-alone, bare-more}
 use borrow.Author.Needs.{needs}
 use Rattle.line.proofs.head.bare.Statement.{statement}
 use Rattle.line.proofs.head.bare.Tie as tie
-use Rattle.line.proofs.head.said.Reads as said-reads
 
 said-requires : tie.Need-said-requires
 said-requires c κs = search needs

@@ -1,13 +1,8 @@
+-- `line::head::by_layout` meets its contract: layout by layout.
 use Rattle.line.proofs.Fields.{laid}
 use borrow.Author.Needs.{needs}
 use Rattle.line.proofs.head.by_layout.Statement.{statement}
 use Rattle.line.proofs.head.by_layout.Tie as tie
-use Rattle.line.proofs.head.bare.Reads as bare-reads
-use Rattle.line.proofs.head.formula.Reads as formula-reads
-use Rattle.line.proofs.head.one.Reads as one-reads
-use Rattle.line.proofs.head.three.Reads as three-reads
-use Rattle.line.proofs.head.two.Reads as two-reads
-use Rattle.text.proofs.kind.layout_of.Reads as layout-of-reads
 
 layout-of-requires : tie.Need-layout-of-requires
 layout-of-requires c κs = search needs

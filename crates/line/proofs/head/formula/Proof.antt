@@ -1,10 +1,8 @@
+-- `line::head::formula` meets its contract: of three fields or more the first ends at a comma.
 use Rattle.line.proofs.Fields.{formula-few, formula-many, comma-there, formula-action}
 use borrow.Author.Needs.{needs}
 use Rattle.line.proofs.head.formula.Statement.{statement}
 use Rattle.line.proofs.head.formula.Tie as tie
-use Rattle.line.proofs.head.number_from.Reads as number-from-reads
-use Rattle.line.proofs.head.said.Reads as said-reads
-use Rattle.text.proofs.parts.count.Reads as count-reads
 
 count-requires : tie.Need-count-requires
 count-requires c κs = search needs

@@ -1,9 +1,8 @@
+-- `line::head::may_stand` meets its contract.
 use Rattle.line.proofs.Fields.{stands-first, stands-after}
 use borrow.Author.Needs.{needs}
 use Rattle.line.proofs.head.may_stand.Statement.{statement}
 use Rattle.line.proofs.head.may_stand.Tie as tie
-use Rattle.text.proofs.kind.may_follow.Reads as may-follow-reads
-use Rattle.text.proofs.kind.same.Reads as same-reads
 
 enum-told : tie.Need-enum-told
 enum-told c = search needs

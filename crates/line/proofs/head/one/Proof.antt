@@ -1,9 +1,8 @@
+-- `line::head::one` meets its contract: the commas found tell the fields.
 use Rattle.line.proofs.Fields.{one-none, one-more, one-is}
 use borrow.Author.Needs.{needs}
 use Rattle.line.proofs.head.one.Statement.{statement}
 use Rattle.line.proofs.head.one.Tie as tie
-use Rattle.line.proofs.head.number_from.Reads as number-from-reads
-use Rattle.line.proofs.head.said.Reads as said-reads
 
 returns : tie.Need-returns
 returns c = search one-none

@@ -1,11 +1,8 @@
+-- `line::head::parse` meets its contract: the field before the first comma names the kind.
 use Rattle.line.proofs.Fields.{parsed-unknown, parsed-known, parsed-wrong}
 use borrow.Author.Needs.{needs}
 use Rattle.line.proofs.head.parse.Statement.{statement}
 use Rattle.line.proofs.head.parse.Tie as tie
-use Rattle.line.proofs.head.by_layout.Reads as by-layout-reads
-use Rattle.line.proofs.head.may_stand.Reads as may-stand-reads
-use Rattle.text.proofs.kind.parse.Reads as parse-reads
-use Rattle.text.proofs.parts.find.Reads as find-reads
 
 find-requires : tie.Need-find-requires
 find-requires c κs = search needs

@@ -1,3 +1,4 @@
+-- `line::head::said` meets its contract: each field in turn is a number or ends the matter.
 use Rattle.line.proofs.Fields.{said-first, said-second, said-third, said-all}
 use borrow.Author.Needs.{needs}
 use Rattle.line.proofs.head.said.Statement.{statement}

@@ -1,9 +1,8 @@
+-- `line::head::three` meets its contract: the commas found tell the fields.
 use Rattle.line.proofs.Fields.{three-none, three-one, three-two, three-more, three-are}
 use borrow.Author.Needs.{needs}
 use Rattle.line.proofs.head.three.Statement.{statement}
 use Rattle.line.proofs.head.three.Tie as tie
-use Rattle.line.proofs.head.number_from.Reads as number-from-reads
-use Rattle.line.proofs.head.said.Reads as said-reads
 
 returns : tie.Need-returns
 returns c = search three-none

@@ -1,9 +1,8 @@
+-- `line::head::two` meets its contract: the commas found tell the fields.
 use Rattle.line.proofs.Fields.{two-none, two-one, two-more, two-are}
 use borrow.Author.Needs.{needs}
 use Rattle.line.proofs.head.two.Statement.{statement}
 use Rattle.line.proofs.head.two.Tie as tie
-use Rattle.line.proofs.head.number_from.Reads as number-from-reads
-use Rattle.line.proofs.head.said.Reads as said-reads
 
 returns : tie.Need-returns
 returns c = search two-none

@@ -1,4 +1,4 @@
--- `line::rule::words` meets its contract: the words done, and those of the fields that are left, are the words of all fields.
+-- `line::rule::words` meets its contract: the words done, and those of the fields left, are the words of all fields.
 use Prim.Native.Nat.{_-_}
 use native.Mathlib.Omega.{arith}
 use lib.ListN.{length}

@@ -1,9 +1,8 @@
+-- `reader::cursor::end_of` meets its contract.
 use Rattle.reader.proofs.Cursors.{start-ends, ends, ends-early}
 use borrow.Author.Needs.{needs}
 use Rattle.reader.proofs.cursor.end_of.Statement.{statement}
 use Rattle.reader.proofs.cursor.end_of.Tie as tie
-use Rattle.reader.proofs.cursor.bare.Reads as bare-reads
-use Rattle.text.proofs.kind.same.Reads as same-reads
 
 enum-known-before : tie.Need-enum-known-before
 enum-known-before c = search needs

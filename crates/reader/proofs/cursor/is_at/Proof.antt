@@ -1,8 +1,8 @@
+-- `reader::cursor::is_at` meets its contract.
 use Rattle.reader.proofs.Cursors.{ahead-line}
 use borrow.Author.Needs.{needs}
 use Rattle.reader.proofs.cursor.is_at.Statement.{statement}
 use Rattle.reader.proofs.cursor.is_at.Tie as tie
-use Rattle.text.proofs.kind.same.Reads as same-reads
 
 enum-known-a : tie.Need-enum-known-a
 enum-known-a c = search needs

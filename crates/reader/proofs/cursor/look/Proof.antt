@@ -1,11 +1,8 @@
+-- `reader::cursor::look` meets its contract: an open line, one that is refused, or a line.
 use Rattle.reader.proofs.Cursors.{looked-open, looked-fault, looked-line}
 use borrow.Author.Needs.{needs}
 use Rattle.reader.proofs.cursor.look.Statement.{statement}
 use Rattle.reader.proofs.cursor.look.Tie as tie
-use Rattle.line.proofs.head.parse.Reads as parse-reads
-use Rattle.reader.proofs.cursor.bare.Reads as bare-reads
-use Rattle.reader.proofs.cursor.end_of.Reads as end-of-reads
-use Rattle.text.proofs.parts.find.Reads as find-reads
 
 end-of-requires : tie.Need-end-of-requires
 end-of-requires c κs = search needs

@@ -1,8 +1,8 @@
+-- `reader::cursor::next` meets its contract: the line at the cursor ends inside the text.
 use native.Mathlib.Omega.{arith}
 use Rattle.reader.proofs.Cursors.{next-looked}
 use Rattle.reader.proofs.cursor.next.Statement.{statement}
 use Rattle.reader.proofs.cursor.next.Tie as tie
-use Rattle.reader.proofs.cursor.look.Reads as look-reads
 
 add-look : tie.Need-add-look
 add-look c = let l = c .before .before .pre .0 _ (c .before .before .pre .1) in omega (arith, l .inside)

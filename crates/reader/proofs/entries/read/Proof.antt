@@ -1,14 +1,10 @@
+-- `reader::entries::read` meets its contract: what is held stands for the entries read, and each line leaves less.
 use native.Mathlib.Omega.{arith}
 use Rattle.reader.proofs.Cursors.{ahead-there, toRead, next-less, stop-less}
 use Rattle.reader.proofs.EntryLines.{EntriesHeld, no-entries-held, entries-read, entry-small, entry-room, entry-more, entry-level, entry-out}
 use borrow.Author.Needs.{needs}
 use Rattle.reader.proofs.entries.read.Statement.{statement}
 use Rattle.reader.proofs.entries.read.Tie as tie
-use Rattle.checks.proofs.side.entry_fits.Reads as entry-fits-reads
-use Rattle.reader.proofs.cursor.is_at.Reads as is-at-reads
-use Rattle.reader.proofs.cursor.next.Reads as next-reads
-use Rattle.reader.proofs.cursor.stop.Reads as stop-reads
-use Rattle.reader.proofs.value.no_entries.Reads as no-entries-reads
 
 abbrev Inv-loop : tie.InvT-loop
 Inv-loop text kind most total register₀ least₀ c₀ register least c = EntriesHeld text kind most total c₀ register least c

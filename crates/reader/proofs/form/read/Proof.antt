@@ -1,13 +1,10 @@
+-- `reader::form::read` meets its contract.
 use mathlib.Core.Path.{sym, _∙_}
 use Rattle.reader.proofs.Cursors.{ahead-is}
 use Rattle.reader.proofs.FormLine.{form-taken, form-refused, form-none}
 use borrow.Author.Needs.{needs}
 use Rattle.reader.proofs.form.read.Statement.{statement}
 use Rattle.reader.proofs.form.read.Tie as tie
-use Rattle.policy.proofs.limits.is_form.Reads as is-form-reads
-use Rattle.reader.proofs.cursor.is_at.Reads as is-at-reads
-use Rattle.reader.proofs.cursor.next.Reads as next-reads
-use Rattle.reader.proofs.cursor.stop.Reads as stop-reads
 
 is-at-requires : tie.Need-is-at-requires
 is-at-requires c κs = search needs

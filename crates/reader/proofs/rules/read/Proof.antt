@@ -1,14 +1,10 @@
+-- `reader::rules::read` meets its contract: what is held stands for the rules read, and each line leaves less.
 use native.Mathlib.Omega.{arith}
 use Rattle.reader.proofs.Cursors.{ahead-there, toRead, next-less, stop-less}
 use Rattle.reader.proofs.RuleLines.{RulesHeld, no-rules-held, rules-read, rule-room, rule-small, rule-more, rule-out}
 use borrow.Author.Needs.{needs}
 use Rattle.reader.proofs.rules.read.Statement.{statement}
 use Rattle.reader.proofs.rules.read.Tie as tie
-use Rattle.line.proofs.rule.admit.Reads as admit-reads
-use Rattle.reader.proofs.cursor.is_at.Reads as is-at-reads
-use Rattle.reader.proofs.cursor.next.Reads as next-reads
-use Rattle.reader.proofs.cursor.stop.Reads as stop-reads
-use Rattle.reader.proofs.value.no_rules.Reads as no-rules-reads
 
 abbrev Inv-loop : tie.InvT-loop
 Inv-loop text form user object rules₀ least₀ c₀ rules least c = RulesHeld text form user object c₀ rules least c

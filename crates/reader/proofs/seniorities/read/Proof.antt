@@ -1,14 +1,10 @@
+-- `reader::seniorities::read` meets its contract: what is held stands for the pairs read, and each line leaves less.
 use Rattle.basis.specs.Lists.{padded}
 use Rattle.reader.proofs.Cursors.{ahead-there, toRead, next-less, stop-less}
 use Rattle.reader.proofs.PairLines.{PairsHeld, no-pairs, pairs-read, pair-room, pair-more, pair-level, pair-out}
 use borrow.Author.Needs.{needs}
 use Rattle.reader.proofs.seniorities.read.Statement.{statement}
 use Rattle.reader.proofs.seniorities.read.Tie as tie
-use Rattle.checks.proofs.side.pair_above.Reads as pair-above-reads
-use Rattle.checks.proofs.side.pair_fits.Reads as pair-fits-reads
-use Rattle.reader.proofs.cursor.is_at.Reads as is-at-reads
-use Rattle.reader.proofs.cursor.next.Reads as next-reads
-use Rattle.reader.proofs.cursor.stop.Reads as stop-reads
 
 abbrev Inv-loop : tie.InvT-loop
 Inv-loop text kind shape last₀ seniority₀ lines₀ c₀ last seniority lines c = PairsHeld text kind shape c₀ last seniority lines c

@@ -1,12 +1,8 @@
+-- `reader::sides::read` meets its contract: each list starts where the one before it ends.
 use Rattle.reader.proofs.Whole.{most-small, widths-sized, sides-read}
 use borrow.Author.Needs.{needs}
 use Rattle.reader.proofs.sides.read.Statement.{statement}
 use Rattle.reader.proofs.sides.read.Tie as tie
-use Rattle.policy.proofs.limits.values.Reads as values-reads
-use Rattle.reader.proofs.cursor.look.Reads as look-reads
-use Rattle.reader.proofs.form.read.Reads as form-read-reads
-use Rattle.reader.proofs.seniorities.read.Reads as seniorities-read-reads
-use Rattle.reader.proofs.widths.read.Reads as widths-read-reads
 
 look-requires : tie.Need-look-requires
 look-requires c κs = search needs

@@ -1,3 +1,4 @@
+-- `reader::widths::read` meets its contract: what is held stands for the widths read, and each line leaves less.
 use native.Mathlib.Omega.{arith}
 use Rattle.basis.specs.Lists.{padded}
 use Rattle.reader.proofs.Cursors.{ahead-there, toRead, next-less, stop-less}
@@ -5,10 +6,6 @@ use Rattle.reader.proofs.WidthLines.{WidthsHeld, no-widths, widths-read
 use borrow.Author.Needs.{needs}
 use Rattle.reader.proofs.widths.read.Statement.{statement}
 use Rattle.reader.proofs.widths.read.Tie as tie
-use Rattle.checks.proofs.side.width_fits.Reads as width-fits-reads
-use Rattle.reader.proofs.cursor.is_at.Reads as is-at-reads
-use Rattle.reader.proofs.cursor.next.Reads as next-reads
-use Rattle.reader.proofs.cursor.stop.Reads as stop-reads
 
 abbrev Inv-loop : tie.InvT-loop
 Inv-loop text kind most widths₀ attributes₀ total₀ c₀ widths attributes total c = WidthsHeld text kind most c₀ widths attributes total c
