@@ -10,8 +10,9 @@ use Rattle.text.specs.Kind.{namedIn, follows}
 use Rattle.text.specs.Number.{valueFrom, isNumber, digitsBefore, decimal}
 use Rattle.text.specs.Parts.{split, linesOf, join, textOf}
 use Rattle.words.specs.Word.{letter, holding, comparison, parsed}
+use Rattle.policy.specs.Limits.{values, actions}
 use Rattle.policy.specs.Checks.{widthFits, pairFits, entryFits, inRange, pairRises, entryRises, ruleRises, rises, balanced, balances, extended}
-use Rattle.policy.specs.Line.{allowed, countFits, formFits, lineOf}
+use Rattle.policy.specs.Line.{allowed, countFits, formFits, numbersOf, wordsOf}
 use Rattle.policy.specs.Policy.{blank, total, start, attributeOf, formulaIn}
 use Rattle.policy.specs.Read.{checksOf, refusalOf, after, ending, readLines, readText}
 use Rattle.formula.specs.Truth.{step, run, truth, grants}
@@ -28,7 +29,7 @@ abbrev reported : String
 reported = "labels,3,2\naction,0,3\ntuple,0,1,1\ntuple,0,2,1\ntuple,0,3,1\naction,3,4\ntuple,3,0,0\ntuple,3,0,1\ntuple,3,1,0\ntuple,3,1,1\n"
 
 pub sample-reported : report (readText (bytes sample)) ≡ bytes reported
-unfolding lowest all any same last sum every first count select chain senior heldOrSenior heldOrJunior namedIn follows valueFrom isNumber digitsBefore decimal split linesOf letter holding comparison parsed widthFits pairFits entryFits inRange pairRises entryRises ruleRises rises balanced balances extended allowed countFits formFits lineOf blank total start attributeOf formulaIn checksOf refusalOf after ending readLines readText step run truth grants tuples likeUsers likeObjects NU NO usersAlike objectsAlike lowestLike leads labelCount join textOf rulesLines report
+unfolding values actions lowest all any same last sum every first count select chain senior heldOrSenior heldOrJunior namedIn follows valueFrom isNumber digitsBefore decimal split linesOf letter holding comparison parsed widthFits pairFits entryFits inRange pairRises entryRises ruleRises rises balanced balances extended allowed countFits formFits numbersOf wordsOf blank total start attributeOf formulaIn checksOf refusalOf after ending readLines readText step run truth grants tuples likeUsers likeObjects NU NO usersAlike objectsAlike lowestLike leads labelCount join textOf rulesLines report
 sample-reported = refl
 
 -- "an empty text gets 10 at line 0"
