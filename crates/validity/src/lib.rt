@@ -2,11 +2,13 @@
 ghost use mathlib.Core.Path.{_≡_};
 ghost use Rattle.policy.specs.Valid.{valid};
 ghost use Rattle.validity.specs.Inner.{SidesValid, listsValid};
+
 mod behind;
 mod order;
 mod register;
 mod rules;
 mod side;
+
 use policy::limits;
 use policy::value::PolicyValue;
 

@@ -70,7 +70,13 @@ fn put_words(words: [Slot; WORD_PLACES], n: usize, buf: &mut [u8], start: usize)
 }
 
 // A word, an action and the first n words of its formula.
-pub fn put_formula(word: &[u8], a: u32, words: [Slot; WORD_PLACES], n: usize, buf: &mut [u8]) -> usize
+pub fn put_formula(
+    word: &[u8],
+    a: u32,
+    words: [Slot; WORD_PLACES],
+    n: usize,
+    buf: &mut [u8],
+) -> usize
     requires { ⌜ (n ≤ wordPlaces) × (allInDigits (take n words) ≡ true) × Room (formulaLine (now word) a (take n words)) 0 (now buf) ⌝ }
     ensures { λ r. ⌜ Put (formulaLine (now (word .entry)) a (take n words)) 0 (now (buf .entry)) (now (buf .exit)) r ⌝ }
 {

@@ -16,7 +16,13 @@ use policy::value::WIDTH_PLACES;
 use seniority::Direct;
 
 // The first n widths of a side.
-pub fn put_widths(word: &[u8], widths: [u32; WIDTH_PLACES], n: usize, buf: &mut [u8], start: usize) -> usize
+pub fn put_widths(
+    word: &[u8],
+    widths: [u32; WIDTH_PLACES],
+    n: usize,
+    buf: &mut [u8],
+    start: usize,
+) -> usize
     requires { ⌜ (n ≤ widthPlaces) × Room (each (oneLine (now word)) (take n widths)) start (now buf) ⌝ }
     ensures { λ r. ⌜ Put (each (oneLine (now (word .entry))) (take n widths)) start (now (buf .entry)) (now (buf .exit)) r ⌝ }
 {
@@ -31,7 +37,13 @@ pub fn put_widths(word: &[u8], widths: [u32; WIDTH_PLACES], n: usize, buf: &mut 
 }
 
 // The first n seniorities of a side.
-pub fn put_pairs(word: &[u8], pairs: [Direct; LINE_PLACES], n: usize, buf: &mut [u8], start: usize) -> usize
+pub fn put_pairs(
+    word: &[u8],
+    pairs: [Direct; LINE_PLACES],
+    n: usize,
+    buf: &mut [u8],
+    start: usize,
+) -> usize
     requires { ⌜ (n ≤ linePlaces) × Room (each (pairLine (now word)) (take n pairs)) start (now buf) ⌝ }
     ensures { λ r. ⌜ Put (each (pairLine (now (word .entry))) (take n pairs)) start (now (buf .entry)) (now (buf .exit)) r ⌝ }
 {
@@ -47,7 +59,13 @@ pub fn put_pairs(word: &[u8], pairs: [Direct; LINE_PLACES], n: usize, buf: &mut 
 }
 
 // The first n users or objects.
-pub fn put_entries(word: &[u8], entries: [Entry; ENTRY_PLACES], n: usize, buf: &mut [u8], start: usize) -> usize
+pub fn put_entries(
+    word: &[u8],
+    entries: [Entry; ENTRY_PLACES],
+    n: usize,
+    buf: &mut [u8],
+    start: usize,
+) -> usize
     requires { ⌜ (n ≤ entryPlaces) × Room (each (entryLine (now word)) (take n entries)) start (now buf) ⌝ }
     ensures { λ r. ⌜ Put (each (entryLine (now (word .entry))) (take n entries)) start (now (buf .entry)) (now (buf .exit)) r ⌝ }
 {
@@ -63,7 +81,13 @@ pub fn put_entries(word: &[u8], entries: [Entry; ENTRY_PLACES], n: usize, buf: &
 }
 
 // The first n rules.
-pub fn put_rules(word: &[u8], rules: [RuleValue; RULE_PLACES], n: usize, buf: &mut [u8], start: usize) -> usize
+pub fn put_rules(
+    word: &[u8],
+    rules: [RuleValue; RULE_PLACES],
+    n: usize,
+    buf: &mut [u8],
+    start: usize,
+) -> usize
     requires { ⌜ (n ≤ rulePlaces) × (all ruleWritable (take n rules) ≡ true) × Room (each (ruleLine (now word)) (take n rules)) start (now buf) ⌝ }
     ensures { λ r. ⌜ Put (each (ruleLine (now (word .entry))) (take n rules)) start (now (buf .entry)) (now (buf .exit)) r ⌝ }
 {

@@ -34,7 +34,13 @@ fn put_sides(form: u32, user: SideValue, object: SideValue, buf: &mut [u8]) -> u
 }
 
 // The registers and the rules, from the user lines to the end line.
-fn put_lists(users: Register, objects: Register, rules: Rules, buf: &mut [u8], start: usize) -> usize
+fn put_lists(
+    users: Register,
+    objects: Register,
+    rules: Rules,
+    buf: &mut [u8],
+    start: usize,
+) -> usize
     requires { ⌜ RegisterWithin users × RegisterWithin objects × RulesWithin rules × Room (listsText users objects rules) start (now buf) ⌝ }
     ensures { λ r. ⌜ Put (listsText users objects rules) start (now (buf .entry)) (now (buf .exit)) r ⌝ }
 {

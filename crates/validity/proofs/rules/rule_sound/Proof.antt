@@ -32,7 +32,8 @@ returns-3 c = λ p q.
     rw (
       rule-is p x (search needs),
       lt-ltb (x .action) (actions (p .form)) (omega (arith, q .actions)),
-      ← q .sizes, ← f .ensures,
+      ← q .sizes,
+      ← f .ensures,
       not-false (f .result) (c .before .before .if2 .left),
       ← e .ensures,
       not-true (e .result) (c .if3 .taken),
@@ -49,7 +50,8 @@ returns-4 c = λ p q.
     rw (
       rule-is p x (search needs),
       lt-ltb (x .action) (actions (p .form)) (omega (arith, q .actions)),
-      ← q .sizes, ← f .ensures,
+      ← q .sizes,
+      ← f .ensures,
       not-false (f .result) (c .before .before .before .if2 .left),
       ← e .ensures,
       not-false (e .result) (c .before .if3 .left),
