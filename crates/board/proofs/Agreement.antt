@@ -26,19 +26,19 @@ use Rattle.policy.specs.Value.{policyOf}
 use Rattle.policy.specs.Valid.{valid}
 use Rattle.policy.specs.Answers.{refused, decided}
 use Rattle.policy.specs.declared.value.PolicyValue.{PolicyValue}
-use Rattle.formula.specs.Truth.{grants}
+use Rattle.formula.specs.Truth.{Sets, grants}
 use Rattle.board.specs.declared.Board.{Board}
-use Rattle.board.specs.Machine.{Entry, empty, put, Call, opens, adds, drops, closes, requests, sessionOf, reachOf, objectSet, checks, entryAfter, heldIn, reply, Out, step, run}
+use Rattle.board.specs.Machine.{Entry, empty, put, Call, opens, adds, drops, closes, requests, sessionOf, reachOf, objectSet, checks, entryAfter, heldIn, setsAsked, reply, Out, step, run}
 use Rattle.board.specs.Board.{closed, entryOf, sessionFor, entryAt, store, fresh, entryFits, boardFits, fits, Labels, pastEnd, grantsByLabels, lookUp, boardReply, boardAfter, boardStep}
 use Rattle.board.proofs.Refusals.{allowed, step-is, lower-good}
 use Rattle.board.proofs.Run.{RanAlike}
 use Rattle.board.proofs.OneEntry.{ended, entryStep, ByEntry, put-same, Same, run-same}
 
--- the labels lead every two sets to what the formulas say
+-- the labels lead all sets to what the formulas say
 pub record Serves (p : Policy) (l : Labels) : Type 0 where
-  pub inside : (u o : ℕ) → u < sets (p .user) → o < sets (p .object) → pastEnd l u o ≡ false
-  pub decides : (a u o : ℕ) → a < actions (p .form) → u < sets (p .user) → o < sets (p .object)
-      → grantsByLabels l a u o ≡ grants p a u o
+  pub inside : (s : Sets) → s .user < sets (p .user) → s .object < sets (p .object) → pastEnd l s ≡ false
+  pub decides : (a : ℕ) (s : Sets) → a < actions (p .form) → s .user < sets (p .user) → s .object < sets (p .object)
+      → grantsByLabels l a s ≡ grants p a s
 
 -- each registered object's set is one of its side's
 abbrev pub ObjectsFit : Policy → Type 0
@@ -184,7 +184,7 @@ module _ (p : Policy) (l : Labels) (objects : ObjectsFit p) (serves : Serves p l
   found (adds u s set) e f = refl
   found (drops u s set) e f = refl
   found (closes u s) e f = refl
-  found (requests s a n) e f = rw (serves .inside (heldIn e) (objectSet p n) (held-lt p e f) (objectSet-lt p objects n))
+  found (requests s a n) e f = rw (serves .inside (setsAsked p n e) (held-lt p e f) (objectSet-lt p objects n))
 
   answered : (c : Call) (e : Option Entry) → fitting p e ≡ true → lowest (checks p c e) ≡ none → boardReply p l c e ≡ reply p c e
   unfolding boardReply reply checks
@@ -195,7 +195,7 @@ module _ (p : Policy) (l : Labels) (objects : ObjectsFit p) (serves : Serves p l
   answered (requests s a n) e f q =
       let t = unbroken (checks p (requests s a n) e) q in
       ap decided
-      (serves .decides a (heldIn e) (objectSet p n) (leb-false (actions (p .form)) a (t .0)) (held-lt p e f) (objectSet-lt p objects n))
+      (serves .decides a (setsAsked p n e) (leb-false (actions (p .form)) a (t .0)) (held-lt p e f) (objectSet-lt p objects n))
 
   module _ (v : PolicyValue) (e : policyOf v ≡ p) (ok : valid v ≡ true) where
     module _ (c : Call) (b : Board) (h : Sound p b) where

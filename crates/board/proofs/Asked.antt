@@ -11,13 +11,14 @@ use Rattle.policy.specs.Policy.{Policy}
 use Rattle.policy.specs.Value.{policyOf, entriesOf}
 use Rattle.policy.specs.Answers.{Reply, refused}
 use Rattle.policy.specs.declared.value.PolicyValue.{PolicyValue}
+use Rattle.formula.specs.Truth.{Sets}
 use Rattle.board.specs.declared.Board.{Board}
 use Rattle.board.specs.declared.asking.Asked.{Asked}
 use Rattle.board.specs.Machine.{requests, checks, Out}
 use Rattle.board.specs.Board.{closed, entryOf, entryAt, fits, Labels, lookUp, boardAfter, boardStep}
 use Rattle.board.specs.Inner.{askedOf, asked, answered, lower, lookedUp}
 use Rattle.board.proofs.Refusals.{allowed, step-is, lower-good}
-use Rattle.board.proofs.OneRequest.{answer, held, object, answer-is}
+use Rattle.board.proofs.OneRequest.{answer, setsOf, answer-is}
 
 module _ (v : PolicyValue) (l : Labels) (b : Board) (s a n : ℕ) where
   -- the board stays
@@ -31,16 +32,16 @@ module _ (v : PolicyValue) (l : Labels) (b : Board) (s a n : ℕ) where
       ap (λ (o : Out Board). o .state) (step-is v l (requests s a n) b)
       ∙ kept (lower v (requests s a n) b) (allowed v l (requests s a n) b) (kept (lowest (lookUp (policyOf v) l (requests s a n) (entryAt b s))) _ refl)
 
-  -- a refusal, or what the two sets' labels say
-  answered-by : (r : Option ℕ) (u o : ℕ) → answered l a (given {B = Result (ℕ × ℕ)} r (gives (u, o)) refuses) ≡ given r (lookedUp l a u o) refused
-  answered-by none u o = refl
-  answered-by (some k) u o = refl
+  -- a refusal, or what the sets' labels say
+  answered-by : (r : Option ℕ) (x : Sets) → answered l a (given {B = Result Sets} r (gives x) refuses) ≡ given r (lookedUp l a x) refused
+  answered-by none x = refl
+  answered-by (some k) x = refl
 
   module _ (t : Bool) (ht : t ≡ fits v b) (h : not t ≡ false) where
     answered-is : answered l a (asked (policyOf v) s a n (entryAt b s)) ≡ answer v l b s a n
     unfolding asked
     answered-is =
-        answered-by (lowest (checks (policyOf v) (requests s a n) (entryAt b s))) (held b s) (object v n)
+        answered-by (lowest (checks (policyOf v) (requests s a n) (entryAt b s))) (setsOf v b s n)
         ∙ sym (answer-is v l b s a n ∙ rw (lower-good v (requests s a n) b (sym ht ∙ not-false t h)))
 
     pub asked-step : (k : ℕ) → k ≡ actions (v .form) → (y : Asked)

@@ -10,6 +10,7 @@ use lib.ListN.{length, getD}
 use borrow.Author.Tests.{ltb-true, ltb-false, le-leb, lt-leb}
 use Rattle.sets.specs.Set.{has}
 use Rattle.policy.specs.Answers.{granted, denied, refused, decided}
+use Rattle.formula.specs.Truth.{at}
 use Rattle.board.specs.Board.{Labels, placeAt, pastEnd, grantsByLabels}
 use Rattle.board.specs.Inner.{byteOf, byteAt, lookedUp}
 use Rattle.board.specs.declared.buffers.Byte.{Byte}
@@ -34,33 +35,33 @@ gone-at xs k e = go (ltb k (length xs)) refl e
     go false q f = le-leb (length xs) k (ltb-false k (length xs) q)
 
 module _ (l : Labels) (a u o : ℕ) (x : Byte) (hx : byteOf x ≡ byteAt (l .buffers .users) u) where
-  pub past-user : x ≡ Past → refused 20 ≡ lookedUp l a u o
+  pub past-user : x ≡ Past → refused 20 ≡ lookedUp l a (at u o)
   unfolding lookedUp pastEnd
   past-user e = rw (gone-at (l .buffers .users) u (sym hx ∙ rw e))
 
   module _ (ul : ℕ) (ex : x ≡ At ul) (y : Byte) (hy : byteOf y ≡ byteAt (l .buffers .objects) o) where
-    pub past-object : y ≡ Past → refused 20 ≡ lookedUp l a u o
+    pub past-object : y ≡ Past → refused 20 ≡ lookedUp l a (at u o)
     unfolding lookedUp pastEnd
     past-object e = rw (there-at (l .buffers .users) u ul (sym hx ∙ rw ex) .0, gone-at (l .buffers .objects) o (sym hy ∙ rw e))
 
     module _ (ol : ℕ) (ey : y ≡ At ol) (k : ℕ) (hk : k ≡ ul * l .counts .objects + ol) (z : Byte) (hz : byteOf z ≡ byteAt (l .buffers .table) k) where
-      place : placeAt l u o ≡ k
+      place : placeAt l (at u o) ≡ k
       place = rw (there-at (l .buffers .users) u ul (sym hx ∙ rw ex) .1, there-at (l .buffers .objects) o ol (sym hy ∙ rw ey) .1) (sym hk)
 
-      pub past-table : z ≡ Past → refused 20 ≡ lookedUp l a u o
+      pub past-table : z ≡ Past → refused 20 ≡ lookedUp l a (at u o)
       unfolding lookedUp pastEnd
       past-table e =
           rw (there-at (l .buffers .users) u ul (sym hx ∙ rw ex) .0, there-at (l .buffers .objects) o ol (sym hy ∙ rw ey) .0, place, gone-at (l .buffers .table) k (sym hz ∙ rw e))
 
       module _ (b : ℕ) (ez : z ≡ At b) where
-        decided-at : decided (has b a) ≡ lookedUp l a u o
+        decided-at : decided (has b a) ≡ lookedUp l a (at u o)
         unfolding lookedUp pastEnd grantsByLabels
         decided-at =
             let t = there-at (l .buffers .table) k b (sym hz ∙ rw ez) in
             rw (there-at (l .buffers .users) u ul (sym hx ∙ rw ex) .0, there-at (l .buffers .objects) o ol (sym hy ∙ rw ey) .0, place, t .0, t .1)
 
-        pub granted-at : (t : Bool) → t ≡ has b a → t ≡ true → granted ≡ lookedUp l a u o
+        pub granted-at : (t : Bool) → t ≡ has b a → t ≡ true → granted ≡ lookedUp l a (at u o)
         granted-at t e q = rw (sym e ∙ q) at decided-at
 
-        pub denied-at : (t : Bool) → t ≡ has b a → t ≡ false → denied ≡ lookedUp l a u o
+        pub denied-at : (t : Bool) → t ≡ has b a → t ≡ false → denied ≡ lookedUp l a (at u o)
         denied-at t e q = rw (sym e ∙ q) at decided-at

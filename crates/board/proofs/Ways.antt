@@ -11,6 +11,7 @@ use Rattle.sets.specs.Set.{within}
 use Rattle.policy.specs.Limits.{actions, sessionNumbers}
 use Rattle.policy.specs.Policy.{Policy, setOfNumber}
 use Rattle.policy.specs.declared.refusal.Refusal.{Refusal}
+use Rattle.formula.specs.Truth.{at}
 use Rattle.formula.specs.Decide.{noAction}
 use Rattle.board.specs.declared.Session.{Session}
 use Rattle.board.specs.declared.reach.Found.{Found}
@@ -116,7 +117,7 @@ module _ (p : Policy) (s a n : ℕ) (x : Session) (k : ℕ) (hk : k ≡ actions 
       request-unregistered r = rw (known, lt-leb sessionNumbers s m, sym (hf .registered) ∙ not-true (f .registered) r)
 
       module _ (r : not (f .registered) ≡ false) where
-        pub request-open : x .live ≡ true → gives (x .held, f .set) ≡ asked p s a n (entryOf x)
+        pub request-open : x .live ≡ true → gives (at (x .held) (f .set)) ≡ asked p s a n (entryOf x)
         unfolding asked checks lowest objectSet
         request-open l = rw (known, lt-leb sessionNumbers s m, sym (hf .registered) ∙ not-false (f .registered) r, l, hf .set)
 

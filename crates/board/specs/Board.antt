@@ -14,9 +14,10 @@ use Rattle.policy.specs.Value.{policyOf}
 use Rattle.policy.specs.Valid.{valid}
 use Rattle.policy.specs.Answers.{numberOf, Reply, done, granted, denied, refused, decided}
 use Rattle.policy.specs.declared.value.PolicyValue.{PolicyValue}
+use Rattle.formula.specs.Truth.{Sets}
 use Rattle.labels.specs.Compile.{Buffers}
 use Rattle.labels.specs.declared.Counts.{Counts}
-use Rattle.board.specs.Machine.{Entry, Call, opens, adds, drops, closes, requests, sessionOf, reachOf, objectSet, checks, entry, entryAfter, heldIn, Out}
+use Rattle.board.specs.Machine.{Entry, Call, opens, adds, drops, closes, requests, sessionOf, reachOf, checks, entry, entryAfter, setsAsked, Out}
 use Rattle.board.specs.declared.Session.{Session}
 use Rattle.board.specs.declared.Board.{Board}
 use Rattle.board.specs.declared.Answer.{Answer}
@@ -89,24 +90,24 @@ abbrev pub labelsOf : Counts → Buffers → Labels
 labelsOf n b = record { counts = n; buffers = b }
 
 -- "the held set's label ul, the object set's label ol, and the table byte at ul × NO + ol"
-abbrev pub userLabelAt : Labels → ℕ → ℕ
-userLabelAt l held = getD (l .buffers .users) held 0
+abbrev pub userLabelAt : Labels → Sets → ℕ
+userLabelAt l s = getD (l .buffers .users) (s .user) 0
 
-abbrev pub objectLabelAt : Labels → ℕ → ℕ
-objectLabelAt l object = getD (l .buffers .objects) object 0
+abbrev pub objectLabelAt : Labels → Sets → ℕ
+objectLabelAt l s = getD (l .buffers .objects) (s .object) 0
 
-abbrev pub placeAt : Labels → ℕ → ℕ → ℕ
-placeAt l held object = userLabelAt l held * l .counts .objects + objectLabelAt l object
+abbrev pub placeAt : Labels → Sets → ℕ
+placeAt l s = userLabelAt l s * l .counts .objects + objectLabelAt l s
 
 -- 20: "any of the three places lies past its buffer's end"
-unfoldable pub pastEnd : Labels → ℕ → ℕ → Bool
-pastEnd l held object =
-    leb (length (l .buffers .users)) held
-    || (leb (length (l .buffers .objects)) object || leb (length (l .buffers .table)) (placeAt l held object))
+unfoldable pub pastEnd : Labels → Sets → Bool
+pastEnd l s =
+    leb (length (l .buffers .users)) (s .user)
+    || (leb (length (l .buffers .objects)) (s .object) || leb (length (l .buffers .table)) (placeAt l s))
 
 -- "It grants action a exactly when bit a there is set."
-unfoldable pub grantsByLabels : Labels → ℕ → ℕ → ℕ → Bool
-grantsByLabels l a held object = has (getD (l .buffers .table) (placeAt l held object) 0) a
+unfoldable pub grantsByLabels : Labels → ℕ → Sets → Bool
+grantsByLabels l a s = has (getD (l .buffers .table) (placeAt l s) 0) a
 
 -- ---- the five calls
 
@@ -116,14 +117,14 @@ lookUp p l (opens u s set) e = []
 lookUp p l (adds u s set) e = []
 lookUp p l (drops u s set) e = []
 lookUp p l (closes u s) e = []
-lookUp p l (requests s a n) e = check 20 (pastEnd l (heldIn e) (objectSet p n)) ∷ []
+lookUp p l (requests s a n) e = check 20 (pastEnd l (setsAsked p n e)) ∷ []
 
 unfoldable pub boardReply : Policy → Labels → Call → Option Entry → Reply
 boardReply p l (opens u s set) e = done
 boardReply p l (adds u s set) e = done
 boardReply p l (drops u s set) e = done
 boardReply p l (closes u s) e = done
-boardReply p l (requests s a n) e = decided (grantsByLabels l a (heldIn e) (objectSet p n))
+boardReply p l (requests s a n) e = decided (grantsByLabels l a (setsAsked p n e))
 
 -- 11, then the machine's refusals, then 20
 unfoldable pub boardChecks : PolicyValue → Labels → Call → Board → List Check

@@ -16,7 +16,8 @@ use Rattle.policy.specs.declared.value.Entry.{Entry}
 use Rattle.policy.specs.declared.value.SideValue.{SideValue}
 use Rattle.policy.specs.declared.value.Register.{Register}
 use Rattle.policy.specs.declared.value.PolicyValue.{PolicyValue}
-use Rattle.board.specs.Machine.{Entry as SessionEntry, Call, closes, requests, sessionOf, reachOf, objectSet, outOfReach, checks, heldIn, Out}
+use Rattle.formula.specs.Truth.{Sets, at}
+use Rattle.board.specs.Machine.{Entry as SessionEntry, Call, closes, requests, sessionOf, reachOf, outOfReach, checks, setsAsked, Out}
 use Rattle.board.specs.Board.{entryAt, fits, Labels, pastEnd, grantsByLabels}
 use Rattle.board.specs.declared.Session.{Session}
 use Rattle.board.specs.declared.Board.{Board}
@@ -34,8 +35,8 @@ abbrev pub refusalOf : Ruling → Option ℕ
 refusalOf Allowed = none
 refusalOf (Refused r) = some (numberOf r)
 
-abbrev pub askedOf : Asked → Result (ℕ × ℕ)
-askedOf (Of held object) = gives (held, object)
+abbrev pub askedOf : Asked → Result Sets
+askedOf (Of held object) = gives (at held object)
 askedOf (AskedRefused r) = refuses (numberOf r)
 
 abbrev pub byteOf : Byte → Option ℕ
@@ -72,20 +73,20 @@ unfoldable pub byteAt : List ℕ → ℕ → Option ℕ
 byteAt buffer place = cond (ltb place (length buffer)) (some (getD buffer place 0)) none
 
 -- what the labels of two sets say
-unfoldable pub lookedUp : Labels → ℕ → ℕ → ℕ → Reply
-lookedUp l a held object = cond (pastEnd l held object) (refused 20) (decided (grantsByLabels l a held object))
+unfoldable pub lookedUp : Labels → ℕ → Sets → Reply
+lookedUp l a s = cond (pastEnd l s) (refused 20) (decided (grantsByLabels l a s))
 
 -- the checks that add and drop share: those of close, then 19
 abbrev pub changeChecks : Policy → ℕ → ℕ → ℕ → Option SessionEntry → List Check
 changeChecks p u s set e = checks p (closes u s) e ++ (check 19 (outOfReach p u set) ∷ [])
 
--- what a request comes to: the held set and the object's set, or the lowest of 12 to 17
-unfoldable pub asked : Policy → ℕ → ℕ → ℕ → Option SessionEntry → Result (ℕ × ℕ)
-asked p s a n e = unlessRefused (checks p (requests s a n) e) (heldIn e, objectSet p n)
+-- what a request comes to: the sets that it is decided on, or the lowest of 12 to 17
+unfoldable pub asked : Policy → ℕ → ℕ → ℕ → Option SessionEntry → Result Sets
+asked p s a n e = unlessRefused (checks p (requests s a n) e) (setsAsked p n e)
 
 -- the answer to it
-abbrev pub answered : Labels → ℕ → Result (ℕ × ℕ) → Reply
-answered l a (gives sets) = lookedUp l a (sets .0) (sets .1)
+abbrev pub answered : Labels → ℕ → Result Sets → Reply
+answered l a (gives s) = lookedUp l a s
 answered l a (refuses n) = refused n
 
 -- the lowest refusal of a call below 20: 11, then the machine's

@@ -12,7 +12,7 @@ use Rattle.policy.specs.Limits.{sessionNumbers}
 use Rattle.policy.specs.Policy.{Policy, blank, total, setOfNumber}
 use Rattle.policy.specs.Read.{Outcome, Accepted, Refused, readText}
 use Rattle.policy.specs.Answers.{Reply, done, refused, decided}
-use Rattle.formula.specs.Truth.{grants}
+use Rattle.formula.specs.Truth.{Sets, at, grants}
 use Rattle.formula.specs.Decide.{noAction}
 
 -- "(user, held set)"
@@ -121,6 +121,10 @@ entryAfter (requests s a n) e = e
 abbrev pub heldIn : Option Entry → ℕ
 heldIn e = given e 0 (λ x. x .held)
 
+-- what a request is decided on: "the held set and the object's set"
+abbrev pub setsAsked : Policy → ℕ → Option Entry → Sets
+setsAsked p n e = at (heldIn e) (objectSet p n)
+
 -- "Its answer is the refusal; else granted or denied for a request, and done for the other calls." "the machine decides
 -- by the action's formula on the held set and the object's set"
 unfoldable pub reply : Policy → Call → Option Entry → Reply
@@ -128,7 +132,7 @@ reply p (opens u s set) e = done
 reply p (adds u s set) e = done
 reply p (drops u s set) e = done
 reply p (closes u s) e = done
-reply p (requests s a n) e = decided (grants p a (heldIn e) (objectSet p n))
+reply p (requests s a n) e = decided (grants p a (setsAsked p n e))
 
 -- ---- a call, and a list of calls
 

@@ -1,5 +1,6 @@
 // The three lent buffers of a request: each is read at one place.
 ghost use mathlib.Core.Path.{_≡_};
+ghost use Rattle.formula.specs.Truth.{at};
 ghost use Rattle.labels.specs.Compile.{lent};
 ghost use Rattle.board.specs.Board.{labelsOf, replyOf};
 ghost use Rattle.board.specs.Inner.{askedOf, answered, byteOf, byteAt, lookedUp};
@@ -8,7 +9,6 @@ use crate::asking::Asked;
 use labels::Counts;
 use labels::ObjectLabel;
 use labels::UserLabel;
-use labels::compiler;
 use policy::refusal::Refusal;
 
 // The byte at a place of a buffer, where the place is in it.
@@ -38,7 +38,7 @@ fn look_up(
     held: u32,
     object: u32,
 ) -> Answer
-    ensures { λ r. ⌜ replyOf r ≡ lookedUp (labelsOf counts (lent (now (users .entry)) (now (objects .entry)) (now (table .entry)))) action held object ⌝ }
+    ensures { λ r. ⌜ replyOf r ≡ lookedUp (labelsOf counts (lent (now (users .entry)) (now (objects .entry)) (now (table .entry)))) action (at held object) ⌝ }
 {
     let Byte::At(user_label) = byte_at(users, held as usize) else {
         return Answer::Refused(Refusal::BufferTooShort);
@@ -46,7 +46,7 @@ fn look_up(
     let Byte::At(object_label) = byte_at(objects, object as usize) else {
         return Answer::Refused(Refusal::BufferTooShort);
     };
-    let place = compiler::place(
+    let place = labels::place(
         UserLabel(user_label),
         ObjectLabel(object_label),
         counts.objects,

@@ -10,7 +10,7 @@ use Rattle.policy.specs.Write.{write, writeBuffer, writeChecks}
 use Rattle.policy.specs.Answers.{Reply, refused, decided}
 use Rattle.tuples.specs.Tuples.{list, listBuffer, listChecks}
 use Rattle.labels.specs.Compile.{compile, compileBuffers, compileChecks}
-use Rattle.board.specs.Machine.{Call, opens, adds, drops, closes, requests, Entry, Out, sessionOf, heldIn, objectSet}
+use Rattle.board.specs.Machine.{Call, opens, adds, drops, closes, requests, Entry, Out, sessionOf, setsAsked}
 use Rattle.board.specs.Board.{Labels, boardStep, boardChecks, boardReply, entryAt, grantsByLabels}
 use Rattle.board.specs.declared.Board.{Board}
 use Rattle.claims.specs.Demand1.{Claim}
@@ -31,7 +31,7 @@ reply-not p l (opens u s set) e n q = let z : _≡_ {A = ℕ} 0 1 = cc in omega 
 reply-not p l (adds u s set) e n q = let z : _≡_ {A = ℕ} 0 1 = cc in omega arith
 reply-not p l (drops u s set) e n q = let z : _≡_ {A = ℕ} 0 1 = cc in omega arith
 reply-not p l (closes u s) e n q = let z : _≡_ {A = ℕ} 0 1 = cc in omega arith
-reply-not p l (requests s a m) e n q = decided-not (grantsByLabels l a (heldIn e) (objectSet p m)) n q
+reply-not p l (requests s a m) e n q = decided-not (grantsByLabels l a (setsAsked p m e)) n q
 
 -- a step that answers a refusal keeps its state
 step-kept : (o : Option ℕ) (r : Reply) (x b : Board) (n : ℕ) → (r ≡ refused n → ⊥)

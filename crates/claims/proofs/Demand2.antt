@@ -13,7 +13,7 @@ use Rattle.policy.specs.Answers.{refused}
 use Rattle.policy.proofs.Values.{policy-value}
 use Rattle.policy.proofs.RoundTrip.{read-text}
 use Rattle.policy.proofs.Valid.{yielded-valid, valid-iff}
-use Rattle.labels.proofs.Compile.{userLabel-iff, objectLabel-iff}
+use Rattle.labels.proofs.Compiling.{userLabel-iff, objectLabel-iff}
 use Rattle.board.specs.Machine.{Call, Entry, Map, Out, sessionOf, checks, entryAfter, reply, step, put, empty, run, machine}
 use Rattle.board.proofs.Agreement.{fitting, kept}
 use Rattle.claims.specs.Demand2.{Allowed, Claim, CheckClaim}

@@ -18,12 +18,12 @@ use Rattle.policy.proofs.Valid.{yielded-valid}
 use Rattle.policy.proofs.RoundTrip.{read-sound}
 use Rattle.policy.proofs.Parts.{parts, whole}
 use Rattle.policy.proofs.Lookup.{registered-bounds}
-use Rattle.formula.specs.Truth.{grants}
+use Rattle.formula.specs.Truth.{at, grants}
 use Rattle.formula.specs.Decide.{decide}
 use Rattle.tuples.specs.Tuples.{tuples, list, listBuffer}
 use Rattle.tuples.proofs.Tuples.{tuples-rise, listed-decides}
 use Rattle.labels.specs.Compile.{Buffers, tooShort, NU, NO, compile, compileBuffers}
-use Rattle.labels.proofs.Compile.{compiled-grants, compiled-users, compiled-objects, fewest}
+use Rattle.labels.proofs.Compiling.{compiled-grants, compiled-users, compiled-objects, fewest}
 use Rattle.board.specs.Machine.{Call, machine, run, step, empty}
 use Rattle.board.proofs.Agreement.{ObjectsFit, Serves, replies-agree, sessions-agree}
 use Rattle.claims.specs.Demand3.{Tuples, Labelled, Compiled, Sessions, withCounts, Claim}
@@ -44,7 +44,7 @@ module _ (t : List ℕ) (p : Policy) (e : readText t ≡ Accepted p) where
     unfolding listBuffer lowest
     is-stored = rw (policy-value p, ok, lt-leb (actions (p .form)) a ha, le-ltb (length buffer) (length (tuples p a)) room)
 
-    by-formula : (u o : ℕ) → u < sets (p .user) → o < sets (p .object) → decide (valueOf p) a u o ≡ decided (grants p a u o)
+    by-formula : (u o : ℕ) → u < sets (p .user) → o < sets (p .object) → decide (valueOf p) a (at u o) ≡ decided (grants p a (at u o))
     unfolding decide lowest
     by-formula u o hu ho = rw (policy-value p, ok, lt-leb (actions (p .form)) a ha, lt-leb (sets (p .user)) u hu, lt-leb (sets (p .object)) o ho)
 
@@ -91,7 +91,7 @@ module _ (t : List ℕ) (p : Policy) (e : readText t ≡ Accepted p) where
     -- ---- sessions
 
     serves : Serves p (withCounts p (compileBuffers (valueOf p) b))
-    serves = rw buffers-are (record { inside = inside p b; decides = λ a u o ha hu ho. decides p b u o hu ho a ha })
+    serves = rw buffers-are (record { inside = inside p b; decides = λ a s ha hu ho. decides p b s hu ho a ha })
 
     machine-is : (calls : List Call) → machine t calls ≡ run (step p) calls empty
     unfolding machine

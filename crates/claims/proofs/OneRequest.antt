@@ -10,7 +10,7 @@ use Rattle.board.specs.Board.{Labels, boardStep, boardChecks, boardAfter}
 use Rattle.board.specs.declared.Board.{Board}
 use Rattle.board.specs.Inner.{lower}
 use Rattle.board.proofs.OneRequest.{past-iff, refused-iff, granted-iff}
-use Rattle.claims.specs.Demand3.{heldAt, objectAt, answered, RequestClaim}
+use Rattle.claims.specs.Demand3.{setsAt, answered, RequestClaim}
 
 -- a step that leaves its state either way
 state-kept : (o : Option ℕ) (r : Reply) (b : Board)
@@ -29,7 +29,7 @@ one-request v l b s a n =
       by-bit = granted-iff v l b s a n;
       past-end = λ e.
           let r = refused-iff v l b s a n e in
-          let q = past-iff l (heldAt b s) (objectAt v n) in
+          let q = past-iff l (setsAt v b s n) in
           (λ x. q .1 (r .0 x), λ x. r .1 (q .0 x));
       kept = board-kept v l b s a n;
     }

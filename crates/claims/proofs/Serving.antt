@@ -10,9 +10,9 @@ use Rattle.basis.specs.Lists.{over}
 use Rattle.basis.proofs.Over.{over-at, over-long}
 use Rattle.policy.specs.Limits.{actions}
 use Rattle.policy.specs.Policy.{Policy, sets}
-use Rattle.formula.specs.Truth.{grants}
+use Rattle.formula.specs.Truth.{Sets, grants}
 use Rattle.labels.specs.Compile.{Buffers, lent, NO, userLabel, objectLabel, userResult, objectResult, tableResult}
-use Rattle.labels.proofs.Compile.{length-userResult, length-objectResult, length-tableResult, userResult-at, objectResult-at, tableResult-at, userLabel-below, objectLabel-below, has-entry}
+use Rattle.labels.proofs.Compiling.{length-userResult, length-objectResult, length-tableResult, userResult-at, objectResult-at, tableResult-at, userLabel-below, objectLabel-below, has-entry}
 use Rattle.board.specs.Board.{pastEnd, grantsByLabels, placeAt, userLabelAt, objectLabelAt}
 use Rattle.claims.specs.Demand3.{withCounts}
 
@@ -20,30 +20,30 @@ use Rattle.claims.specs.Demand3.{withCounts}
 abbrev pub filled : Policy → Buffers → Buffers
 filled p b = lent (over (userResult p) (b .users)) (over (objectResult p) (b .objects)) (over (tableResult p) (b .table))
 
-module _ (p : Policy) (b : Buffers) (u o : ℕ) (hu : u < sets (p .user)) (ho : o < sets (p .object)) where
-  user-is : userLabelAt (withCounts p (filled p b)) u ≡ userLabel p u
-  user-is = over-at (userResult p) (b .users) u (rw (length-userResult p) hu) ∙ userResult-at p u hu
+module _ (p : Policy) (b : Buffers) (s : Sets) (hu : s .user < sets (p .user)) (ho : s .object < sets (p .object)) where
+  user-is : userLabelAt (withCounts p (filled p b)) s ≡ userLabel p (s .user)
+  user-is = over-at (userResult p) (b .users) (s .user) (rw (length-userResult p) hu) ∙ userResult-at p (s .user) hu
 
-  object-is : objectLabelAt (withCounts p (filled p b)) o ≡ objectLabel p o
-  object-is = over-at (objectResult p) (b .objects) o (rw (length-objectResult p) ho) ∙ objectResult-at p o ho
+  object-is : objectLabelAt (withCounts p (filled p b)) s ≡ objectLabel p (s .object)
+  object-is = over-at (objectResult p) (b .objects) (s .object) (rw (length-objectResult p) ho) ∙ objectResult-at p (s .object) ho
 
-  place-is : placeAt (withCounts p (filled p b)) u o ≡ userLabel p u * NO p + objectLabel p o
+  place-is : placeAt (withCounts p (filled p b)) s ≡ userLabel p (s .user) * NO p + objectLabel p (s .object)
   place-is = ap₂ (λ (x y : ℕ). x * NO p + y) user-is object-is
 
-  place-inside : userLabel p u * NO p + objectLabel p o < length (tableResult p)
-  place-inside = rw (length-tableResult p) (digits-lt (userLabel-below p u hu) (objectLabel-below p o ho))
+  place-inside : userLabel p (s .user) * NO p + objectLabel p (s .object) < length (tableResult p)
+  place-inside = rw (length-tableResult p) (digits-lt (userLabel-below p (s .user) hu) (objectLabel-below p (s .object) ho))
 
-  pub inside : pastEnd (withCounts p (filled p b)) u o ≡ false
+  pub inside : pastEnd (withCounts p (filled p b)) s ≡ false
   unfolding pastEnd
   inside =
-      let x : u < length (over (userResult p) (b .users)) = omega (arith, over-long (userResult p) (b .users), length-userResult p) in
-      let y : o < length (over (objectResult p) (b .objects)) = omega (arith, over-long (objectResult p) (b .objects), length-objectResult p) in
-      let z : placeAt (withCounts p (filled p b)) u o < length (over (tableResult p) (b .table)) =
+      let x : s .user < length (over (userResult p) (b .users)) = omega (arith, over-long (userResult p) (b .users), length-userResult p) in
+      let y : s .object < length (over (objectResult p) (b .objects)) = omega (arith, over-long (objectResult p) (b .objects), length-objectResult p) in
+      let z : placeAt (withCounts p (filled p b)) s < length (over (tableResult p) (b .table)) =
       rw place-is (omega (arith, over-long (tableResult p) (b .table), place-inside)) in
-      rw (lt-leb _ u x, lt-leb _ o y, lt-leb _ (placeAt (withCounts p (filled p b)) u o) z)
+      rw (lt-leb _ (s .user) x, lt-leb _ (s .object) y, lt-leb _ (placeAt (withCounts p (filled p b)) s) z)
 
-  pub decides : (a : ℕ) → a < actions (p .form) → grantsByLabels (withCounts p (filled p b)) a u o ≡ grants p a u o
+  pub decides : (a : ℕ) → a < actions (p .form) → grantsByLabels (withCounts p (filled p b)) a s ≡ grants p a s
   unfolding grantsByLabels
   decides a ha =
-      rw (place-is, over-at (tableResult p) (b .table) _ place-inside, tableResult-at p _ _ (userLabel-below p u hu) (objectLabel-below p o ho))
-      (has-entry p a u o ha hu ho)
+      rw (place-is, over-at (tableResult p) (b .table) _ place-inside, tableResult-at p _ _ (userLabel-below p (s .user) hu) (objectLabel-below p (s .object) ho))
+      (has-entry p a (s .user) (s .object) ha hu ho)

@@ -15,7 +15,7 @@ use Rattle.policy.specs.Text.{textOf}
 use Rattle.policy.specs.Value.{valueOf, policyOf}
 use Rattle.policy.specs.Valid.{Yielded, valid}
 use Rattle.policy.specs.declared.value.PolicyValue.{PolicyValue}
-use Rattle.formula.specs.Truth.{grants}
+use Rattle.formula.specs.Truth.{at, grants}
 use Rattle.labels.specs.Compile.{userLabel, objectLabel}
 use Rattle.board.specs.Machine.{Call, Entry, machine, reachOf}
 
@@ -32,9 +32,9 @@ pub record Texts (t : List ℕ) (p : Policy) : Type 0 where
 -- two user sets have one label exactly when no action and no object set tells them apart; object sets likewise
 pub record Alike (p : Policy) : Type 0 where
   pub users : (u w : ℕ) → u < sets (p .user) → w < sets (p .user)
-      → (userLabel p u ≡ userLabel p w) ↔ ((a o : ℕ) → a < actions (p .form) → o < sets (p .object) → grants p a u o ≡ grants p a w o)
+      → (userLabel p u ≡ userLabel p w) ↔ ((a o : ℕ) → a < actions (p .form) → o < sets (p .object) → grants p a (at u o) ≡ grants p a (at w o))
   pub objects : (o q : ℕ) → o < sets (p .object) → q < sets (p .object)
-      → (objectLabel p o ≡ objectLabel p q) ↔ ((a u : ℕ) → a < actions (p .form) → u < sets (p .user) → grants p a u o ≡ grants p a u q)
+      → (objectLabel p o ≡ objectLabel p q) ↔ ((a u : ℕ) → a < actions (p .form) → u < sets (p .user) → grants p a (at u o) ≡ grants p a (at u q))
 
 -- after any list of calls, an open session's user is registered and holds only values in reach
 pub record Allowed (t : List ℕ) (p : Policy) (calls : List Call) : Type 0 where

@@ -15,11 +15,11 @@ use Rattle.policy.specs.Read.{Accepted, readText}
 use Rattle.policy.specs.Value.{valueOf, policyOf}
 use Rattle.policy.specs.Answers.{granted, refused, decided}
 use Rattle.policy.specs.declared.value.PolicyValue.{PolicyValue}
-use Rattle.formula.specs.Truth.{grants}
+use Rattle.formula.specs.Truth.{Sets, at, grants}
 use Rattle.tuples.specs.Tuples.{tuples, list, listBuffer, decideByTuples}
 use Rattle.labels.specs.Labelling.{Labelling, userLabels, objectLabels, GrantsAlike}
 use Rattle.labels.specs.Compile.{Buffers, tooShort, NU, NO, userResult, objectResult, tableResult, compile, compileBuffers, compiled}
-use Rattle.board.specs.Machine.{Call, requests, run, machine, checks, heldIn, objectSet, Out}
+use Rattle.board.specs.Machine.{Call, requests, run, machine, checks, setsAsked, Out}
 use Rattle.board.specs.Board.{Labels, labelsOf, boardStep, fresh, entryAt, fits, pastEnd, grantsByLabels}
 use Rattle.board.specs.declared.Board.{Board}
 
@@ -35,7 +35,7 @@ pub record Tuples (p : Policy) (a : ℕ) : Type 0 where
   pub listed : (buffer : List ℕ) → length (tuples p a) ≤ length buffer → list (valueOf p) a buffer ≡ gives (length (tuples p a))
   pub stored-are : (buffer : List ℕ) → length (tuples p a) ≤ length buffer → listBuffer (valueOf p) a buffer ≡ over (tuples p a) buffer
   pub decides : (buffer : List ℕ) → length (tuples p a) ≤ length buffer → (u o : ℕ) → u < sets (p .user) → o < sets (p .object)
-      → decideByTuples (valueOf p) u o (listBuffer (valueOf p) a buffer) (length (tuples p a)) ≡ decided (grants p a u o)
+      → decideByTuples (valueOf p) u o (listBuffer (valueOf p) a buffer) (length (tuples p a)) ≡ decided (grants p a (at u o))
 
 -- ---- labels: "the compiled labelling is document 01's, grants alike, uses NU and NO, and no labelling that grants alike uses fewer on either
 -- side"
@@ -82,12 +82,9 @@ Claim = (t : List ℕ) (p : Policy) → readText t ≡ Accepted p → Demand3 t 
 
 -- ---- the last sentence: one request, whatever the board, policy value, buffers, NU and NO handed in
 
--- the entry of the session that a request names, and the set of the object
-abbrev pub heldAt : Board → ℕ → ℕ
-heldAt b s = heldIn (entryAt b s)
-
-abbrev pub objectAt : PolicyValue → ℕ → ℕ
-objectAt v n = objectSet (policyOf v) n
+-- the set that the session holds, and that of the object
+abbrev pub setsAt : PolicyValue → Board → ℕ → ℕ → Sets
+setsAt v b s n = setsAsked (policyOf v) n (entryAt b s)
 
 abbrev pub answered : PolicyValue → Labels → Board → ℕ → ℕ → ℕ → Out Board
 answered v l b s a n = boardStep v l (requests s a n) b
@@ -95,10 +92,10 @@ answered v l b s a n = boardStep v l (requests s a n) b
 pub record OneRequest (v : PolicyValue) (l : Labels) (b : Board) (s a n : ℕ) : Type 0 where
   -- a request that is not refused is granted exactly when the bit at the labels is set
   pub by-bit : ((k : ℕ) → answered v l b s a n .reply ≡ refused k → ⊥)
-      → (answered v l b s a n .reply ≡ granted) ↔ (grantsByLabels l a (heldAt b s) (objectAt v n) ≡ true)
+      → (answered v l b s a n .reply ≡ granted) ↔ (grantsByLabels l a (setsAt v b s n) ≡ true)
   -- where no lower refusal applies, it gets 20 exactly when one of the three places lies past its buffer's end
   pub past-end : lowest (check 11 (not (fits v b)) ∷ checks (policyOf v) (requests s a n) (entryAt b s)) ≡ none
-      → (answered v l b s a n .reply ≡ refused 20) ↔ (pastEnd l (heldAt b s) (objectAt v n) ≡ true)
+      → (answered v l b s a n .reply ≡ refused 20) ↔ (pastEnd l (setsAt v b s n) ≡ true)
   -- and the board stays
   pub kept : answered v l b s a n .state ≡ b
 

@@ -16,6 +16,7 @@ use Rattle.policy.specs.Value.{valueOf}
 use Rattle.policy.specs.Answers.{Reply, done, granted, denied, refused}
 use Rattle.tuples.specs.Tuples.{tuples, decideByTuples}
 use Rattle.labels.specs.Compile.{lent, NU, NO, userResult, objectResult, tableResult}
+use Rattle.report.specs.Report.{report}
 use Rattle.board.specs.Machine.{Call, opens, adds, drops, requests, run, machine, policyIn}
 use Rattle.board.specs.Board.{boardStep, fresh}
 use Rattle.claims.specs.Demand3.{withCounts}
@@ -129,8 +130,16 @@ falseExamples =
     ∷ example (numbers (NU q ∷ NO q ∷ [])) "2,3"
     ∷ []
 
+-- what the lister writes for the sample text, and for one that is refused
+abbrev pub listerExamples : List Example
+listerExamples =
+    example (report (readText (bytes sample)))
+    "labels,3,2\naction,0,3\ntuple,0,1,1\ntuple,0,2,1\ntuple,0,3,1\naction,3,4\ntuple,3,0,0\ntuple,3,0,1\ntuple,3,1,0\ntuple,3,1,1\n"
+    ∷ example (report (readText (bytes ""))) "refused,10,0\n"
+    ∷ []
+
 abbrev pub table : List Example
-table = compiledExamples ++ (sessionExamples ++ (edgeExamples ++ falseExamples))
+table = compiledExamples ++ (sessionExamples ++ (edgeExamples ++ (falseExamples ++ listerExamples)))
 
 abbrev pub holds : Example → Bool
 holds e = same eqb (e .found) (e .expected)

@@ -4,6 +4,7 @@ ghost use Rattle.policy.specs.Answers.{replyNumber};
 ghost use Rattle.policy.specs.Read.{readText};
 ghost use Rattle.policy.specs.Valid.{valid};
 ghost use Rattle.policy.specs.Write.{write, writeBuffer};
+ghost use Rattle.formula.specs.Truth.{at};
 ghost use Rattle.formula.specs.Decide.{decide};
 ghost use Rattle.tuples.specs.Tuples.{list, listBuffer, decideByTuples};
 ghost use Rattle.labels.specs.Compile.{lent, compile, compileBuffers};
@@ -54,7 +55,7 @@ pub extern "C" fn helvemoik_valid(policy: PackedPolicy) -> bool
 // Decides by the formula on two sets.
 #[no_mangle]
 pub extern "C" fn helvemoik_decide(policy: PackedPolicy, action: u32, user: u32, object: u32) -> u32
-    ensures { λ r. ⌜ r ≡ replyNumber (decide (unpackedPolicy policy) action user object) ⌝ }
+    ensures { λ r. ⌜ r ≡ replyNumber (decide (unpackedPolicy policy) action (at user object)) ⌝ }
 {
     answer::decision(formula::decide(packing::unpack::unpack(policy), action, user, object))
 }
@@ -77,7 +78,7 @@ pub extern "C" fn helvemoik_decide_by_tuples(
     listing: &[u16],
     count: usize,
 ) -> u32
-    ensures { λ r. ⌜ r ≡ replyNumber (decideByTuples (unpackedPolicy policy) user object (now (listing .entry)) count) ⌝ }
+    ensures { λ r. ⌜ r ≡ replyNumber (decideByTuples (unpackedPolicy policy) (at user object) (now (listing .entry)) count) ⌝ }
 {
     answer::decision(tuples::decide(
         packing::unpack::unpack(policy),
@@ -99,12 +100,7 @@ pub extern "C" fn helvemoik_compile(
     ensures answer { λ r. ⌜ r ≡ packedCounts (compile (unpackedPolicy policy) (lent (now (users .entry)) (now (objects .entry)) (now (table .entry)))) ⌝ }
     ensures buffers { λ r. ⌜ lent (now (users .exit)) (now (objects .exit)) (now (table .exit)) ≡ compileBuffers (unpackedPolicy policy) (lent (now (users .entry)) (now (objects .entry)) (now (table .entry))) ⌝ }
 {
-    answer::counts(labels::compiler::compile(
-        packing::unpack::unpack(policy),
-        users,
-        objects,
-        table,
-    ))
+    answer::counts(labels::compile(packing::unpack::unpack(policy), users, objects, table))
 }
 
 // Whether something tells two user sets apart.
@@ -112,7 +108,7 @@ pub extern "C" fn helvemoik_compile(
 pub extern "C" fn helvemoik_apart(policy: PackedPolicy, one: u32, other: u32) -> Separation
     ensures { λ r. ⌜ ((a : Apartness) × Tells (unpackedPolicy policy) one other a × (r ≡ separation a)) ⌝ }
 {
-    answer::separation(labels::apart::apart(packing::unpack::unpack(policy), one, other))
+    answer::separation(labels::apart(packing::unpack::unpack(policy), one, other))
 }
 
 // A board that holds no session.

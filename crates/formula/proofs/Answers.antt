@@ -2,9 +2,9 @@
 use Prim.Native.Nat.{ℕ, _≤_, _<_, _^_}
 use mathlib.Core.Path.{_≡_}
 use mathlib.Core.Bool.{Bool, true, false}
+use native.Mathlib.Nat.{lt-of-lt-of-le}
 use lib.Dec.{leb}
 use lib.Pow.{pow-mono}
-use native.Mathlib.Nat.{lt-of-lt-of-le}
 use borrow.Author.Tests.{le-leb, lt-leb, leb-false}
 use Rattle.basis.specs.Choice.{lowest}
 use Rattle.basis.proofs.Bools.{or-neither}
@@ -12,11 +12,11 @@ use Rattle.policy.specs.Policy.{Policy, sets}
 use Rattle.policy.specs.Value.{policyOf}
 use Rattle.policy.specs.Valid.{valid}
 use Rattle.policy.specs.Answers.{refused, decided}
+use Rattle.policy.specs.Limits.{actions, mostValues}
 use Rattle.policy.specs.declared.value.PolicyValue.{PolicyValue}
 use Rattle.formula.specs.Truth.{Sets, grants}
 use Rattle.formula.specs.Decide.{lacking, decide}
 use Rattle.formula.specs.Inner.Lane.{AttributesOf}
-use Rattle.policy.specs.Limits.{actions, mostValues}
 use Rattle.formula.specs.declared.attributes.Attributes.{Attributes}
 
 -- the sets of a side are sets of at most the most values

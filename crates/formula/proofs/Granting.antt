@@ -19,13 +19,13 @@ use Rattle.sets.proofs.Laws.{setOf-lt}
 use Rattle.words.specs.declared.Word.{Word}
 use Rattle.policy.specs.Policy.{Rule, Policy, formulaIn}
 use Rattle.policy.specs.Value.{ruleOf, rulesOf}
+use Rattle.policy.specs.Limits.{mostActions}
 use Rattle.policy.specs.declared.value.RuleValue.{RuleValue}
 use Rattle.policy.specs.declared.value.Rules.{Rules}
 use Rattle.formula.specs.Truth.{Sets, run, truth, grants}
 use Rattle.formula.specs.Inner.Lane.{wordsOf, entryBits}
 use Rattle.formula.specs.Inner.Fits.{RuleFits, RulesFit}
 use Rattle.formula.specs.declared.grant.Grant.{Grant}
-use Rattle.policy.specs.Limits.{mostActions}
 
 -- ---- rules
 

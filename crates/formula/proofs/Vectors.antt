@@ -21,8 +21,8 @@ use Rattle.sets.proofs.Laws.{differs, has-xor, has-meet, has-union, has-none, h
 use Rattle.sets.proofs.Count.{has-shifted}
 use Rattle.seniority.specs.Inner.{extended}
 use Rattle.seniority.proofs.Laws.{has-extended}
-use Rattle.formula.specs.Inner.Lane.{laneBits, lanes, vectorPlaces, Plain, Stands, extendedLanes}
 use Rattle.policy.specs.Limits.{mostValues}
+use Rattle.formula.specs.Inner.Lane.{laneBits, lanes, vectorPlaces, Plain, Stands, extendedLanes}
 
 -- ---- every lane at once
 

@@ -7,8 +7,8 @@ use lib.ListN.{length, getD, take, length-take, List·getD-eq-default}
 use lib.Seq.{take-nil, take-all, getD-take}
 use Rattle.basis.specs.Lists.{sum}
 use Rattle.policy.specs.Policy.{Side, total, width, start}
-use Rattle.formula.specs.Inner.Lane.{Starts}
 use Rattle.policy.specs.Limits.{mostValues}
+use Rattle.formula.specs.Inner.Lane.{Starts}
 
 pub sum-next : (ws : List ℕ) (i : ℕ) → sum (take (i + 1) ws) ≡ sum (take i ws) + getD ws i 0
 unfolding sum

@@ -1,18 +1,18 @@
 // Where the attributes of both sides lie among their values.
-use policy::limits::MOST_VALUES;
-use policy::value::SideValue;
-use policy::value::WIDTH_PLACES;
-ghost use mathlib.Core.Path.{_≡_};
 ghost use Prim.Native.Nat.{_≤_};
+ghost use mathlib.Core.Path.{_≡_};
 ghost use lib.ListN.{take};
 ghost use Rattle.basis.specs.Lists.{sum};
 ghost use Rattle.policy.specs.Policy.{Side, Policy, total as totalOf, sets as setsOf, width as widthOf, start as startOf};
 ghost use Rattle.policy.specs.Value.{sideOf};
+ghost use Rattle.policy.specs.Limits.{mostValues};
 ghost use Rattle.formula.specs.Truth.{at};
 ghost use Rattle.formula.specs.Decide.{lacking};
 ghost use Rattle.formula.specs.Inner.Lane.{Starts, AttributesOf};
 ghost use Rattle.formula.specs.Inner.Fits.{SideFits};
-ghost use Rattle.policy.specs.Limits.{mostValues};
+use policy::limits::MOST_VALUES;
+use policy::value::SideValue;
+use policy::value::WIDTH_PLACES;
 
 // A first value for each attribute there may be, and the number of values past these.
 const STARTS: usize = MOST_VALUES + 1;

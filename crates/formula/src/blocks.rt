@@ -1,19 +1,18 @@
 // The object sets of a policy in blocks of 64, made once for all the user sets that are asked about.
-ghost use mathlib.Core.Path.{_≡_};
 ghost use Prim.Native.Nat.{ℕ, _+_, _*_, _%_, _^_, _≤_, _<_};
+ghost use mathlib.Core.Path.{_≡_};
+ghost use Rattle.seniority.specs.Seniority.{heldOrJunior};
 ghost use Rattle.policy.specs.Limits.{mostValues};
 ghost use Rattle.policy.specs.Policy.{Policy};
 ghost use Rattle.policy.specs.Value.{sideOf};
-ghost use Rattle.seniority.specs.Seniority.{heldOrJunior};
 ghost use Rattle.formula.specs.Inner.Fits.{SideFits};
 ghost use Rattle.formula.specs.Inner.Lane.{lanes, Stands};
 ghost use Rattle.formula.specs.Inner.Source.{blocksOf, SourceOf};
-
 use crate::attributes;
 use crate::attributes::Attributes;
 use crate::side;
-use crate::side::LANES;
 use crate::side::LANE_BITS;
+use crate::side::LANES;
 use crate::side::VECTORS;
 use policy::limits::MOST_SETS;
 use policy::value::SideValue;

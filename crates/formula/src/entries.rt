@@ -1,6 +1,6 @@
 // What every action is granted at 64 pairs, and the same as table entries.
-ghost use mathlib.Core.Path.{_≡_};
 ghost use Prim.Native.Nat.{ℕ, _≤_, _<_};
+ghost use mathlib.Core.Path.{_≡_};
 ghost use lib.ListN.{getD};
 ghost use Rattle.sets.specs.Set.{has, setOf};
 ghost use Rattle.policy.specs.Limits.{mostActions};
@@ -9,7 +9,6 @@ ghost use Rattle.formula.specs.Truth as truth;
 ghost use Rattle.formula.specs.Truth.{Sets};
 ghost use Rattle.formula.specs.Inner.Grant.{GrantsOf};
 ghost use Rattle.formula.specs.Inner.Lane.{lanes, AttributesOf, InLane};
-
 use crate::attributes::Attributes;
 use crate::grant;
 use crate::grant::Grants;

@@ -1,5 +1,17 @@
 // The truth of a formula at 64 pairs. Words work on a stack of numbers, one bit a pair; below an empty stack lies 0, as false does in the
 // definition.
+ghost use Prim.Native.Nat.{ℕ, _+_, _≤_, _<_};
+ghost use mathlib.Core.Path.{_≡_};
+ghost use mathlib.Core.Bool.{Bool, _&&_};
+ghost use mathlib.Core.List.{List, _∷_};
+ghost use Rattle.basis.specs.Numbers.{every};
+ghost use Rattle.sets.specs.Set.{has};
+ghost use Rattle.policy.specs.Policy.{Policy, width};
+ghost use Rattle.policy.specs.Checks.{sizes, equalWidth};
+ghost use Rattle.policy.specs.Value.{wordPlaces};
+ghost use Rattle.policy.specs.Limits.{mostValues};
+ghost use Rattle.formula.specs.Truth.{Sets, holds, placeHeld, compares, top, below, step, truth};
+ghost use Rattle.formula.specs.Inner.Lane.{lanes, AttributesOf, Stands, InLane, wordsOf, passes, column};
 use crate::attributes;
 use crate::attributes::Attributes;
 use crate::side::ALL;
@@ -10,25 +22,17 @@ use policy::value::WORD_PLACES;
 use words::Comparison;
 use words::Holding;
 use words::Word;
-ghost use mathlib.Core.Path.{_≡_};
-ghost use mathlib.Core.Bool.{Bool, _&&_};
-ghost use mathlib.Core.List.{List, _∷_};
-ghost use Prim.Native.Nat.{ℕ, _+_, _≤_, _<_};
-ghost use Rattle.basis.specs.Numbers.{every};
-ghost use Rattle.sets.specs.Set.{has};
-ghost use Rattle.policy.specs.Policy.{Policy, width};
-ghost use Rattle.policy.specs.Checks.{sizes, equalWidth};
-ghost use Rattle.policy.specs.Value.{wordPlaces};
-ghost use Rattle.formula.specs.Truth.{Sets, holds, placeHeld, compares, top, below, step, truth};
-ghost use Rattle.formula.specs.Inner.Lane.{lanes, AttributesOf, Stands, InLane, wordsOf, passes, column};
-ghost use Rattle.policy.specs.Limits.{mostValues};
 
 // Where a set holds value v with its juniors or seniors taken in.
 fn taken(vectors: &[u64; VECTORS], v: u8) -> u64
     ensures { λ r. ⌜ ((grown : ℕ → ℕ → Bool) (k s : ℕ) → Stands grown (now (vectors .entry)) k s → has r k ≡ grown s v) ⌝ }
 {
     let i = v as usize;
-    if i < MOST_VALUES { vectors[MOST_VALUES + i] } else { 0 }
+    if i < MOST_VALUES {
+        vectors[MOST_VALUES + i]
+    } else {
+        0
+    }
 }
 
 // Where a holding is true.
@@ -49,14 +53,7 @@ fn place(x: u64, y: u64, exact: bool) -> u64
 }
 
 // Where w places pass, which start at a in the user sets and at b in the object sets.
-fn places(
-    users: &[u64; VECTORS],
-    objects: &[u64; VECTORS],
-    w: u8,
-    a: u8,
-    b: u8,
-    exact: bool,
-) -> u64
+fn places(users: &[u64; VECTORS], objects: &[u64; VECTORS], w: u8, a: u8, b: u8, exact: bool) -> u64
     requires { ⌜ (a + w ≤ mostValues) × (b + w ≤ mostValues) ⌝ }
     ensures { λ r. ⌜ ((p : Policy) (k : ℕ) (s : Sets) → InLane p (now (users .entry)) (now (objects .entry)) k s → has r k ≡ every (λ q. passes exact (has (s .object) (b + q)) (has (s .user) (a + q))) w) ⌝ }
 {
@@ -96,7 +93,12 @@ fn matched(
 }
 
 // Where a comparison is true.
-fn compared(sides: Attributes, users: &[u64; VECTORS], objects: &[u64; VECTORS], c: Comparison) -> u64
+fn compared(
+    sides: Attributes,
+    users: &[u64; VECTORS],
+    objects: &[u64; VECTORS],
+    c: Comparison,
+) -> u64
     requires { ⌜ ((p : Policy) × AttributesOf p sides) ⌝ }
     ensures { λ r. ⌜ ((p : Policy) (k : ℕ) (s : Sets) → AttributesOf p sides → InLane p (now (users .entry)) (now (objects .entry)) k s → has r k ≡ compares p s c) ⌝ }
 {

@@ -1,6 +1,6 @@
 // What grants an action, and where it does: the one place that says so, for 64 pairs at once.
-ghost use mathlib.Core.Path.{_≡_};
 ghost use Prim.Native.Nat.{ℕ, _≤_, _<_};
+ghost use mathlib.Core.Path.{_≡_};
 ghost use Rattle.sets.specs.Set.{has};
 ghost use Rattle.policy.specs.Limits.{actions};
 ghost use Rattle.policy.specs.Policy.{Policy};
@@ -9,7 +9,6 @@ ghost use Rattle.formula.specs.Truth.{Sets, grants};
 ghost use Rattle.formula.specs.Inner.Fits.{RulesFit};
 ghost use Rattle.formula.specs.Inner.Grant.{GrantOf, GrantsOf};
 ghost use Rattle.formula.specs.Inner.Lane.{AttributesOf, InLane};
-
 use crate::attributes::Attributes;
 use crate::evaluate;
 use crate::side::VECTORS;

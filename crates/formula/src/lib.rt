@@ -1,7 +1,7 @@
 // What formulas decide. A formula is evaluated at 64 pairs of a user set and an object set at once: bit k of a number is the truth at pair k.
+ghost use Prim.Native.Nat.{_^_, _<_};
 ghost use mathlib.Core.Path.{_≡_};
 ghost use mathlib.Core.Bool.{true};
-ghost use Prim.Native.Nat.{_^_, _<_};
 ghost use Rattle.policy.specs.Limits.{mostValues};
 ghost use Rattle.policy.specs.Value.{policyOf};
 ghost use Rattle.policy.specs.Valid.{valid};

@@ -1,17 +1,17 @@
 // The vectors of 64 sets of one side: bit k of vector v says whether set k holds value v, and bit k of vector MOST_VALUES + v whether it
 // does with its juniors (users) or its seniors (objects) taken in.
+ghost use Prim.Native.Nat.{ℕ, _+_, _*_, _/_, _%_, _^_, _≤_, _<_};
+ghost use mathlib.Core.Path.{_≡_};
+ghost use lib.ListN.{take};
+ghost use Rattle.sets.specs.Set.{has};
+ghost use Rattle.seniority.specs.Seniority.{heldOrSenior, heldOrJunior};
+ghost use Rattle.seniority.specs.Inner.{Ordered};
+ghost use Rattle.policy.specs.Value.{linePlaces};
+ghost use Rattle.policy.specs.Limits.{mostValues};
+ghost use Rattle.formula.specs.Inner.Lane.{lanes, Plain, Stands, extendedLanes};
 use policy::limits::MOST_VALUES;
 use policy::value::LINE_PLACES;
 use seniority::Direct;
-ghost use mathlib.Core.Path.{_≡_};
-ghost use Prim.Native.Nat.{ℕ, _+_, _*_, _/_, _%_, _^_, _≤_, _<_};
-ghost use lib.ListN.{take};
-ghost use Rattle.sets.specs.Set.{has};
-ghost use Rattle.policy.specs.Value.{linePlaces};
-ghost use Rattle.seniority.specs.Seniority.{heldOrSenior, heldOrJunior};
-ghost use Rattle.seniority.specs.Inner.{Ordered};
-ghost use Rattle.formula.specs.Inner.Lane.{lanes, Plain, Stands, extendedLanes};
-ghost use Rattle.policy.specs.Limits.{mostValues};
 
 // True in every lane.
 pub const ALL: u64 = 18446744073709551615;
@@ -102,11 +102,7 @@ fn extend(vectors: &mut [u64; VECTORS], a: u32, b: u32)
 }
 
 // User sets with all juniors of their values, by the first n lines. The last line comes first: each senior is settled before its juniors.
-pub fn with_juniors(
-    plain: [u64; VECTORS],
-    lines: [Direct; LINE_PLACES],
-    n: usize,
-) -> [u64; VECTORS]
+pub fn with_juniors(plain: [u64; VECTORS], lines: [Direct; LINE_PLACES], n: usize) -> [u64; VECTORS]
     requires { ⌜ (n ≤ linePlaces) × Ordered mostValues (take n lines) ⌝ }
     ensures { λ r. ⌜ ((k s : ℕ) → Plain plain k s → Stands (heldOrSenior (take n lines)) r k s) ⌝ }
 {
@@ -121,11 +117,7 @@ pub fn with_juniors(
 }
 
 // Object sets with all seniors of their values, by the first n lines: each junior is settled before its seniors.
-pub fn with_seniors(
-    plain: [u64; VECTORS],
-    lines: [Direct; LINE_PLACES],
-    n: usize,
-) -> [u64; VECTORS]
+pub fn with_seniors(plain: [u64; VECTORS], lines: [Direct; LINE_PLACES], n: usize) -> [u64; VECTORS]
     requires { ⌜ (n ≤ linePlaces) × Ordered mostValues (take n lines) ⌝ }
     ensures { λ r. ⌜ ((k s : ℕ) → Plain plain k s → Stands (heldOrJunior (take n lines)) r k s) ⌝ }
 {

@@ -20,9 +20,9 @@ use Rattle.policy.specs.Policy.{Policy, sets}
 use Rattle.policy.proofs.Forms.{actions-most}
 use Rattle.formula.specs.Truth.{Sets, at, grants}
 use Rattle.labels.specs.Compile.{entryOf}
-use Rattle.labels.specs.Inner.Rows.{firstAction}
 use Rattle.labels.specs.Compile.{likeUsers}
 use Rattle.labels.specs.Apart.{Separates}
+use Rattle.labels.specs.Inner.Rows.{firstAction}
 use Rattle.labels.proofs.Alike.{alike-of, rows-alike}
 
 -- the entry of lane k, from the vectors of n actions

@@ -9,10 +9,10 @@ use lib.ListN.{length, getD, set, length-set}
 use lib.Pow.{pow-mono}
 use Rattle.basis.proofs.Places.{stored-next}
 use Rattle.policy.specs.Policy.{Policy, sets}
+use Rattle.policy.specs.Limits.{mostSets, mostPairs}
 use Rattle.formula.specs.Truth.{at}
 use Rattle.labels.specs.Compile.{entryOf}
 use Rattle.labels.specs.Inner.Rows.{RowsOf}
-use Rattle.policy.specs.Limits.{mostSets, mostPairs}
 use Rattle.labels.specs.Inner.Grid.{turnedView, Inside, ViewOf, GridOf}
 use Rattle.labels.specs.declared.rows.Rows.{Rows}
 use Rattle.labels.specs.declared.grid.View.{View}

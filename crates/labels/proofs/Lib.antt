@@ -8,4 +8,3 @@ pub mod Compiling
 pub mod Storing
 pub mod Told
 pub mod Separation
-pub mod Examples

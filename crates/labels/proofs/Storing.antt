@@ -20,8 +20,8 @@ use Rattle.policy.specs.declared.value.PolicyValue.{PolicyValue}
 use Rattle.policy.specs.declared.refusal.Refusal.the-variants.{InvalidState, BufferTooShort}
 use Rattle.formula.specs.Truth.{grants}
 use Rattle.labels.specs.Compile.{entryOf}
-use Rattle.labels.specs.Inner.Grid.{cell, turnedView, likeRows, GridOf, Labelled}
 use Rattle.labels.specs.Compile.{likeUsers, likeObjects, NU, NO, entry, userLabel, objectLabel, userResult, objectResult, tableResult, lent, tooShort, compile, compileBuffers, Compiles}
+use Rattle.labels.specs.Inner.Grid.{cell, turnedView, likeRows, GridOf, Labelled}
 use Rattle.labels.specs.declared.grid.View.{View}
 use Rattle.labels.specs.declared.Counts.{Counts}
 use Rattle.labels.specs.declared.Compiled.the-variants.{Stored, Refused}

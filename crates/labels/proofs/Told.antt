@@ -16,9 +16,9 @@ use Rattle.policy.specs.Valid.{valid}
 use Rattle.policy.specs.declared.value.PolicyValue.{PolicyValue}
 use Rattle.formula.specs.Truth.{at}
 use Rattle.labels.specs.Rows.{firstUnlike}
-use Rattle.labels.specs.Inner.Rows.{entryAt, firstAction}
 use Rattle.labels.specs.Compile.{entryOf, likeUsers}
 use Rattle.labels.specs.Apart.{Separates, apartRefusal}
+use Rattle.labels.specs.Inner.Rows.{entryAt, firstAction}
 use Rattle.labels.proofs.Alike.{unlike-before, unlike-at, unlike-below}
 use Rattle.labels.proofs.Entries.{entries-alike, entries-separate}
 

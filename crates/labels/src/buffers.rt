@@ -1,7 +1,7 @@
 // The lent buffers: the labels of both sides and their table, written once all of them are known.
+ghost use Prim.Native.Nat.{ℕ, _*_, _/_, _%_, _≤_, _<_};
 ghost use mathlib.Core.Path.{_≡_};
 ghost use mathlib.Core.Bool.{true};
-ghost use Prim.Native.Nat.{ℕ, _*_, _/_, _%_, _≤_, _<_};
 ghost use lib.ListN.{length, getD};
 ghost use Rattle.basis.specs.Lists.{over};
 ghost use Rattle.basis.specs.Numbers.{upTo};
@@ -11,7 +11,6 @@ ghost use Rattle.policy.specs.Valid.{valid};
 ghost use Rattle.policy.specs.declared.value.PolicyValue.{PolicyValue};
 ghost use Rattle.labels.specs.Compile.{lent, Compiles};
 ghost use Rattle.labels.specs.Inner.Grid.{cell, Inside, GridOf};
-
 use crate::Compiled;
 use crate::Counts;
 use crate::ObjectLabel;

@@ -1,11 +1,10 @@
 // The labels of one side's sets, which are the rows of a grid.
-ghost use mathlib.Core.Path.{_≡_};
 ghost use Prim.Native.Nat.{ℕ, _≤_, _<_};
+ghost use mathlib.Core.Path.{_≡_};
 ghost use lib.ListN.{getD};
 ghost use Rattle.basis.specs.Numbers.{first};
 ghost use Rattle.policy.specs.Limits.{mostSets};
 ghost use Rattle.labels.specs.Inner.Grid.{likeRows, Inside, Labelled};
-
 use crate::grid;
 use crate::grid::View;
 use policy::limits::MOST_PAIRS;
@@ -19,7 +18,13 @@ pub struct Classes {
 }
 
 // The first of `count` labels whose leader is like row u, or `count` where none is.
-fn label_of(grid: &[u8; MOST_PAIRS], view: View, leaders: &[u8; MOST_SETS], count: usize, u: usize) -> usize
+fn label_of(
+    grid: &[u8; MOST_PAIRS],
+    view: View,
+    leaders: &[u8; MOST_SETS],
+    count: usize,
+    u: usize,
+) -> usize
     requires { ⌜ Inside view × (u < view .rows) × (count ≤ mostSets) × ((l : ℕ) → l < count → getD (now leaders) l 0 < view .rows) ⌝ }
     ensures { λ r. ⌜ r ≡ first (λ l. likeRows (now (grid .entry)) view (getD (now (leaders .entry)) l 0) u) count ⌝ }
 {

@@ -1,13 +1,12 @@
 // The grid: the rows of all user sets, one after the other.
-ghost use mathlib.Core.Path.{_≡_};
 ghost use Prim.Native.Nat.{_<_};
+ghost use mathlib.Core.Path.{_≡_};
 ghost use lib.ListN.{length};
 ghost use Rattle.policy.specs.Limits.{mostPairs};
 ghost use Rattle.policy.specs.Policy.{Policy};
 ghost use Rattle.formula.specs.Inner.Lane.{AttributesOf};
 ghost use Rattle.labels.specs.Inner.Rows.{RowsOf};
 ghost use Rattle.labels.specs.Inner.Grid.{cell, turnedView, ViewOf, Inside, GridOf};
-
 use crate::rows;
 use crate::rows::Rows;
 use formula::attributes;

@@ -1,6 +1,6 @@
 // Labels: sets that no formula parts share one.
-ghost use mathlib.Core.Path.{_≡_};
 ghost use Prim.Native.Nat.{_+_, _*_};
+ghost use mathlib.Core.Path.{_≡_};
 ghost use Rattle.labels.specs.Compile.{lent, Compiles};
 ghost use Rattle.labels.specs.Apart.{Tells};
 

@@ -1,7 +1,7 @@
 // Rows of entries. The entry of a user set and an object set is a byte whose bit a says whether action a is granted; a user set's row has
 // its entries at the object sets.
-ghost use mathlib.Core.Path.{_≡_};
 ghost use Prim.Native.Nat.{ℕ, _+_, _^_, _≤_, _<_, min};
+ghost use mathlib.Core.Path.{_≡_};
 ghost use lib.ListN.{length, getD};
 ghost use Rattle.policy.specs.Limits.{mostValues, mostSets};
 ghost use Rattle.policy.specs.Policy.{Policy, sets};
@@ -13,7 +13,6 @@ ghost use Rattle.formula.specs.Inner.Lane.{lanes, AttributesOf, InLane};
 ghost use Rattle.labels.specs.Rows.{firstUnlike};
 ghost use Rattle.labels.specs.Compile.{entryOf};
 ghost use Rattle.labels.specs.Inner.Rows.{RowsOf, entryAt};
-
 use formula::attributes::Attributes;
 use formula::blocks;
 use formula::blocks::Source;
@@ -90,7 +89,15 @@ pub fn row(from: Rows, u: u32, n: usize) -> [u8; MOST_SETS]
     while start < n {
         let block = blocks[b];
         let objects = block.vectors;
-        put_block(&mut r, sides, &users, &objects, grants, start, in_block(n - start));
+        put_block(
+            &mut r,
+            sides,
+            &users,
+            &objects,
+            grants,
+            start,
+            in_block(n - start),
+        );
         start += LANES;
         b += 1;
     }

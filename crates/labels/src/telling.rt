@@ -1,14 +1,13 @@
 // What the rows of two user sets tell of them.
+ghost use Prim.Native.Nat.{_^_, _<_};
 ghost use mathlib.Core.Path.{_≡_};
 ghost use mathlib.Core.Option.{none};
-ghost use Prim.Native.Nat.{_^_, _<_};
 ghost use Rattle.policy.specs.Limits.{mostValues};
 ghost use Rattle.policy.specs.Policy.{Policy, sets};
 ghost use Rattle.policy.specs.Value.{policyOf};
 ghost use Rattle.policy.specs.declared.value.PolicyValue.{PolicyValue};
 ghost use Rattle.labels.specs.Apart.{apartRefusal, Tells};
 ghost use Rattle.labels.specs.Inner.Rows.{RowsOf, firstAction};
-
 use crate::Apartness;
 use crate::Witness;
 use crate::rows;

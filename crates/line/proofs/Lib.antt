@@ -1,4 +1,3 @@
 pub mod Fields
-pub mod Admitted
+pub mod Heads
 pub mod Rules
-pub mod Faults

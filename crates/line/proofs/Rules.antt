@@ -1,48 +1,50 @@
 -- A rule line: its fields behind the action as words, one after the other, and one law for each answer about the rule.
 use Prim.Native.Nat.{ℕ, _+_, _≤_, _<_}
 use mathlib.Core.Path.{_≡_, refl, sym, ap, _∙_}
-use mathlib.Core.Bool.{Bool, true, false, cond}
+use mathlib.Core.Bool.{Bool, true, false, cond, not}
 use mathlib.Core.List.{List, [], _∷_, _++_, map, append-assoc}
+use mathlib.Core.Option.{Option, none, some}
 use native.Mathlib.Omega.{arith}
-use borrow.Author.Tests.{lt-ltb, le-ltb, leb-true}
+use borrow.Author.Tests.{lt-ltb, le-ltb, lt-leb, le-leb, leb-true, ltb-true}
 use lib.Dec.{leb}
 use lib.ListN.{length, drop, set, length-append, length-map, length-drop}
+use Rattle.basis.specs.Choice.{check, lowest}
 use Rattle.basis.specs.Lists.{all, padded}
 use Rattle.basis.proofs.Bools.{and-left, and-right}
 use Rattle.basis.proofs.Padded.{padded-more-map}
 use Rattle.text.specs.Parts.{fields, comma}
 use Rattle.text.specs.Inner.{Found}
 use Rattle.text.specs.declared.kind.Kind.the-variants.{Rule as RuleKind}
+use Rattle.text.specs.declared.kind.Layout.the-variants.{Formula}
 use Rattle.text.proofs.Split.{split-pos}
 use Rattle.words.specs.Word.{parsed, wordIn}
 use Rattle.words.specs.declared.Word.{Word}
 use Rattle.words.specs.declared.Word.the-variants.{True}
 use Rattle.words.specs.declared.Parsed.{Parsed}
 use Rattle.words.specs.declared.Parsed.the-variants.{Is as IsWord, Malformed}
-use Rattle.policy.specs.Limits.{actions}
-use Rattle.policy.specs.Policy.{Rule, Policy}
-use Rattle.policy.specs.Line.{countFits}
-use Rattle.policy.specs.Checks.{inRange, wordFits, widthsEqual, balanced}
-use Rattle.policy.specs.Value.{wordPlaces, slot, ruleValue, ruleOf as ruleBack}
+use Rattle.policy.specs.Answers.{numberOf}
+use Rattle.policy.specs.Limits.{actions, mostWords}
+use Rattle.policy.specs.Policy.{Rule}
+use Rattle.policy.specs.Line.{oneNumber, countFits}
+use Rattle.policy.specs.Checks.{Sizes, inRange, wordFits, widthsEqual, balanced}
+use Rattle.policy.specs.Value.{wordPlaces, slot, ruleValue, wordsIn, ruleOf}
 use Rattle.policy.specs.declared.refusal.Refusal.{Refusal}
 use Rattle.policy.specs.declared.refusal.Refusal.the-variants.{MalformedField, OutOfRange, NotRising, UnequalWidths, UnbalancedFormula}
 use Rattle.policy.specs.declared.value.Slot.{Slot}
 use Rattle.policy.specs.declared.value.RuleValue.{RuleValue}
 use Rattle.policy.proofs.Values.{rule-value}
-use Rattle.checks.specs.Sides.{Shaped, wordsIn}
-use Rattle.checks.specs.declared.side.Shape.{Shape}
-use Rattle.line.specs.Admit.{Sides, firstAfter, risesAfter, orElse, areWords, ruleOf, heldRule, faultyRule, ruleIn, formulaFault, ruleFault, admittedRule}
-use Rattle.line.specs.declared.fault.Fault.{Fault}
-use Rattle.line.specs.declared.fault.Fault.the-variants.{None, Is}
-use Rattle.line.specs.declared.numbers.Before.{Before}
+use Rattle.line.specs.Inner.Head.{between}
+use Rattle.line.specs.Inner.Rule.{areWords, ruleFrom, heldRule, faultyRule, ruleIn, formulaFault, ruleFault, orElse, admittedRule}
+use Rattle.line.specs.declared.rule.Fault.{Fault}
+use Rattle.line.specs.declared.rule.Fault.the-variants.{None, Is}
 use Rattle.line.specs.declared.rule.RuleLine.{RuleLine}
-use Rattle.line.proofs.Fields.{between, last-field, next-field, some-field, comma-there}
+use Rattle.line.proofs.Fields.{last-field, next-field, some-field, comma-there}
 
 -- ---- the fields behind the action
 
-pub rule-count : (n : ℕ) → countFits RuleKind n ≡ true → (3 ≤ n) × (n ≤ 34)
+pub rule-count : (n : ℕ) → countFits Formula n ≡ true → (3 ≤ n) × (n ≤ 2 + mostWords)
 unfolding countFits
-rule-count n e = (leb-true 3 n (and-left _ _ e), leb-true n 34 (and-right (leb 3 n) _ e))
+rule-count n e = (leb-true 3 n (and-left _ _ e), leb-true n (2 + mostWords) (and-right (leb 3 n) _ e))
 
 module _ (l : List ℕ) (c b : ℕ) (f : Found l 0 comma c) (g : Found l (c + 1) comma b) (h : 3 ≤ length (fields l)) where
   first-comma : c ≡ length l → ⊥
@@ -56,6 +58,10 @@ module _ (l : List ℕ) (c b : ℕ) (f : Found l 0 comma c) (g : Found l (c + 1)
 
   pub words-are : fields (drop (b + 1) l) ≡ drop 2 (fields l)
   words-are = rw (next-field l 0 c f first-comma, next-field l (c + 1) b g second-comma)
+
+-- no more fields than a formula has places for words
+pub words-few : (l : List ℕ) → countFits Formula (length (fields l)) ≡ true → length (drop 2 (fields l)) ≤ wordPlaces
+words-few l e = omega (arith, rule-count (length (fields l)) e .1, length-drop 2 (fields l))
 
 -- ---- words one after the other
 
@@ -115,68 +121,49 @@ module _ {l : List ℕ} {from : ℕ} {slots : List Slot} {n at : ℕ} (s : Sofar
           let m : length (s .done ++ (w ∷ [])) ≡ n + 1 = omega (arith, length-append (s .done) (w ∷ []), s .count) in
           rw (s .are, q, sym p ∙ h, v, m, ← stored-more)
 
--- ---- the value of a rule
+-- ---- a rule against the lines before it
 
-module _ (y : RuleValue) (x : Rule) (e : y ≡ ruleValue x) where
-  value-action : y .action ≡ x .action
-  unfolding ruleValue
-  value-action = ap (λ (z : RuleValue). z .action) e
+module _ (y : RuleValue) (form : ℕ) (s : Sizes) where
+  -- refusal 6
+  module _ (most : ℕ) (v : most ≡ actions form) where
+    pub range-words : y .action < most → (r : Bool) → r ≡ all (wordFits s) (wordsIn (y .count) (y .words))
+        → r ≡ inRange RuleKind form s (oneNumber (y .action)) (ruleOf y .words)
+    unfolding inRange ruleOf
+    range-words h r f = f ∙ (rw (lt-ltb (y .action) (actions form) (omega arith)))
 
-  value-words : wordsIn (y .words) (y .count) ≡ x .words
-  unfolding ruleBack
-  value-words = ap (λ (z : RuleValue). ruleBack z .words) e ∙ ap (λ (z : Rule). z .words) (rule-value x)
+    pub range-action : most ≤ y .action → false ≡ inRange RuleKind form s (oneNumber (y .action)) (ruleOf y .words)
+    unfolding inRange
+    range-action h = rw (le-ltb (y .action) (actions form) (omega arith))
 
-  module _ (form : ℕ) (u o : Shape) (p : Policy) (s : Sides form u o p) where
-    -- refusal 6
-    module _ (most : ℕ) (v : most ≡ actions form) where
-      pub range-words : y .action < most → (r : Bool)
-          → ((q : Policy) → Shaped u (q .user) → Shaped o (q .object) → r ≡ all (wordFits q) (wordsIn (y .words) (y .count)))
-          → r ≡ inRange RuleKind p (x .action) 0 (x .words)
-      unfolding inRange
-      range-words h r f =
-          let a = lt-ltb (x .action) (actions (p .form)) (omega (arith, value-action, ap actions (s .form))) in
-          f p (s .user) (s .object) ∙ (rw (value-words, a))
+  -- refusals 8 and 9
+  module _ (a : Bool) (f : a ≡ all (widthsEqual s) (wordsIn (y .count) (y .words))) where
+    pub formula-unequal : a ≡ false → Is UnequalWidths ≡ formulaFault s (ruleOf y)
+    unfolding ruleOf
+    formula-unequal h = rw (sym f ∙ h)
 
-      pub range-action : most ≤ y .action → false ≡ inRange RuleKind p (x .action) 0 (x .words)
-      unfolding inRange
-      range-action h = let a = le-ltb (x .action) (actions (p .form)) (omega (arith, value-action, ap actions (s .form))) in rw a
+    module _ (h : a ≡ true) (b : Bool) (g : b ≡ balanced 0 (wordsIn (y .count) (y .words))) where
+      pub formula-fine : b ≡ true → None ≡ formulaFault s (ruleOf y)
+      unfolding ruleOf
+      formula-fine k = rw (sym f ∙ h, sym g ∙ k)
 
-    -- refusals 8 and 9
-    module _ (a : Bool) (f : (q : Policy) → Shaped u (q .user) → Shaped o (q .object) → a ≡ all (widthsEqual q) (wordsIn (y .words) (y .count))) where
-      equal : a ≡ all (widthsEqual p) (x .words)
-      equal = f p (s .user) (s .object) ∙ (rw value-words)
-
-      pub formula-unequal : a ≡ false → Is UnequalWidths ≡ formulaFault p x
-      formula-unequal h = rw (sym equal ∙ h)
-
-      module _ (h : a ≡ true) (b : Bool) (g : b ≡ balanced 0 (wordsIn (y .words) (y .count))) where
-        balances : b ≡ balanced 0 (x .words)
-        balances = g ∙ (rw value-words)
-
-        pub formula-fine : b ≡ true → None ≡ formulaFault p x
-        formula-fine k = rw (sym equal ∙ h, sym balances ∙ k)
-
-        pub formula-unbalanced : b ≡ false → Is UnbalancedFormula ≡ formulaFault p x
-        formula-unbalanced k = rw (sym equal ∙ h, sym balances ∙ k)
+      pub formula-unbalanced : b ≡ false → Is UnbalancedFormula ≡ formulaFault s (ruleOf y)
+      unfolding ruleOf
+      formula-unbalanced k = rw (sym f ∙ h, sym g ∙ k)
 
   -- refusals 6 to 9 in their order
-  module _ (before : Before) (p : Policy) (r : Bool) (f : r ≡ inRange RuleKind p (x .action) 0 (x .words)) where
-    pub rule-range : r ≡ false → Is OutOfRange ≡ ruleFault before p x
-    unfolding ruleFault
+  module _ (least : ℕ) (r : Bool) (f : r ≡ inRange RuleKind form s (oneNumber (y .action)) (ruleOf y .words)) where
+    pub rule-range : r ≡ false → Is OutOfRange ≡ ruleFault least form s (ruleOf y)
+    unfolding ruleFault ruleOf
     rule-range h = rw (sym f ∙ h)
 
-    module _ (h : r ≡ true) (a : Bool) (g : a ≡ firstAfter before RuleKind (y .action)) where
-      above : a ≡ risesAfter before RuleKind (x .action) 0
-      unfolding risesAfter
-      above = g ∙ (rw value-action)
+    module _ (h : r ≡ true) where
+      pub rule-level : y .action < least → Is NotRising ≡ ruleFault least form s (ruleOf y)
+      unfolding ruleFault ruleOf
+      rule-level k = rw (sym f ∙ h, lt-leb least (y .action) k)
 
-      pub rule-level : a ≡ false → Is NotRising ≡ ruleFault before p x
-      unfolding ruleFault
-      rule-level k = rw (sym f ∙ h, sym above ∙ k)
-
-      pub rule-formula : a ≡ true → (z : Fault) → z ≡ formulaFault p x → z ≡ ruleFault before p x
-      unfolding ruleFault
-      rule-formula k z q = rw (sym f ∙ h, sym above ∙ k) q
+      pub rule-formula : least ≤ y .action → (z : Fault) → z ≡ formulaFault s (ruleOf y) → z ≡ ruleFault least form s (ruleOf y)
+      unfolding ruleFault ruleOf
+      rule-formula k z q = rw (sym f ∙ h, le-leb least (y .action) k) q
 
 -- ---- the rule of a line
 
@@ -184,35 +171,85 @@ held-only : (b : Bool) (x : Rule) (z : RuleLine) → z ≡ cond b (heldRule x) (
 held-only true x z e h = ap (λ (y : RuleLine). y .rule) e
 held-only false x z e h = let q : Is MalformedField ≡ None = ap (λ (y : RuleLine). y .fault) (sym e) ∙ h in let c : _≡_ {A = ℕ} 0 1 = cc in absurd (omega arith)
 
-module _ (a : ℕ) (fs : List (List ℕ)) (z : RuleLine) (e : z ≡ ruleIn a fs) where
-  pub rule-held : z .fault ≡ None → z .rule ≡ ruleValue (ruleOf a fs)
+module _ (a : ℕ) (fs : List (List ℕ)) (z : RuleLine) (e : z ≡ ruleIn a (drop 2 fs)) where
+  pub rule-held : z .fault ≡ None → z .rule ≡ ruleValue (ruleFrom a (drop 2 fs))
   unfolding ruleIn
-  rule-held h = held-only (areWords fs) (ruleOf a fs) z e h
+  rule-held h = held-only (areWords (drop 2 fs)) (ruleFrom a (drop 2 fs)) z e h
 
   -- it has as many words as the line has fields behind the action
-  pub rule-few : z .fault ≡ None → length fs ≤ wordPlaces → z .rule .count ≤ wordPlaces
+  pub rule-few : z .fault ≡ None → countFits Formula (length fs) ≡ true → z .rule .count ≤ wordPlaces
   unfolding ruleValue
-  rule-few h k = omega (arith, ap (λ (y : RuleValue). y .count) (rule-held h), length-map fs (λ f. wordIn (parsed f)))
+  rule-few h k = omega (arith, ap (λ (y : RuleValue). y .count) (rule-held h), length-map (drop 2 fs) (λ f. wordIn (parsed f)), length-drop 2 fs, rule-count (length fs) k .1)
 
-  module _ (before : Before) (p : Policy) where
-    pub admitted-before : (r : Refusal) → z .fault ≡ Is r → z ≡ admittedRule before p a fs
+  module _ (least form : ℕ) (s : Sizes) where
+    pub admitted-before : (r : Refusal) → z .fault ≡ Is r → z ≡ admittedRule least form s a fs
     unfolding admittedRule
-    admitted-before r h = let f : ruleIn a fs .fault ≡ Is r = ap (λ (y : RuleLine). y .fault) (sym e) ∙ h in e ∙ (rw f)
+    admitted-before r h = let f : ruleIn a (drop 2 fs) .fault ≡ Is r = ap (λ (y : RuleLine). y .fault) (sym e) ∙ h in e ∙ (rw f)
 
-    pub admitted-now : (f : Fault) → z .fault ≡ None → f ≡ ruleFault before p (ruleOf a fs) → record { fault = f; rule = z .rule } ≡ admittedRule before p a fs
+    pub admitted-now : (f : Fault) → z .fault ≡ None → f ≡ ruleFault least form s (ruleOf (z .rule)) → record { fault = f; rule = z .rule } ≡ admittedRule least form s a fs
     unfolding admittedRule
-    admitted-now f h q = rw (← e, h, q)
+    admitted-now f h q =
+        let w : ruleOf (z .rule) ≡ ruleFrom a (drop 2 fs) = ap ruleOf (rule-held h) ∙ rule-value (ruleFrom a (drop 2 fs)) in
+        rw (← e, h, q ∙ ap (ruleFault least form s) w)
 
 -- the rule of a line in which nothing is broken
 first-none : (f g : Fault) → orElse f g ≡ None → f ≡ None
 first-none None g e = refl
 first-none (Is r) g e = e
 
-pub rule-stored : (before : Before) (p : Policy) (a : ℕ) (fs : List (List ℕ)) (y : RuleLine) → y ≡ admittedRule before p a fs → y .fault ≡ None
-    → y .rule ≡ ruleValue (ruleOf a fs)
+pub rule-stored : (least form : ℕ) (s : Sizes) (a : ℕ) (fs : List (List ℕ)) (y : RuleLine) → y ≡ admittedRule least form s a fs → y .fault ≡ None
+    → y .rule ≡ ruleValue (ruleFrom a (drop 2 fs))
 unfolding admittedRule
-rule-stored before p a fs y e h =
-    ap (λ (z : RuleLine). z .rule) e ∙ rule-held a fs (ruleIn a fs) refl (first-none _ _ (sym (ap (λ (z : RuleLine). z .fault) e) ∙ h))
+rule-stored least form s a fs y e h =
+    ap (λ (z : RuleLine). z .rule) e ∙ rule-held a fs (ruleIn a (drop 2 fs)) refl (first-none _ _ (sym (ap (λ (z : RuleLine). z .fault) e) ∙ h))
 
-pub words-few : (l : List ℕ) → countFits RuleKind (length (fields l)) ≡ true → length (drop 2 (fields l)) ≤ wordPlaces
-words-few l e = let b = rule-count (length (fields l)) e in omega (arith, length-drop 2 (fields l))
+-- ---- the lowest refusal of a rule's line
+
+abbrev pub numberIn : Fault → Option ℕ
+numberIn None = none
+numberIn (Is r) = some (numberOf r)
+
+module _ (x : Rule) where
+  abbrev tested : (w i s e b : Bool) → Fault
+  tested w i s e b =
+      orElse (cond w (heldRule x) (faultyRule MalformedField) .fault)
+      (cond i (cond s (cond e (cond b None (Is UnbalancedFormula)) (Is UnequalWidths)) (Is NotRising)) (Is OutOfRange))
+
+  tested-lowest : (w i s e b : Bool)
+      → numberIn (tested w i s e b) ≡ lowest (check 5 (not w) ∷ check 6 (not i) ∷ check 7 (not s) ∷ check 8 (not e) ∷ check 9 (not b) ∷ [])
+  unfolding lowest
+  tested-lowest false i s e b = refl
+  tested-lowest true false s e b = refl
+  tested-lowest true true false e b = refl
+  tested-lowest true true true false b = refl
+  tested-lowest true true true true false = refl
+  tested-lowest true true true true true = refl
+
+  faulty : (r : Refusal) (A : Type 0) → Is r ≡ None → A
+  faulty r A e = let c : _≡_ {A = ℕ} 0 1 = cc in absurd (omega arith)
+
+  tested-none : (w i s e b : Bool) → tested w i s e b ≡ None → (i ≡ true) × (s ≡ true)
+  tested-none false i s e b h = faulty _ _ h
+  tested-none true false s e b h = faulty _ _ h
+  tested-none true true false e b h = faulty _ _ h
+  tested-none true true true e b h = (refl, refl)
+
+module _ (least form : ℕ) (s : Sizes) (a : ℕ) (fs : List (List ℕ)) (y : RuleLine) (q : y ≡ admittedRule least form s a fs) where
+  abbrev from : Rule
+  from = ruleFrom a (drop 2 fs)
+
+  pub rule-lowest : numberIn (y .fault)
+      ≡ lowest (check 5 (not (areWords (drop 2 fs))) ∷ check 6 (not (inRange RuleKind form s (oneNumber a) (from .words))) ∷ check 7 (not (leb least a))
+      ∷ check 8 (not (all (widthsEqual s) (from .words))) ∷ check 9 (not (balanced 0 (from .words))) ∷ [])
+  unfolding admittedRule ruleIn ruleFault
+  rule-lowest =
+      ap (λ (z : RuleLine). numberIn (z .fault)) q
+      ∙ tested-lowest from (areWords (drop 2 fs)) (inRange RuleKind form s (oneNumber a) (from .words)) (leb least a) (all (widthsEqual s) (from .words)) (balanced 0 (from .words))
+
+  -- a rule in which nothing is broken rises, to an action that the form has
+  pub rule-taken : y .fault ≡ None → (least ≤ a) × (a < actions form)
+  unfolding admittedRule ruleIn ruleFault inRange
+  rule-taken h =
+      let z = tested-none from (areWords (drop 2 fs)) (inRange RuleKind form s (oneNumber a) (from .words)) (leb least a) (all (widthsEqual s) (from .words)) (balanced 0 (from .words))
+      (sym (ap (λ (z : RuleLine). z .fault) q) ∙ h) in
+      (leb-true least a (z .1), ltb-true a (actions form) (and-left _ _ (z .0)))

@@ -1,25 +1,29 @@
 // A rule line after its action: refusals 5 to 9.
 ghost use mathlib.Core.Path.{_≡_};
 ghost use mathlib.Core.Bool.{true};
-ghost use Prim.Native.Nat.{ℕ, _≤_};
+ghost use Prim.Native.Nat.{_≤_};
 ghost use lib.ListN.{length, drop};
 ghost use Rattle.text.specs.Parts.{fields};
 ghost use Rattle.text.specs.declared.kind.Kind.the-variants as kind;
-ghost use Rattle.policy.specs.Line.{countFits};
-ghost use Rattle.policy.specs.Policy as policy;
+ghost use Rattle.text.specs.declared.kind.Layout.the-variants as layout;
+ghost use Rattle.policy.specs.Line.{oneNumber, countFits};
 ghost use Rattle.policy.specs.Checks.{inRange};
-ghost use Rattle.policy.specs.Value.{wordPlaces, ruleValue};
-ghost use Rattle.line.specs.Admit.{Sized, Sides, faultyRule, ruleIn, formulaFault, ruleFault, admittedRule};
-use crate::fault::Fault;
-use crate::numbers::Before;
+ghost use Rattle.policy.specs.Value.{widthPlaces, wordPlaces, ruleOf};
+ghost use Rattle.checks.specs.Inner.{bothIn};
+ghost use Rattle.line.specs.Inner.Rule.{faultyRule, ruleIn, formulaFault, ruleFault, admittedRule};
 use checks::side::Shape;
 use policy::refusal::Refusal;
 use policy::value::RuleValue;
 use policy::value::Slot;
 use policy::value::WORD_PLACES;
-use text::kind::Kind;
 use words::Parsed;
 use words::Word;
+
+// What a rule's line breaks.
+pub enum Fault {
+    None,
+    Is(Refusal),
+}
 
 // A rule, or what its line breaks.
 pub struct RuleLine {
@@ -72,7 +76,7 @@ fn words(action: u32, line: &[u8], from: usize) -> RuleLine
 }
 
 fn parse(action: u32, line: &[u8]) -> RuleLine
-    requires { ⌜ countFits kind.Rule (length (fields (now line))) ≡ true ⌝ }
+    requires { ⌜ countFits layout.Formula (length (fields (now line))) ≡ true ⌝ }
     ensures { λ r. ⌜ r ≡ ruleIn action (drop 2 (fields (now (line .entry)))) ⌝ }
 {
     let c = text::parts::find(line, 0, b',');
@@ -82,7 +86,7 @@ fn parse(action: u32, line: &[u8]) -> RuleLine
 
 fn in_range(form: u32, user: Shape, object: Shape, rule: RuleValue) -> bool
     requires { ⌜ rule .count ≤ wordPlaces ⌝ }
-    ensures { λ r. ⌜ ((p : policy.Policy) (x : policy.Rule) → Sides form user object p → rule ≡ ruleValue x → r ≡ inRange kind.Rule p (x .action) 0 (x .words)) ⌝ }
+    ensures { λ r. ⌜ r ≡ inRange kind.Rule form (bothIn user object) (oneNumber (rule .action)) (ruleOf rule .words) ⌝ }
 {
     let n = rule.count;
     let slots = rule.words;
@@ -93,8 +97,8 @@ fn in_range(form: u32, user: Shape, object: Shape, rule: RuleValue) -> bool
 }
 
 fn formula(user: Shape, object: Shape, rule: RuleValue) -> Fault
-    requires { ⌜ (rule .count ≤ wordPlaces) × Sized user × Sized object ⌝ }
-    ensures { λ r. ⌜ ((form : ℕ) (p : policy.Policy) (x : policy.Rule) → Sides form user object p → rule ≡ ruleValue x → r ≡ formulaFault p x) ⌝ }
+    requires { ⌜ (rule .count ≤ wordPlaces) × (user .attributes ≤ widthPlaces) × (object .attributes ≤ widthPlaces) ⌝ }
+    ensures { λ r. ⌜ r ≡ formulaFault (bothIn user object) (ruleOf rule) ⌝ }
 {
     let n = rule.count;
     let slots = rule.words;
@@ -107,12 +111,12 @@ fn formula(user: Shape, object: Shape, rule: RuleValue) -> Fault
     Fault::Is(Refusal::UnequalWidths)
 }
 
-fn check(before: Before, form: u32, user: Shape, object: Shape, rule: RuleValue) -> Fault
-    requires { ⌜ (rule .count ≤ wordPlaces) × Sized user × Sized object ⌝ }
-    ensures { λ r. ⌜ ((p : policy.Policy) (x : policy.Rule) → Sides form user object p → rule ≡ ruleValue x → r ≡ ruleFault before p x) ⌝ }
+fn check(least: u32, form: u32, user: Shape, object: Shape, rule: RuleValue) -> Fault
+    requires { ⌜ (rule .count ≤ wordPlaces) × (user .attributes ≤ widthPlaces) × (object .attributes ≤ widthPlaces) ⌝ }
+    ensures { λ r. ⌜ r ≡ ruleFault least form (bothIn user object) (ruleOf rule) ⌝ }
 {
     if in_range(form, user, object, rule) {
-        if crate::admit::rises(before, Kind::Rule, rule.action) {
+        if least <= rule.action {
             return formula(user, object, rule);
         }
         return Fault::Is(Refusal::NotRising);
@@ -120,17 +124,17 @@ fn check(before: Before, form: u32, user: Shape, object: Shape, rule: RuleValue)
     Fault::Is(Refusal::OutOfRange)
 }
 
-// The rule of a line, or what the line breaks.
+// The rule of a line, or what the line breaks; `least` is the least action that rises above the rule before.
 pub fn admit(
     action: u32,
     line: &[u8],
-    before: Before,
+    least: u32,
     form: u32,
     user: Shape,
     object: Shape,
 ) -> RuleLine
-    requires { ⌜ (countFits kind.Rule (length (fields (now line))) ≡ true) × Sized user × Sized object ⌝ }
-    ensures { λ r. ⌜ ((p : policy.Policy) → Sides form user object p → r ≡ admittedRule before p action (drop 2 (fields (now (line .entry))))) ⌝ }
+    requires { ⌜ (countFits layout.Formula (length (fields (now line))) ≡ true) × (user .attributes ≤ widthPlaces) × (object .attributes ≤ widthPlaces) ⌝ }
+    ensures { λ r. ⌜ r ≡ admittedRule least form (bothIn user object) action (fields (now (line .entry))) ⌝ }
 {
     let x = parse(action, line);
     let f = x.fault;
@@ -138,6 +142,6 @@ pub fn admit(
         return x;
     };
     let rule = x.rule;
-    let fault = check(before, form, user, object, rule);
+    let fault = check(least, form, user, object, rule);
     RuleLine { fault, rule }
 }

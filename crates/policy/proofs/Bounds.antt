@@ -2,7 +2,7 @@
 -- lists fit their arrays.
 use Prim.Native.Nat.{ℕ, zero, suc, _+_, _≤_, _<_}
 use mathlib.Core.Path.{_≡_, refl, ap}
-use mathlib.Core.Bool.{true, _&&_}
+use mathlib.Core.Bool.{Bool, true, _&&_}
 use mathlib.Core.List.{List, [], _∷_, _++_, List·Memᴰ, List·Memᴰ·head, List·Memᴰ·tail, List·Memᴰ·not-nil}
 use mathlib.Core.Logic.{⊎-elim}
 use mathlib.Core.Option.{Option, none, some}
@@ -24,7 +24,7 @@ use Rattle.words.specs.declared.Comparison.the-variants.{Dominates, Equals}
 use Rattle.words.specs.Inner.{inDigits}
 use Rattle.policy.specs.Limits.{values, actions, mostValues, userNumbers, objectNumbers, mostLines}
 use Rattle.policy.specs.Policy.{Side, Rule, Policy, total, sets, attributeOf}
-use Rattle.policy.specs.Checks.{sideSizes, sizes, widthFits, pairFits, entryFits, bothThere, wordFits}
+use Rattle.policy.specs.Checks.{SideSizes, sideSizes, sizes, widthFits, pairFits, entryFits, bothThere, wordFits}
 use Rattle.policy.specs.Value.{widthPlaces, entryPlaces, rulePlaces, linePlaces}
 use Rattle.policy.specs.Inner.Sound.{widthsSound, ruleSound, listsSound}
 use Rattle.policy.specs.declared.value.Entry.{Entry}
@@ -85,18 +85,18 @@ module _ (most : ℕ) where
 -- ---- seniorities
 
 -- V and J of a line that passes check 6
-pub record Pair (s : Side) (v j : ℕ) : Type 0 where
-  pub value : v < total s
+pub record Pair (s : SideSizes) (v j : ℕ) : Type 0 where
+  pub value : v < s .values
   pub same : attributeOf (s .widths) v ≡ attributeOf (s .widths) j
   pub above : j < v
 
-pub pair-fits : (s : Side) (v j : ℕ) → pairFits (sideSizes s) v j ≡ true → Pair s v j
+pub pair-fits : (s : SideSizes) (v j : ℕ) → pairFits s v j ≡ true → Pair s v j
 unfolding pairFits
 pair-fits s v j e =
-    let e₁ = and-right (ltb v (total s)) _ e in
-    let e₂ = and-right (ltb j (total s)) _ e₁ in
+    let e₁ = and-right (ltb v (s .values)) _ e in
+    let e₂ = and-right (ltb j (s .values)) _ e₁ in
     record {
-      value = ltb-true v (total s) (and-left _ _ e);
+      value = ltb-true v (s .values) (and-left _ _ e);
       same = eqb-true _ _ (and-left (eqb (attributeOf (s .widths) v) (attributeOf (s .widths) j)) _ e₂);
       above = ltb-true j v (and-right (eqb (attributeOf (s .widths) v) (attributeOf (s .widths) j)) _ e₂);
     }
@@ -111,23 +111,37 @@ unfolding triangle
 triangle-up m zero h = let e : m ≡ 0 = omega arith in rw e (omega arith)
 triangle-up m (suc n) h = elim (decLt m (suc n)) [ yes l ↦ omega (arith, triangle-up m n (omega arith)) | no l ↦ let e : m ≡ suc n = omega arith in rw e (omega arith) ]
 
+-- as many pairs as there are lines at most
+triangle-most : triangle mostValues ≤ mostLines
+unfolding triangle
+triangle-most = lit≤ tt
+
 -- a pair's place among all pairs that go down
 rank : Direct → ℕ
 rank l = triangle (l .senior) + l .junior
 
-rank-low : (s : Side) (l : Direct) → lineFits s l ≡ true → rank l < triangle (total s)
-unfolding rank triangle
-rank-low s l e = let f = pair-fits s (l .senior) (l .junior) e in omega (arith, triangle-up (suc (l .senior)) (total s) (f .value), f .above)
+module _ (s : SideSizes) where
+  abbrev fits : Direct → Bool
+  fits l = pairFits s (l .senior) (l .junior)
 
-rank-up : (s : Side) (m l : Direct) → lineFits s m ≡ true → lineAbove m l ≡ true → rank m < rank l
-unfolding rank triangle
-rank-up s m l e a =
-    let f = pair-fits s (m .senior) (m .junior) e in
-    ⊎-elim
-    (λ h. omega (arith, triangle-up (suc (m .senior)) (l .senior) (ltb-true (m .senior) (l .senior) h), f .above))
-    (λ h. let q = eqb-true (m .senior) (l .senior) (and-left _ _ h) in
-    omega (arith, ap triangle q, ltb-true (m .junior) (l .junior) (and-right (eqb (m .senior) (l .senior)) _ h)))
-    (or-cases (ltb (m .senior) (l .senior)) _ a)
+  rank-low : (l : Direct) → fits l ≡ true → rank l < triangle (s .values)
+  unfolding rank triangle
+  rank-low l e = let f = pair-fits s (l .senior) (l .junior) e in omega (arith, triangle-up (suc (l .senior)) (s .values) (f .value), f .above)
+
+  rank-up : (m l : Direct) → fits m ≡ true → lineAbove m l ≡ true → rank m < rank l
+  unfolding rank triangle
+  rank-up m l e a =
+      let f = pair-fits s (m .senior) (m .junior) e in
+      ⊎-elim
+      (λ h. omega (arith, triangle-up (suc (m .senior)) (l .senior) (ltb-true (m .senior) (l .senior) h), f .above))
+      (λ h. let q = eqb-true (m .senior) (l .senior) (and-left _ _ h) in
+      omega (arith, ap triangle q, ltb-true (m .junior) (l .junior) (and-right (eqb (m .senior) (l .senior)) _ h)))
+      (or-cases (ltb (m .senior) (l .senior)) _ a)
+
+  -- pairs that rise: one for each two values at most
+  pub pairs-few : s .values ≤ mostValues → (ls : List Direct) → rising fits lineAbove none ls ≡ true → length ls ≤ mostLines
+  pairs-few h ls e =
+      le-trans (rising-few fits lineAbove rank (triangle (s .values)) rank-low rank-up ls e) (le-trans (triangle-up (s .values) mostValues h) triangle-most)
 
 -- no upper value falls
 from-lower : (v w : ℕ) (ls : List Direct) → v ≤ w → From w ls → From v ls
@@ -153,7 +167,7 @@ module _ (s : Side) where
   ordered b [] e = tt
   ordered b (l ∷ ls) e =
       let h = head (lineFits s) lineAbove b l ls e in
-      let f = pair-fits s (l .senior) (l .junior) (h .fits-it) in
+      let f = pair-fits (sideSizes s) (l .senior) (l .junior) (h .fits-it) in
       (f .above, f .value, lines-from l ls (h .rest), ordered (some l) ls (h .rest))
 
 -- ---- a side
@@ -172,12 +186,6 @@ module _ (most : ℕ) (s : Side) (h : SideParts most s) where
 
   pub lines-ordered : Ordered (total s) (s .lines)
   lines-ordered = ordered s none (s .lines) (h .lines)
-
-  -- a pair for each two values at most
-  lines-few : length (s .lines) ≤ triangle most
-  lines-few =
-      le-trans (rising-few (lineFits s) lineAbove rank (triangle (total s)) (rank-low s) (rank-up s) (s .lines) (h .lines))
-      (triangle-up (total s) most total-most)
 
 -- a side of any form
 pub total-few : (form : ℕ) (s : Side) → SideParts (values form) s → total s ≤ mostValues
@@ -253,16 +261,11 @@ pub record Within (p : Policy) : Type 0 where
   pub objects : length (p .objects) ≤ entryPlaces
   pub rules : length (p .rules) ≤ rulePlaces
 
--- as many pairs as there are lines at most
-triangle-most : triangle mostValues ≤ mostLines
-unfolding triangle
-triangle-most = lit≤ tt
-
 side-within : (form : ℕ) (s : Side) → SideParts (values form) s → WithinSide s
 side-within form s h =
     record {
       widths = le-trans (attributes-few (values form) s h) (total-few form s h);
-      lines = le-trans (lines-few (values form) s h) (le-trans (triangle-up (values form) mostValues (values-most form)) triangle-most);
+      lines = pairs-few (sideSizes s) (total-few form s h) (s .lines) (h .lines);
     }
 
 pub parts-within : (p : Policy) → Parts p → Within p

@@ -10,6 +10,7 @@ use Rattle.text.specs.Number.{mostDigits}
 use Rattle.text.specs.declared.number.Numbers.{Numbers}
 use Rattle.policy.specs.Limits.{values, actions, objectNumbers}
 use Rattle.policy.specs.Policy.{Side}
+use Rattle.policy.specs.Checks.{sideSizes}
 use Rattle.policy.specs.Line.{noNumbers, oneNumber, twoNumbers}
 use Rattle.policy.specs.declared.value.Entry.{Entry}
 use Rattle.policy.proofs.Forms.{values-most, actions-most}
@@ -43,7 +44,7 @@ module _ (form : ℕ) where
   module _ (s : Side) (h : SideParts (values form) s) where
     pub pair-short : (l : Direct) → lineFits s l ≡ true → Shorts (twoNumbers (l .senior) (l .junior))
     pair-short l f =
-        let b = pair-fits s (l .senior) (l .junior) f in
+        let b = pair-fits (sideSizes s) (l .senior) (l .junior) f in
         let m = total-few form s h in
         two-short (l .senior) (l .junior) (omega (arith, b .value)) (omega (arith, b .value, b .above))
 

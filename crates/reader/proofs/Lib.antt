@@ -1,5 +1,12 @@
-pub mod Stored
 pub mod Places
+pub mod Cursors
 pub mod Rising
-pub mod States
-pub mod Turns
+pub mod Runs
+pub mod FormLine
+pub mod WidthLines
+pub mod PairLines
+pub mod EntryLines
+pub mod RuleLines
+pub mod Sections
+pub mod Answers
+pub mod Whole

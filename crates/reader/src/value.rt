@@ -1,15 +1,11 @@
 // The policy value before the first line.
 ghost use mathlib.Core.Path.{_≡_};
 ghost use mathlib.Core.List.{[]};
-ghost use Prim.Native.Nat.{_^_, _<_, _≤_};
-ghost use lib.ListN.{take};
-ghost use Rattle.basis.specs.Lists.{sum};
-ghost use Rattle.checks.specs.Sides.{Shaped};
 ghost use Rattle.policy.specs.Policy as policy;
-ghost use Rattle.policy.specs.Value.{widthPlaces, sideValue, register, rulesValue, valueOf};
-use checks::side::Shape;
+ghost use Rattle.policy.specs.Value.{sideValue, register, rulesValue, valueOf};
 use policy::value::ENTRY_PLACES;
 use policy::value::Entry;
+use policy::value::LINE_PLACES;
 use policy::value::PolicyValue;
 use policy::value::RULE_PLACES;
 use policy::value::Register;
@@ -20,7 +16,6 @@ use policy::value::Slot;
 use policy::value::WIDTH_PLACES;
 use policy::value::WORD_PLACES;
 use seniority::Direct;
-use policy::value::LINE_PLACES;
 use words::Word;
 
 pub fn no_lines() -> SideValue
@@ -71,13 +66,4 @@ pub fn blank() -> PolicyValue
         objects: entries,
         rules,
     }
-}
-
-// The shape of a side.
-pub fn shape(side: SideValue) -> Shape
-    requires { ⌜ (side .attributes ≤ widthPlaces) × (sum (take (side .attributes) (side .widths)) < 2 ^ 32) ⌝ }
-    ensures { λ r. ⌜ ((s : policy.Side) → side ≡ sideValue s → Shaped r s) ⌝ }
-{
-    let widths = side.widths;
-    checks::side::measure(widths, side.attributes)
 }

@@ -2,4 +2,3 @@ pub mod Short
 pub mod Tuples
 pub mod Reading
 pub mod Enough
-pub mod Examples

@@ -52,7 +52,7 @@ fn told(text: &[u8], witness: Witness, one: u32, other: u32) -> u32 {
 
 // `P`: Apart.
 pub fn apart(a: &[u32; NUMBERS], text: &[u8]) -> Found {
-    let answer = labels::apart::apart(policy_of(text), a[2], a[3]);
+    let answer = labels::apart(policy_of(text), a[2], a[3]);
     match answer {
         Apartness::Alike => found::bare(found::ALIKE),
         Apartness::Apart(witness) => found::bare(told(text, witness, a[2], a[3])),

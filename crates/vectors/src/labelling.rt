@@ -41,7 +41,7 @@ pub fn compiled(tag: u8, a: &[u32; NUMBERS], n: usize, text: &[u8]) -> Found {
     let mut users = [BLANK; SETS];
     let mut objects = [BLANK; SETS];
     let mut table = [BLANK; PAIRS];
-    let compiled = labels::compiler::compile(
+    let compiled = labels::compile(
         policy_of(text),
         buffers::first(&mut users, cursor::size(a[2])),
         buffers::first(&mut objects, cursor::size(a[3])),

@@ -116,6 +116,6 @@ pub fn played(a: &[u32; NUMBERS], n: usize, text: &[u8]) -> Found {
     let mut users = [BLANK; SETS];
     let mut objects = [BLANK; SETS];
     let mut table = [BLANK; PAIRS];
-    labels::compiler::compile(policy_of(text), &mut users, &mut objects, &mut table);
+    labels::compile(policy_of(text), &mut users, &mut objects, &mut table);
     run(a, n, text, &users, &objects, &table)
 }

@@ -3,8 +3,8 @@ use mathlib.Core.Path.{refl, sym, _∙_}
 use mathlib.Core.Bool.{true, false}
 use borrow.Author.Needs.{needs}
 use Rattle.policy.specs.Value.{policyOf}
-use Rattle.formula.proofs.Checked.{valid-fits}
 use Rattle.formula.specs.Truth.{at}
+use Rattle.formula.proofs.Checked.{valid-fits}
 use Rattle.formula.proofs.Answers.{sets-fit, no-action, no-set, by-formula}
 use Rattle.formula.proofs.answer.Statement.{statement}
 use Rattle.formula.proofs.answer.Tie as tie

@@ -1,6 +1,6 @@
 -- `formula::attributes::lacks` meets its contract: a set is one of its side's where it is below their number.
-use mathlib.Core.Path.{ap}
 use Prim.Native.Nat.{ℕ}
+use mathlib.Core.Path.{ap}
 use lib.Dec.{leb}
 use borrow.Author.Needs.{needs}
 use borrow.Author.Tests.{le-leb, lt-leb}

@@ -83,7 +83,7 @@ loop-again c =
       l .inv .1,
       simp length-set (l .inv .2),
       stored-next (Numbered (sideOf (a .object)) n) noBlock (l .objects) (l .b) (c .objects-from .result)
-      (omega (arith, l .inv .2)) (l .inv .3) (c .objects-from .ensures),
+          (omega (arith, l .inv .2)) (l .inv .3) (c .objects-from .ensures),
     )
 
 returns : tie.Need-returns Inv-loop μ-loop

@@ -6,10 +6,10 @@ use mathlib.Core.Logic.{⊎-elim}
 use native.Mathlib.Omega.{arith}
 use lib.ListN.{getD}
 use borrow.Author.Tests.{eq-eqb, ne-eqb}
+use borrow.Author.Needs.{needs}
 use Rattle.sets.specs.Set.{has, setOf}
 use Rattle.policy.specs.Limits.{mostActions}
 use Rattle.formula.proofs.Granting.{bit-fits, bit-shifted, setOf-next}
-use borrow.Author.Needs.{needs}
 use Rattle.formula.proofs.entries.entry.Statement.{statement}
 use Rattle.formula.proofs.entries.entry.Tie as tie
 

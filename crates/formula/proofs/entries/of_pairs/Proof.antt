@@ -4,6 +4,7 @@ use mathlib.Core.Path.{_≡_, refl}
 use native.Mathlib.Nat.{not-suc-le-zero}
 use native.Mathlib.Omega.{arith}
 use lib.ListN.{length, getD, length-set}
+use borrow.Author.Needs.{needs}
 use Rattle.basis.proofs.Lists.{long}
 use Rattle.basis.proofs.Places.{stored-next}
 use Rattle.sets.specs.Set.{has}
@@ -13,7 +14,6 @@ use Rattle.policy.proofs.Forms.{actions-most}
 use Rattle.formula.specs.Truth.{Sets, grants}
 use Rattle.formula.specs.Inner.Grant.{noGrant, GrantOf}
 use Rattle.formula.specs.Inner.Lane.{AttributesOf, InLane}
-use borrow.Author.Needs.{needs}
 use Rattle.formula.proofs.entries.of_pairs.Statement.{statement}
 use Rattle.formula.proofs.entries.of_pairs.Tie as tie
 

@@ -1,7 +1,7 @@
 -- `formula::evaluate::below_top` meets its contract.
 use native.Mathlib.Omega.{arith}
-use Rattle.formula.proofs.Stack.{below-none, below-some}
 use borrow.Author.Needs.{needs}
+use Rattle.formula.proofs.Stack.{below-none, below-some}
 use Rattle.formula.proofs.evaluate.below_top.Statement.{statement}
 use Rattle.formula.proofs.evaluate.below_top.Tie as tie
 

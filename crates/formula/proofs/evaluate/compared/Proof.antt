@@ -1,7 +1,7 @@
 -- `formula::evaluate::compared` meets its contract, by the comparison.
 use mathlib.Core.Path.{sym, ap, _∙_}
-use Rattle.formula.specs.Truth.{compares}
 use borrow.Author.Needs.{needs}
+use Rattle.formula.specs.Truth.{compares}
 use Rattle.formula.proofs.evaluate.compared.Statement.{statement}
 use Rattle.formula.proofs.evaluate.compared.Tie as tie
 

@@ -1,8 +1,8 @@
 -- `formula::evaluate::held` meets its contract, by the side that the word names.
 use mathlib.Core.Path.{sym, ap, _∙_}
+use borrow.Author.Needs.{needs}
 use Rattle.seniority.specs.Seniority.{heldOrSenior, heldOrJunior}
 use Rattle.formula.specs.Truth.{holds}
-use borrow.Author.Needs.{needs}
 use Rattle.formula.proofs.evaluate.held.Statement.{statement}
 use Rattle.formula.proofs.evaluate.held.Tie as tie
 

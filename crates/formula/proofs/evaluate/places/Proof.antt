@@ -2,13 +2,13 @@
 use Prim.Native.Nat.{ℕ, _+_, _-_, _≤_}
 use mathlib.Core.Path.{_≡_, ap₂, _∙_}
 use native.Mathlib.Omega.{arith}
+use borrow.Author.Needs.{needs}
 use Rattle.basis.specs.Numbers.{every}
 use Rattle.sets.specs.Set.{has}
 use Rattle.policy.specs.Policy.{Policy}
 use Rattle.formula.specs.Truth.{Sets}
 use Rattle.formula.specs.Inner.Lane.{InLane, passes}
 use Rattle.formula.proofs.Vectors.{has-ones, every-next}
-use borrow.Author.Needs.{needs}
 use Rattle.formula.proofs.evaluate.places.Statement.{statement}
 use Rattle.formula.proofs.evaluate.places.Tie as tie
 

@@ -1,6 +1,6 @@
 -- `formula::evaluate::top_of` meets its contract: 0 lies below an empty stack.
-use Rattle.formula.proofs.Stack.{top-none, top-some}
 use borrow.Author.Needs.{needs}
+use Rattle.formula.proofs.Stack.{top-none, top-some}
 use Rattle.formula.proofs.evaluate.top_of.Statement.{statement}
 use Rattle.formula.proofs.evaluate.top_of.Tie as tie
 

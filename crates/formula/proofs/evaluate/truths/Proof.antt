@@ -4,13 +4,13 @@ use mathlib.Core.Path.{_≡_, refl, ap, _∙_}
 use mathlib.Core.List.{[]}
 use native.Mathlib.Omega.{arith}
 use lib.ListN.{length, length-set}
+use borrow.Author.Needs.{needs}
 use Rattle.basis.proofs.Lists.{long}
 use Rattle.policy.specs.Policy.{Policy}
 use Rattle.policy.specs.Value.{wordPlaces}
 use Rattle.formula.specs.Truth.{Sets, top, run, truth}
 use Rattle.formula.specs.Inner.Lane.{AttributesOf, InLane, wordsOf, column}
 use Rattle.formula.proofs.Stack.{column-next}
-use borrow.Author.Needs.{needs}
 use Rattle.formula.proofs.evaluate.truths.Statement.{statement}
 use Rattle.formula.proofs.evaluate.truths.Tie as tie
 

@@ -3,11 +3,11 @@ use mathlib.Core.Path.{ap, ap₂, _∙_}
 use mathlib.Core.Bool.{Bool, not, _&&_, _||_}
 use mathlib.Core.List.{List, _∷_}
 use native.Mathlib.Omega.{arith}
+use borrow.Author.Needs.{needs}
 use Rattle.sets.proofs.Laws.{has-zero, has-meet, has-union}
 use Rattle.formula.specs.Truth.{top, below, step}
 use Rattle.formula.specs.Inner.Lane.{column}
 use Rattle.formula.proofs.Vectors.{has-ones, has-not}
-use borrow.Author.Needs.{needs}
 use Rattle.formula.proofs.evaluate.worked.Statement.{statement}
 use Rattle.formula.proofs.evaluate.worked.Tie as tie
 

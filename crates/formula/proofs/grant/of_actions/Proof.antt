@@ -4,13 +4,13 @@ use mathlib.Core.Path.{_≡_, refl, sym, ap, _∙_}
 use native.Mathlib.Nat.{not-suc-le-zero}
 use native.Mathlib.Omega.{arith}
 use lib.ListN.{length, getD, length-set}
+use borrow.Author.Needs.{needs}
 use Rattle.basis.proofs.Places.{stored-next}
 use Rattle.policy.specs.Limits.{actions, mostActions}
 use Rattle.policy.specs.Policy.{Policy}
 use Rattle.policy.specs.Value.{rulesOf}
 use Rattle.policy.proofs.Forms.{actions-most}
 use Rattle.formula.specs.Inner.Grant.{noGrant, GrantOf}
-use borrow.Author.Needs.{needs}
 use Rattle.formula.proofs.grant.of_actions.Statement.{statement}
 use Rattle.formula.proofs.grant.of_actions.Tie as tie
 

@@ -1,7 +1,7 @@
 -- `formula::side::column` meets its contract: bit v lies past the part, or is the number's bit from + v.
 use mathlib.Core.Path.{sym, _∙_}
-use borrow.Author.Needs.{needs}
 use native.Mathlib.Omega.{arith}
+use borrow.Author.Needs.{needs}
 use Rattle.sets.proofs.Laws.{has-zero}
 use Rattle.formula.proofs.Vectors.{bit-past, bit-in}
 use Rattle.formula.proofs.side.column.Statement.{statement}

@@ -4,7 +4,6 @@ use mathlib.Core.Path.{_≡_, ap}
 use native.Mathlib.Omega.{arith}
 use borrow.Author.Needs.{needs}
 use Rattle.policy.specs.Limits.{mostPairs}
-
 use Rattle.labels.proofs.Grids.{place-below, Entered, entered-more, entered-count, entered-all}
 use Rattle.labels.proofs.grid.fill.Statement.{statement}
 use Rattle.labels.proofs.grid.fill.Tie as tie

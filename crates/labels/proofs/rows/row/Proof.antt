@@ -20,7 +20,6 @@ use Rattle.formula.specs.Inner.Source.{blocksOf, noBlock, SourceOf}
 use Rattle.formula.specs.declared.blocks.Source.{Source}
 use Rattle.formula.proofs.Numbering.{blocks-cover}
 use Rattle.labels.specs.Compile.{entryOf}
-use borrow.Author.Needs.{needs}
 use Rattle.labels.proofs.rows.row.Statement.{statement}
 use Rattle.labels.proofs.rows.row.Tie as tie
 

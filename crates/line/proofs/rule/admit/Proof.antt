@@ -1,9 +1,5 @@
 -- `line::rule::admit` meets its contract: a word in no form comes first.
-use denote.Ref.{now}
-use lib.ListN.{drop}
-use Rattle.text.specs.Parts.{fields}
-use Rattle.line.specs.Admit.{ruleOf}
-use Rattle.line.proofs.Rules.{rule-held, rule-few, words-few, admitted-before, admitted-now}
+use Rattle.line.proofs.Rules.{rule-few, admitted-before, admitted-now}
 use borrow.Author.Needs.{needs}
 use Rattle.line.proofs.rule.admit.Statement.{statement}
 use Rattle.line.proofs.rule.admit.Tie as tie
@@ -18,18 +14,13 @@ enum-told-2 : tie.Need-enum-told-2
 enum-told-2 c = search needs
 
 returns : tie.Need-returns
-returns c = λ p s. search admitted-before
+returns c = search admitted-before
 
 check-requires : tie.Need-check-requires
-check-requires c κs = (search (rule-few, words-few), search needs, search needs)
+check-requires c κs = (search rule-few, search needs, search needs)
 
 returns-2 : tie.Need-returns-2
-returns-2 c = λ p s.
-    let a = c .before .before .before .before .before .before .args in
-    let fs = drop 2 (fields (now (a .line))) in
-    let z = c .before .before .before .before .parse in
-    let q = c .check .ensures p (ruleOf (a .action) fs) s (rule-held (a .action) fs (z .result) (z .ensures) (search needs)) in
-    search admitted-now
+returns-2 c = search admitted-now
 
 pub admit-spec : {M : Type 1} → statement M
 admit-spec =

@@ -7,22 +7,19 @@ use Rattle.line.proofs.rule.check.Tie as tie
 in-range-requires : tie.Need-in-range-requires
 in-range-requires c κs = search needs
 
-rises-requires : tie.Need-rises-requires
-rises-requires c κs = search needs
-
 formula-requires : tie.Need-formula-requires
 formula-requires c κs = search needs
 
 returns : tie.Need-returns
-returns c = λ p x s e. let q = c .before .before .before .before .in-range .ensures p x s e in let z = c .formula .ensures (c .before .before .before .before .before .args .form) p x s e in search rule-formula
+returns c = search rule-formula
 
 returns-2 : tie.Need-returns-2
-returns-2 c = λ p x s e. let q = c .before .before .before .in-range .ensures p x s e in search rule-level
+returns-2 c = search rule-level
 
 returns-3 : tie.Need-returns-3
-returns-3 c = λ p x s e. let q = c .before .in-range .ensures p x s e in search rule-range
+returns-3 c = search rule-range
 
 pub check-spec : {M : Type 1} → statement M
 check-spec =
     tie.close
-    (tie.spec in-range-requires rises-requires formula-requires returns returns-2 returns-3)
+    (tie.spec in-range-requires formula-requires returns returns-2 returns-3)

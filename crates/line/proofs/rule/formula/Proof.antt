@@ -11,13 +11,13 @@ balanced-requires : tie.Need-balanced-requires
 balanced-requires c κs = search needs
 
 returns : tie.Need-returns
-returns c = λ form p x s e. search formula-fine
+returns c = search formula-fine
 
 returns-2 : tie.Need-returns-2
-returns-2 c = λ form p x s e. search formula-unbalanced
+returns-2 c = search formula-unbalanced
 
 returns-3 : tie.Need-returns-3
-returns-3 c = λ form p x s e. search formula-unequal
+returns-3 c = search formula-unequal
 
 pub formula-spec : {M : Type 1} → statement M
 formula-spec =

@@ -11,10 +11,10 @@ all-fit-requires : tie.Need-all-fit-requires
 all-fit-requires c κs = search needs
 
 returns : tie.Need-returns
-returns c = λ p x s e. search range-words
+returns c = search range-words
 
 returns-2 : tie.Need-returns-2
-returns-2 c = λ p x s e. search range-action
+returns-2 c = search range-action
 
 pub in-range-spec : {M : Type 1} → statement M
 in-range-spec = tie.close (tie.spec actions-requires all-fit-requires returns returns-2)

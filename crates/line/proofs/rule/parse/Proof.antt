@@ -3,7 +3,7 @@ use denote.Ref.{now}
 use mathlib.Core.Path.{refl, ap, _∙_}
 use lib.ListN.{length}
 use Rattle.text.specs.Parts.{fields}
-use Rattle.line.specs.Admit.{ruleIn}
+use Rattle.line.specs.Inner.Rule.{ruleIn}
 use Rattle.line.proofs.Fields.{comma-there}
 use Rattle.line.proofs.Rules.{rule-count, words-there, words-are, words-few}
 use borrow.Author.Needs.{needs}

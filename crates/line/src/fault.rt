@@ -1,7 +1,0 @@
-// What a line breaks.
-use policy::refusal::Refusal;
-
-pub enum Fault {
-    None,
-    Is(Refusal),
-}

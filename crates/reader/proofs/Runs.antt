@@ -1,0 +1,100 @@
+-- The lines of one kind, read one after the other: none yet, one more, one that is refused, and the end of them.
+use Prim.Native.Nat.{ℕ, suc, _≤_}
+use mathlib.Core.Path.{_≡_, refl, sym, ap, _∙_}
+use mathlib.Core.Bool.{Bool, true, false, not}
+use mathlib.Core.List.{List, [], _∷_, _++_}
+use mathlib.Core.Option.{none, some}
+use Rattle.basis.specs.Choice.{check, lowest}
+use Rattle.basis.specs.Lists.{all}
+use Rattle.text.specs.Kind.{layoutOf, placeOf}
+use Rattle.text.specs.declared.kind.Kind.{Kind}
+use Rattle.text.specs.declared.kind.Layout.{Layout}
+use Rattle.text.specs.declared.kind.Layout.the-variants.{One, Two}
+use Rattle.policy.specs.Answers.{numberOf}
+use Rattle.policy.specs.Checks.{sizes, inRange, rises, balances, withLineOf}
+use Rattle.policy.specs.Line.{formFits, numbersOf, wordsOf, lineOf}
+use Rattle.policy.specs.Policy.{Policy}
+use Rattle.policy.specs.declared.refusal.Refusal.{Refusal}
+use Rattle.policy.specs.declared.refusal.Refusal.the-variants.{OutOfRange, NotRising}
+use Rattle.line.specs.Inner.Head.{numbersFit}
+use Rattle.reader.specs.Inner.Cursor.{fieldsAt, refusalAt, left, bareAt, LineAt, Stands, NextOf, aheadIs}
+use Rattle.reader.specs.Inner.Lists.{Listed, ReadBy}
+use Rattle.reader.specs.declared.cursor.Ahead.the-variants.{Line, Fault}
+use Rattle.reader.specs.declared.cursor.Cursor.{Cursor}
+use Rattle.reader.proofs.Cursors.{fault-bare, ahead-not, next-past, left-taken, left-refused}
+
+-- ---- a line without words
+
+-- a layout without words
+record Wordless (x : Layout) : Type 0 where
+  form : (fs : List (List ℕ)) → formFits x fs ≡ numbersFit x fs
+  words : (fs : List (List ℕ)) → wordsOf x fs ≡ []
+  balance : balances x [] ≡ true
+
+one-wordless : Wordless One
+unfolding numbersFit wordsOf balances
+one-wordless = record { form = λ fs. refl; words = λ fs. refl; balance = refl }
+
+two-wordless : Wordless Two
+unfolding numbersFit wordsOf balances
+two-wordless = record { form = λ fs. refl; words = λ fs. refl; balance = refl }
+
+module _ (t : List ℕ) (c : Cursor) (k : Kind) (l : LineAt t c k) (p : Policy) (i r : Bool) where
+  -- only 6 and 7 can be broken
+  module _ (w : Wordless (layoutOf k)) (e : inRange k (p .form) (sizes p) (c .numbers) [] ≡ i) (f : rises k p (c .numbers) ≡ r) where
+    plain-refusal : refusalAt p k (fieldsAt t c) ≡ lowest (check 6 (not i) ∷ check 7 (not r) ∷ [])
+    unfolding refusalAt lowest all
+    plain-refusal =
+        rw (w .form (fieldsAt t c), l .form, w .words (fieldsAt t c), w .balance, ← l .numbers, e, f) refl
+
+  pub one-refusal : layoutOf k ≡ One → inRange k (p .form) (sizes p) (c .numbers) [] ≡ i → rises k p (c .numbers) ≡ r
+      → refusalAt p k (fieldsAt t c) ≡ lowest (check 6 (not i) ∷ check 7 (not r) ∷ [])
+  one-refusal h = plain-refusal (rw h one-wordless)
+
+  pub two-refusal : layoutOf k ≡ Two → inRange k (p .form) (sizes p) (c .numbers) [] ≡ i → rises k p (c .numbers) ≡ r
+      → refusalAt p k (fieldsAt t c) ≡ lowest (check 6 (not i) ∷ check 7 (not r) ∷ [])
+  two-refusal h = plain-refusal (rw h two-wordless)
+
+-- ---- the lines
+
+module _ (t : List ℕ) (k : Kind) {A : Type 0} (Fits : Listed k A → Policy → Type 0) where
+  pub none-read : (c : Cursor) → Stands t c → ReadBy t k Fits (placeOf k) c c []
+  none-read c s =
+      record {
+        stands = s;
+        past = λ h. h;
+        left = λ x p f e. ap (left t c) (sym (x .same p) ∙ ap (λ (xs : List A). x .with xs p) e);
+      }
+
+  module _ {c d : Cursor} {xs : List A} (i : ReadBy t k Fits (placeOf k) c d xs) where
+    pub all-read : aheadIs (d .ahead) k ≡ false → ReadBy t k Fits (suc (placeOf k)) c d xs
+    all-read e = record { stands = i .stands; past = λ h j q. ahead-not (d .ahead) k j e q (i .past h j q); left = i .left }
+
+    module _ (e : d .ahead ≡ Line k) (b : Cursor) where
+      -- the line at d is taken, and says a
+      pub one-read : NextOf t d k b → (a : A)
+          → ((x : Listed k A) (p : Policy) → Fits x p → x .items p ≡ []
+          → (refusalAt (x .with xs p) k (fieldsAt t d) ≡ none) × (x .said (numbersOf (layoutOf k) (fieldsAt t d)) (wordsOf (layoutOf k) (fieldsAt t d)) ≡ a))
+          → ReadBy t k Fits (placeOf k) c b (xs ++ (a ∷ []))
+      one-read n a f =
+          record {
+            stands = n .stands;
+            past = λ h. next-past t d k b n;
+            left = λ x p g z.
+                let r = f x p g z in
+                let l = lineOf k (fieldsAt t d) in
+                let q : withLineOf l (x .with xs p) ≡ x .with (xs ++ (a ∷ [])) p =
+                x .extends (x .with xs p) (l .numbers) (l .words) ∙ rw (x .got xs p, r .1) (x .again xs (xs ++ (a ∷ [])) p) in
+                i .left x p g z ∙ left-taken t d k b e n (x .with xs p) (r .0) ∙ ap (left t b) q;
+          }
+
+      -- or it is refused
+      pub refused-read : (r : Refusal) → b ≡ bareAt (d .at) (d .line) (Fault r)
+          → ((x : Listed k A) (p : Policy) → Fits x p → x .items p ≡ [] → refusalAt (x .with xs p) k (fieldsAt t d) ≡ some (numberOf r))
+          → ReadBy t k Fits (placeOf k) c b xs
+      refused-read r q f =
+          record {
+            stands = rw q (λ j z. absurd (fault-bare r j z));
+            past = rw q (λ h j z. absurd (fault-bare r j z));
+            left = λ x p g z. i .left x p g z ∙ left-refused t d k r b e q (x .with xs p) (f x p g z);
+          }

@@ -1,0 +1,157 @@
+-- The lists of a text, one behind the other, make its policy.
+use Prim.Native.Nat.{ℕ, _≤_, _<_}
+use mathlib.Core.Path.{_≡_, refl, sym, ap, _∙_}
+use mathlib.Core.List.{List, []}
+use native.Mathlib.Omega.{arith}
+use borrow.Author.Tests.{lt-ltb, le-ltb}
+use lib.ListN.{length}
+use Rattle.basis.proofs.Padded.{take-padded}
+use Rattle.seniority.specs.declared.Direct.{Direct}
+use Rattle.text.specs.Kind.{placeOf}
+use Rattle.text.specs.Parts.{lines}
+use Rattle.text.specs.declared.kind.Kind.{Kind}
+use Rattle.text.specs.declared.kind.Kind.the-variants.{Uattr, Oattr, Usen, Osen, User, Object, End}
+use Rattle.policy.specs.Answers.{ReadAs}
+use Rattle.policy.specs.Checks.{SideSizes, sideSizes, withForm}
+use Rattle.policy.specs.Limits.{textBytes, mostValues, values, userNumbers, objectNumbers}
+use Rattle.policy.specs.Policy.{Side, Policy, blank, total}
+use Rattle.policy.specs.Read.{Outcome, Refused, start, readLines, readText}
+use Rattle.policy.specs.Value.{widthPlaces, sideValue, register, rulesValue, valueOf}
+use Rattle.policy.specs.declared.value.PolicyValue.{PolicyValue}
+use Rattle.policy.specs.declared.value.Reading.{Reading}
+use Rattle.policy.specs.declared.value.Register.{Register}
+use Rattle.policy.specs.declared.value.Rules.{Rules}
+use Rattle.policy.specs.declared.value.SideValue.{SideValue}
+use Rattle.policy.proofs.Forms.{values-most}
+use Rattle.checks.specs.Inner.{sizesIn, bothIn}
+use Rattle.checks.specs.declared.side.Shape.{Shape}
+use Rattle.line.specs.declared.head.Before.the-variants.{Start}
+use Rattle.reader.specs.Inner.Cursor.{left, Past, LookedAt}
+use Rattle.reader.specs.Inner.Lists.{shapeWith, withSides, Sized, WidthsFrom, SenioritiesFrom, EntriesFrom, RulesFrom, FormFrom, SidesFrom}
+use Rattle.reader.specs.declared.cursor.Cursor.{Cursor}
+use Rattle.reader.specs.declared.entries.EntriesRead.{EntriesRead}
+use Rattle.reader.specs.declared.form.FormRead.{FormRead}
+use Rattle.reader.specs.declared.rules.RulesRead.{RulesRead}
+use Rattle.reader.specs.declared.seniorities.SenioritiesRead.{SenioritiesRead}
+use Rattle.reader.specs.declared.sides.SidesRead.{SidesRead}
+use Rattle.reader.specs.declared.widths.WidthsRead.{WidthsRead}
+use Rattle.reader.proofs.Sections.{user-widths, object-widths, uattr, oattr, user-pairs, object-pairs, usen, osen, users, objects, user, object, rules, rule}
+
+-- ---- a side
+
+pub most-small : (most form : ℕ) → most ≡ values form → most ≤ mostValues
+most-small most form e = omega (arith, e, values-most form)
+
+pub widths-sized : {t : List ℕ} {k : Kind} {most : ℕ} {c : Cursor} {r : WidthsRead} → WidthsFrom t k most c r → most ≤ mostValues → Sized (r .shape)
+widths-sized w h =
+    record {
+      attributes = omega (arith, ap (λ (x : Shape). x .attributes) (w .shape), w .few, w .small, h);
+      total = omega (arith, ap (λ (x : Shape). x .total) (w .shape), w .small, h);
+    }
+
+-- the sizes that its shape says, and its value
+module _ (s : Side) (x : Shape) (e : x ≡ shapeWith (s .widths)) where
+  shape-sizes : sideSizes s ≡ sizesIn x
+  unfolding total
+  shape-sizes = rw (e, take-padded widthPlaces 0 (s .widths))
+
+  shape-total : total s ≡ x .total
+  unfolding total
+  shape-total = rw e
+
+module _ {t : List ℕ} {k : Kind} {c : Cursor} {x : Shape} {r : SenioritiesRead} (p : SenioritiesFrom t k x c r) (ws : List ℕ) (e : x ≡ shapeWith ws) where
+  abbrev sideFrom : Side
+  sideFrom = record { widths = ws; lines = p .pairs }
+
+  side-stored : r .side ≡ sideValue sideFrom
+  unfolding sideValue
+  side-stored = p .side ∙ (rw e)
+
+-- ---- both sides
+
+module _ {t : List ℕ} {c : Cursor} (l : LookedAt t 0 0 Start c) {f : FormRead} (g : FormFrom t c f) {most : ℕ} (m : most ≡ values (f .form)) (h : most ≤ mostValues)
+    {u : WidthsRead} (w : WidthsFrom t Uattr most (f .cursor) u) {o : WidthsRead} (v : WidthsFrom t Oattr most (u .cursor) o)
+    {a : SenioritiesRead} (p : SenioritiesFrom t Usen (u .shape) (o .cursor) a) {b : SenioritiesRead} (q : SenioritiesFrom t Osen (o .shape) (a .cursor) b) where
+  abbrev userSide : Side
+  userSide = record { widths = w .widths; lines = p .pairs }
+
+  abbrev objectSide : Side
+  objectSide = record { widths = v .widths; lines = q .pairs }
+
+  sides-left : readLines start 0 (lines t) ≡ left t (b .cursor) (withSides (f .form) userSide objectSide)
+  unfolding blank user-widths object-widths user-pairs object-pairs usen osen
+  sides-left =
+      let form = f .form in
+      let us : Side = record { widths = w .widths; lines = [] } in
+      let os : Side = record { widths = v .widths; lines = [] } in
+      let none : Side = record { widths = []; lines = [] } in
+      l .left blank
+      ∙ g .left blank refl
+      ∙ w .lines .left user-widths (withSides form none none) (record { kind = uattr; most = sym m }) refl
+      ∙ v .lines .left object-widths (withSides form us none) (record { kind = oattr; most = sym m }) refl
+      ∙ p .lines .left user-pairs (withSides form us os) (record { kind = usen; side = shape-sizes us (u .shape) (w .shape) }) refl
+      ∙ q .lines .left object-pairs (withSides form userSide os) (record { kind = osen; side = shape-sizes os (o .shape) (v .shape) }) refl
+
+  pub sides-read : SidesFrom t (record { form = f .form; user = record { value = a .side; shape = u .shape }; object = record { value = b .side; shape = o .shape }; cursor = b .cursor })
+  sides-read =
+      record {
+        user = userSide;
+        object = objectSide;
+        user-value = side-stored p (w .widths) (w .shape);
+        object-value = side-stored q (v .widths) (v .shape);
+        user-shape = w .shape;
+        object-shape = v .shape;
+        user-sized = widths-sized w h;
+        object-sized = widths-sized v h;
+        stands = q .lines .stands;
+        past = q .lines .past (p .lines .past (v .lines .past (w .lines .past (g .past))));
+        left = sides-left;
+      }
+
+-- ---- all lists
+
+value-made : (p : Policy) (a b : SideValue) (c d : Register) (e : Rules) → a ≡ sideValue (p .user) → b ≡ sideValue (p .object) → c ≡ register (p .users)
+    → d ≡ register (p .objects) → e ≡ rulesValue (p .rules)
+    → record { form = p .form; user = a; object = b; users = c; objects = d; rules = e } ≡ valueOf p
+unfolding valueOf
+value-made p a b c d e f g h i j = rw (f, g, h, i, j)
+
+module _ {t : List ℕ} {s : SidesRead} (h : SidesFrom t s)
+    {e : EntriesRead} (u : EntriesFrom t User userNumbers (s .user .shape .total) (s .cursor) e)
+    {f : EntriesRead} (o : EntriesFrom t Object objectNumbers (s .object .shape .total) (e .cursor) f)
+    {r : RulesRead} (l : RulesFrom t (s .form) (s .user .shape) (s .object .shape) (f .cursor) r) where
+  -- behind the rules only the end line may stand
+  pub lists-past : Past (placeOf End) (r .cursor)
+  lists-past = l .lines .past (o .lines .past (u .lines .past (h .past)))
+
+  abbrev policy : Policy
+  policy = record { form = s .form; user = h .user; object = h .object; users = u .entries; objects = o .entries; rules = l .list }
+
+  lists-left : readLines start 0 (lines t) ≡ left t (r .cursor) policy
+  unfolding users objects rules user object
+  lists-left =
+      let p = withSides (s .form) (h .user) (h .object) in
+      let q : Policy = record { form = s .form; user = h .user; object = h .object; users = u .entries; objects = []; rules = [] } in
+      let v : Policy = record { form = s .form; user = h .user; object = h .object; users = u .entries; objects = o .entries; rules = [] } in
+      h .left
+      ∙ u .lines .left users p (record { kind = user; total = shape-total (h .user) (s .user .shape) (h .user-shape) }) refl
+      ∙ o .lines .left objects q (record { kind = object; total = shape-total (h .object) (s .object .shape) (h .object-shape) }) refl
+      ∙ l .lines .left rules v
+      (record { kind = rule; form = refl; sizes = rw (shape-sizes (h .user) (s .user .shape) (h .user-shape), shape-sizes (h .object) (s .object .shape) (h .object-shape)) }) refl
+
+  pub lists-read : (x : Reading) (v : PolicyValue)
+      → v ≡ record { form = s .form; user = s .user .value; object = s .object .value; users = e .register; objects = f .register; rules = r .rules }
+      → ((p : Policy) → v ≡ valueOf p → ReadAs (left t (r .cursor) p) x) → ReadAs (readLines start 0 (lines t)) x
+  lists-read x v i g =
+      rw lists-left (g policy (i ∙ value-made policy (s .user .value) (s .object .value) (e .register) (f .register) (r .rules) (h .user-value) (h .object-value) (u .register) (o .register) (l .rules)))
+
+-- ---- the text
+
+module _ (t : List ℕ) (x : Reading) where
+  pub text-long : textBytes < length t → ReadAs (Refused 1 0) x → ReadAs (readText t) x
+  unfolding readText
+  text-long h a = rw (lt-ltb textBytes (length t) h) a
+
+  pub text-read : length t ≤ textBytes → ReadAs (readLines start 0 (lines t)) x → ReadAs (readText t) x
+  unfolding readText
+  text-read h a = rw (le-ltb textBytes (length t) h) a

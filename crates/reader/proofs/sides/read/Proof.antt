@@ -1,0 +1,46 @@
+use Rattle.reader.proofs.Whole.{most-small, widths-sized, sides-read}
+use borrow.Author.Needs.{needs}
+use Rattle.reader.proofs.sides.read.Statement.{statement}
+use Rattle.reader.proofs.sides.read.Tie as tie
+use Rattle.policy.proofs.limits.values.Reads as values-reads
+use Rattle.reader.proofs.cursor.look.Reads as look-reads
+use Rattle.reader.proofs.form.read.Reads as form-read-reads
+use Rattle.reader.proofs.seniorities.read.Reads as seniorities-read-reads
+use Rattle.reader.proofs.widths.read.Reads as widths-read-reads
+
+look-requires : tie.Need-look-requires
+look-requires c κs = search needs
+
+read-requires : tie.Need-read-requires
+read-requires c κs = search needs
+
+values-requires : tie.Need-values-requires
+values-requires c κs = search needs
+
+read-requires-2 : tie.Need-read-requires-2
+read-requires-2 c κs = (c .before .before .read .ensures .stands, most-small _ _ (c .values .ensures))
+
+read-requires-3 : tie.Need-read-requires-3
+read-requires-3 c κs = (c .before .before .read2 .ensures .lines .stands, most-small _ _ (c .before .before .before .values .ensures))
+
+read-requires-4 : tie.Need-read-requires-4
+read-requires-4 c κs = let z = widths-sized (c .before .before .before .before .before .read2 .ensures) (most-small _ _ (c .before .before .before .before .before .before .values .ensures)) in (c .before .before .read3 .ensures .lines .stands, z .attributes, z .total)
+
+read-requires-5 : tie.Need-read-requires-5
+read-requires-5 c κs = let z = widths-sized (c .before .before .before .before .before .read3 .ensures) (most-small _ _ (c .before .before .before .before .before .before .before .before .before .values .ensures)) in (c .before .before .read4 .ensures .lines .stands, z .attributes, z .total)
+
+returns : tie.Need-returns
+returns c = let a = c .before .before in let b = a .before .before .before .before .before .before in sides-read (b .before .before .before .before .before .before .before .look .ensures) (b .before .before .before .before .before .before .read .ensures) (b .before .before .before .before .values .ensures) (most-small _ _ (b .before .before .before .before .values .ensures)) (b .before .before .before .read2 .ensures) (b .read3 .ensures) (a .before .before .before .read4 .ensures) (a .read5 .ensures)
+
+pub read-spec : {M : Type 1} → statement M
+read-spec =
+    tie.close
+    (tie.spec
+    look-requires
+    read-requires
+    values-requires
+    read-requires-2
+    read-requires-3
+    read-requires-4
+    read-requires-5
+    returns)

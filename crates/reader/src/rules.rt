@@ -1,0 +1,44 @@
+// The rules of a text.
+ghost use Prim.Native.Nat.{_≤_};
+ghost use Rattle.policy.specs.Value.{widthPlaces};
+ghost use Rattle.reader.specs.Inner.Cursor.{Stands};
+ghost use Rattle.reader.specs.Inner.Lists.{RulesFrom};
+use crate::cursor::Cursor;
+use checks::side::Shape;
+use line::rule::Fault;
+use policy::value::Rules;
+use text::kind::Kind;
+
+pub struct RulesRead {
+    pub rules: Rules,
+    pub cursor: Cursor,
+}
+
+// The rules from the cursor on.
+pub fn read(text: &[u8], cursor: Cursor, form: u32, user: Shape, object: Shape) -> RulesRead
+    requires { ⌜ Stands (now text) cursor × (user .attributes ≤ widthPlaces) × (object .attributes ≤ widthPlaces) ⌝ }
+    ensures { λ r. ⌜ RulesFrom (now (text .entry)) form user object cursor r ⌝ }
+{
+    let mut rules = crate::value::no_rules();
+    // The least action that rises above the last.
+    let mut least = 0;
+    let mut c = cursor;
+    while crate::cursor::is_at(c, Kind::Rule) {
+        let at = c.at;
+        let end = c.end;
+        let action = c.numbers.first;
+        let x = line::rule::admit(action, &text[at..end], least, form, user, object);
+        let f = x.fault;
+        if let Fault::Is(r) = f {
+            c = crate::cursor::stop(c, r);
+        } else {
+            let rule = x.rule;
+            let i = rules.count;
+            rules.entries[i] = rule;
+            rules.count = i + 1;
+            least = action + 1;
+            c = crate::cursor::next(text, c, Kind::Rule);
+        }
+    }
+    RulesRead { rules, cursor: c }
+}

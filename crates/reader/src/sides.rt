@@ -1,0 +1,50 @@
+// The form of a text, and the user side and the object side.
+ghost use Rattle.reader.specs.Inner.Lists.{SidesFrom};
+use crate::cursor::Cursor;
+use checks::side::Shape;
+use line::head::Before;
+use policy::value::SideValue;
+use text::kind::Kind;
+
+// A side, and its shape.
+pub struct SideRead {
+    pub value: SideValue,
+    pub shape: Shape,
+}
+
+pub struct SidesRead {
+    pub form: u32,
+    pub user: SideRead,
+    pub object: SideRead,
+    pub cursor: Cursor,
+}
+
+// The lines of the form, the attributes and the seniorities, which a text starts with.
+pub fn read(text: &[u8]) -> SidesRead
+    ensures { λ r. ⌜ SidesFrom (now (text .entry)) r ⌝ }
+{
+    let c = crate::cursor::look(text, 0, 0, Before::Start);
+    let f = crate::form::read(text, c);
+    let c = f.cursor;
+    let most = policy::limits::values(f.form);
+    let u = crate::widths::read(text, c, Kind::Uattr, most);
+    let us = u.shape;
+    let c = u.cursor;
+    let o = crate::widths::read(text, c, Kind::Oattr, most);
+    let os = o.shape;
+    let c = o.cursor;
+    let u = crate::seniorities::read(text, c, Kind::Usen, us);
+    let value = u.side;
+    let user = SideRead { value, shape: us };
+    let c = u.cursor;
+    let o = crate::seniorities::read(text, c, Kind::Osen, os);
+    let value = o.side;
+    let object = SideRead { value, shape: os };
+    let cursor = o.cursor;
+    SidesRead {
+        form: f.form,
+        user,
+        object,
+        cursor,
+    }
+}
