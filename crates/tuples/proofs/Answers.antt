@@ -11,10 +11,10 @@ use Rattle.basis.specs.Lists.{any, over}
 use Rattle.policy.specs.Value.{policyOf}
 use Rattle.policy.specs.Valid.{valid}
 use Rattle.policy.specs.Answers.{refused, decided}
+use Rattle.policy.specs.Limits.{actions}
 use Rattle.policy.specs.declared.value.PolicyValue.{PolicyValue}
 use Rattle.formula.specs.Truth.{Sets}
 use Rattle.formula.specs.Decide.{lacking}
-use Rattle.policy.specs.Limits.{actions}
 use Rattle.tuples.specs.Tuples.{stored, tuples, list, listBuffer, decideByTuples}
 
 -- ---- listing

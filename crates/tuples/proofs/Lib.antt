@@ -3,4 +3,3 @@ pub mod Marked
 pub mod Numbering
 pub mod Pairs
 pub mod Answers
-pub mod Examples
