@@ -11,7 +11,7 @@ use Rattle.policy.specs.Valid.{valid}
 use Rattle.policy.specs.declared.value.PolicyValue.{PolicyValue}
 use Rattle.policy.proofs.Valid.{valid-stored}
 use Rattle.formula.proofs.Checked.{valid-fits}
-use Rattle.formula.proofs.Rows.{noWords, rule-at}
+use Rattle.formula.proofs.Granting.{noWords, rule-at}
 
 module _ (v : PolicyValue) (e : valid v ≡ true) where
   pub rules-few : v .rules .count ≤ rulePlaces
