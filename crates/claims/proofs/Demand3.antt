@@ -55,7 +55,7 @@ module _ (t : List ℕ) (p : Policy) (e : readText t ≡ Accepted p) where
         listed = is-listed a ha;
         stored-are = is-stored a ha;
         decides = λ buffer room u o hu ho.
-            listed-decides (valueOf p) a u o buffer (length (tuples p a)) (is-listed a ha buffer room) ∙ by-formula a ha buffer room u o hu ho;
+            listed-decides (valueOf p) a (at u o) buffer (length (tuples p a)) (is-listed a ha buffer room) ∙ by-formula a ha buffer room u o hu ho;
       }
 
   -- ---- labels

@@ -35,7 +35,7 @@ pub record Tuples (p : Policy) (a : ℕ) : Type 0 where
   pub listed : (buffer : List ℕ) → length (tuples p a) ≤ length buffer → list (valueOf p) a buffer ≡ gives (length (tuples p a))
   pub stored-are : (buffer : List ℕ) → length (tuples p a) ≤ length buffer → listBuffer (valueOf p) a buffer ≡ over (tuples p a) buffer
   pub decides : (buffer : List ℕ) → length (tuples p a) ≤ length buffer → (u o : ℕ) → u < sets (p .user) → o < sets (p .object)
-      → decideByTuples (valueOf p) u o (listBuffer (valueOf p) a buffer) (length (tuples p a)) ≡ decided (grants p a (at u o))
+      → decideByTuples (valueOf p) (at u o) (listBuffer (valueOf p) a buffer) (length (tuples p a)) ≡ decided (grants p a (at u o))
 
 -- ---- labels: "the compiled labelling is document 01's, grants alike, uses NU and NO, and no labelling that grants alike uses fewer on either
 -- side"

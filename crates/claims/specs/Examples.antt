@@ -14,6 +14,7 @@ use Rattle.policy.specs.Read.{Outcome, Accepted, Refused, readText}
 use Rattle.policy.specs.Text.{textOf}
 use Rattle.policy.specs.Value.{valueOf}
 use Rattle.policy.specs.Answers.{Reply, done, granted, denied, refused}
+use Rattle.formula.specs.Truth.{at}
 use Rattle.tuples.specs.Tuples.{tuples, decideByTuples}
 use Rattle.labels.specs.Compile.{lent, NU, NO, userResult, objectResult, tableResult}
 use Rattle.report.specs.Report.{report}
@@ -123,7 +124,7 @@ abbrev pub falseExamples : List Example
 falseExamples =
     let p = policyIs sample in
     let q = policyIs seniorObjects in
-    example (reply (decideByTuples (valueOf p) 3 0 (tuples p 3) 4)) "denied"
+    example (reply (decideByTuples (valueOf p) (at 3 0) (tuples p 3) 4)) "denied"
     ∷ example (numbers (tuples q 0)) "1,3,5,7"
     ∷ example (numbers (tuples q 1)) "5,6,7"
     ∷ example (byMachine sample (opens 0 0 3 ∷ drops 0 0 3 ∷ adds 0 0 3 ∷ [])) "done done done"

@@ -4,6 +4,7 @@ ghost use Rattle.policy.specs.Answers.{replyNumber};
 ghost use Rattle.policy.specs.Read.{readText};
 ghost use Rattle.policy.specs.Valid.{valid};
 ghost use Rattle.policy.specs.Write.{write, writeBuffer};
+ghost use Rattle.formula.specs.Truth.{at};
 ghost use Rattle.formula.specs.Decide.{decide};
 ghost use Rattle.tuples.specs.Tuples.{list, listBuffer, decideByTuples};
 ghost use Rattle.labels.specs.Compile.{lent, compile, compileBuffers};
@@ -54,7 +55,7 @@ pub extern "C" fn helvemoik_valid(policy: PackedPolicy) -> bool
 // Decides by the formula on two sets.
 #[no_mangle]
 pub extern "C" fn helvemoik_decide(policy: PackedPolicy, action: u32, user: u32, object: u32) -> u32
-    ensures { λ r. ⌜ r ≡ replyNumber (decide (unpackedPolicy policy) action user object) ⌝ }
+    ensures { λ r. ⌜ r ≡ replyNumber (decide (unpackedPolicy policy) action (at user object)) ⌝ }
 {
     answer::decision(formula::decide(packing::unpack::unpack(policy), action, user, object))
 }
@@ -77,7 +78,7 @@ pub extern "C" fn helvemoik_decide_by_tuples(
     listing: &[u16],
     count: usize,
 ) -> u32
-    ensures { λ r. ⌜ r ≡ replyNumber (decideByTuples (unpackedPolicy policy) user object (now (listing .entry)) count) ⌝ }
+    ensures { λ r. ⌜ r ≡ replyNumber (decideByTuples (unpackedPolicy policy) (at user object) (now (listing .entry)) count) ⌝ }
 {
     answer::decision(tuples::decide(
         packing::unpack::unpack(policy),

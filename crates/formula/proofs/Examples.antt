@@ -1,5 +1,5 @@
--- "Using the same direction of seniority for objects as for users" is false: `u1` is true of a set that holds only a senior of value 1,
--- `o1` of one that holds only a junior. By computation.
+-- "Using the same direction of seniority for objects as for users" is false: `u1` is true of a set that holds only a
+-- senior of value 1, `o1` of one that holds only a junior. By computation.
 use Prim.Native.Nat.{ℕ}
 use mathlib.Core.Path.{_≡_, refl}
 use mathlib.Core.Bool.{Bool, true, false}

@@ -18,12 +18,12 @@ use Rattle.sets.specs.Set.{setOf}
 use Rattle.sets.proofs.Laws.{setOf-lt}
 use Rattle.words.specs.declared.Word.{Word}
 use Rattle.policy.specs.Policy.{Rule, Policy, formulaIn}
-use Rattle.policy.specs.Value.{ruleOf, rulesOf}
+use Rattle.policy.specs.Value.{ruleOf, rulesOf, wordsIn}
 use Rattle.policy.specs.Limits.{mostActions}
 use Rattle.policy.specs.declared.value.RuleValue.{RuleValue}
 use Rattle.policy.specs.declared.value.Rules.{Rules}
 use Rattle.formula.specs.Truth.{Sets, run, truth, grants}
-use Rattle.formula.specs.Inner.Lane.{wordsOf, entryBits}
+use Rattle.formula.specs.Inner.Lane.{entryBits}
 use Rattle.formula.specs.Inner.Fits.{RuleFits, RulesFit}
 use Rattle.formula.specs.declared.grant.Grant.{Grant}
 
@@ -47,15 +47,15 @@ either false ws x f = refl
 
 module _ (p : Policy) (s : Sets) where
   outcome-first : (r : RuleValue) (rs : List RuleValue) (a : ℕ)
-      → outcome p s (r ∷ rs) a ≡ cond (eqb (r .action) a) (truth p s (wordsOf (r .count) (r .words))) (outcome p s rs a)
+      → outcome p s (r ∷ rs) a ≡ cond (eqb (r .action) a) (truth p s (wordsIn (r .count) (r .words))) (outcome p s rs a)
   unfolding outcome formulaIn ruleOf
   outcome-first r rs a =
-      either (eqb (r .action) a) (wordsOf (r .count) (r .words)) (formulaIn (map ruleOf rs) a) (truth p s)
+      either (eqb (r .action) a) (wordsIn (r .count) (r .words)) (formulaIn (map ruleOf rs) a) (truth p s)
 
   -- the rule at place i is the action's, or is not
   module _ (rs : List RuleValue) (n i a : ℕ) (h : i < n) (l : n ≤ length rs) where
     pub outcome-found : getD rs i noWords .action ≡ a
-        → truth p s (wordsOf (getD rs i noWords .count) (getD rs i noWords .words)) ≡ outcome p s (drop i (take n rs)) a
+        → truth p s (wordsIn (getD rs i noWords .count) (getD rs i noWords .words)) ≡ outcome p s (drop i (take n rs)) a
     outcome-found e =
         rw (part-next noWords rs i n h l, outcome-first (getD rs i noWords) (drop (i + 1) (take n rs)) a, eq-eqb (getD rs i noWords .action) a e)
 
@@ -64,7 +64,7 @@ module _ (p : Policy) (s : Sets) where
         rw (part-next noWords rs i n h l, outcome-first (getD rs i noWords) (drop (i + 1) (take n rs)) a, ne-eqb (getD rs i noWords .action) a e)
 
   -- no rule, and so no words
-  pub outcome-none : (g : Grant) (a : ℕ) → g .count ≡ 0 → truth p s (wordsOf (g .count) (g .words)) ≡ outcome p s [] a
+  pub outcome-none : (g : Grant) (a : ℕ) → g .count ≡ 0 → truth p s (wordsIn (g .count) (g .words)) ≡ outcome p s [] a
   unfolding outcome formulaIn truth run
   outcome-none g a e = rw e
 

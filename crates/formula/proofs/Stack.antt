@@ -11,8 +11,9 @@ use Rattle.sets.specs.Set.{has}
 use Rattle.sets.proofs.Laws.{has-zero}
 use Rattle.policy.specs.Policy.{Policy}
 use Rattle.policy.specs.declared.value.Slot.{Slot}
+use Rattle.policy.specs.Value.{wordsIn}
 use Rattle.formula.specs.Truth.{Sets, top, below, step, run}
-use Rattle.formula.specs.Inner.Lane.{wordsOf, column}
+use Rattle.formula.specs.Inner.Lane.{column}
 
 column-set : (st : List ℕ) (n x d k : ℕ) → d ≤ n → column (set st n x) d k ≡ column st d k
 unfolding column
@@ -48,7 +49,7 @@ module _ (st : List ℕ) where
 
 module _ (p : Policy) (s : Sets) where
   run-next : (ws : List Slot) (z : Slot) (i : ℕ) (bs : List Bool) → i < length ws
-      → step p s (getD ws i z .word) (run p s (wordsOf i ws) bs) ≡ run p s (wordsOf (i + 1) ws) bs
+      → step p s (getD ws i z .word) (run p s (wordsIn i ws) bs) ≡ run p s (wordsIn (i + 1) ws) bs
   unfolding run
   run-next [] z i bs h = absurd (omega arith)
   run-next (w ∷ ws) z zero bs h = refl
@@ -57,8 +58,8 @@ module _ (p : Policy) (s : Sets) where
 
   -- a lane in which the stack was what i words leave, after the next word
   pub column-next : (ws : List Slot) (z : Slot) (st : List ℕ) (k i d e x : ℕ) → i < length ws → e < length st
-      → column st d k ≡ run p s (wordsOf i ws) []
+      → column st d k ≡ run p s (wordsIn i ws) []
       → has x k ∷ column st e k ≡ step p s (getD ws i z .word) (column st d k)
-      → column (set st e x) (e + 1) k ≡ run p s (wordsOf (i + 1) ws) []
+      → column (set st e x) (e + 1) k ≡ run p s (wordsIn (i + 1) ws) []
   column-next ws z st k i d e x h g old new =
       column-push st e x k g ∙ new ∙ ap (step p s (getD ws i z .word)) old ∙ run-next ws z i [] h

@@ -1,4 +1,5 @@
--- Vectors of 64 lanes: what each operation on them does in a lane, which of 64 consecutive sets hold a value, and a line of seniority in every lane at once.
+-- Vectors of 64 lanes: what each operation on them does in a lane, which of 64 consecutive sets hold a value, and a
+-- line of seniority in every lane at once.
 use Prim.Native.Nat.{ℕ, _+_, _-_, _*_, _/_, _%_, _^_, _≤_, _<_}
 use mathlib.Core.Path.{_≡_, refl, sym, ap, ap₂, _∙_}
 use mathlib.Core.Bool.{Bool, true, false, not, _&&_, _||_, and-true, and-false, or-false}

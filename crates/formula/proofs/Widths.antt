@@ -1,4 +1,5 @@
--- The first values of attributes are sums of widths: each lies a width above the one before, and none above the number of values.
+-- The first values of attributes are sums of widths: each lies a width above the one before, and none above the number
+-- of values.
 use Prim.Native.Nat.{ℕ, zero, suc, _+_, _≤_, _<_}
 use mathlib.Core.Path.{_≡_, sym, ap, _∙_}
 use mathlib.Core.List.{List, [], _∷_}

@@ -41,7 +41,8 @@ compares p s (Equals i j) =
     equalWidth (sizes p) i j
     && every (λ k. agree (placeHeld (p .object) j (s .object) k) (placeHeld (p .user) i (s .user) k)) (width (p .user) i)
 
--- the top of the stack and what lies below it; refusal 9 keeps a formula from looking below an empty stack, where false lies
+-- the top of the stack and what lies below it; refusal 9 keeps a formula from looking below an empty stack, where false
+-- lies
 abbrev pub top : List Bool → Bool
 top [] = false
 top (b ∷ bs) = b

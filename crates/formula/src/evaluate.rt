@@ -1,5 +1,5 @@
-// The truth of a formula at 64 pairs. Words work on a stack of numbers, one bit a pair; below an empty stack lies 0, as false does in the
-// definition.
+// The truth of a formula at 64 pairs. Words work on a stack of numbers, one bit a pair; below an empty stack lies 0, as
+// false does in the definition.
 ghost use Prim.Native.Nat.{ℕ, _+_, _≤_, _<_};
 ghost use mathlib.Core.Path.{_≡_};
 ghost use mathlib.Core.Bool.{Bool, _&&_};
@@ -8,10 +8,10 @@ ghost use Rattle.basis.specs.Numbers.{every};
 ghost use Rattle.sets.specs.Set.{has};
 ghost use Rattle.policy.specs.Policy.{Policy, width};
 ghost use Rattle.policy.specs.Checks.{sizes, equalWidth};
-ghost use Rattle.policy.specs.Value.{wordPlaces};
+ghost use Rattle.policy.specs.Value.{wordPlaces, wordsIn};
 ghost use Rattle.policy.specs.Limits.{mostValues};
 ghost use Rattle.formula.specs.Truth.{Sets, holds, placeHeld, compares, top, below, step, truth};
-ghost use Rattle.formula.specs.Inner.Lane.{lanes, AttributesOf, Stands, InLane, wordsOf, passes, column};
+ghost use Rattle.formula.specs.Inner.Lane.{lanes, AttributesOf, Stands, InLane, passes, column};
 use crate::attributes;
 use crate::attributes::Attributes;
 use crate::side::ALL;
@@ -162,7 +162,7 @@ pub fn truths(
     n: usize,
 ) -> u64
     requires { ⌜ ((p : Policy) × AttributesOf p sides) × (n ≤ wordPlaces) ⌝ }
-    ensures { λ r. ⌜ ((p : Policy) (k : ℕ) (s : Sets) → AttributesOf p sides → InLane p (now (users .entry)) (now (objects .entry)) k s → has r k ≡ truth p s (wordsOf n words)) ⌝ }
+    ensures { λ r. ⌜ ((p : Policy) (k : ℕ) (s : Sets) → AttributesOf p sides → InLane p (now (users .entry)) (now (objects .entry)) k s → has r k ≡ truth p s (wordsIn n words)) ⌝ }
 {
     let mut stack = [0u64; WORD_PLACES];
     let mut d: usize = 0;

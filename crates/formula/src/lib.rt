@@ -1,4 +1,5 @@
-// What formulas decide. A formula is evaluated at 64 pairs of a user set and an object set at once: bit k of a number is the truth at pair k.
+// What formulas decide. A formula is evaluated at 64 pairs of a user set and an object set at once: bit k of a number
+// is the truth at pair k.
 ghost use Prim.Native.Nat.{_^_, _<_};
 ghost use mathlib.Core.Path.{_≡_};
 ghost use mathlib.Core.Bool.{true};

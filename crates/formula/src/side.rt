@@ -1,5 +1,5 @@
-// The vectors of 64 sets of one side: bit k of vector v says whether set k holds value v, and bit k of vector MOST_VALUES + v whether it
-// does with its juniors (users) or its seniors (objects) taken in.
+// The vectors of 64 sets of one side: bit k of vector v says whether set k holds value v, and bit k of vector
+// MOST_VALUES + v whether it does with its juniors (users) or its seniors (objects) taken in.
 ghost use Prim.Native.Nat.{ℕ, _+_, _*_, _/_, _%_, _^_, _≤_, _<_};
 ghost use mathlib.Core.Path.{_≡_};
 ghost use lib.ListN.{take};
@@ -101,7 +101,8 @@ fn extend(vectors: &mut [u64; VECTORS], a: u32, b: u32)
     vectors[to] = vectors[to] | vectors[from];
 }
 
-// User sets with all juniors of their values, by the first n lines. The last line comes first: each senior is settled before its juniors.
+// User sets with all juniors of their values, by the first n lines. The last line comes first: each senior is settled
+// before its juniors.
 pub fn with_juniors(plain: [u64; VECTORS], lines: [Direct; LINE_PLACES], n: usize) -> [u64; VECTORS]
     requires { ⌜ (n ≤ linePlaces) × Ordered mostValues (take n lines) ⌝ }
     ensures { λ r. ⌜ ((k s : ℕ) → Plain plain k s → Stands (heldOrSenior (take n lines)) r k s) ⌝ }

@@ -1,5 +1,5 @@
--- Laws of rows: the first column at which two differ, that being alike is an equivalence, and that rows of entries are alike exactly where
--- nothing tells their sets apart; then the search for a like row among those that a list names.
+-- Laws of rows: the first column at which two differ, that being alike is an equivalence, and that rows of entries are
+-- alike exactly where nothing tells their sets apart; then the search for a like row among those that a list names.
 use Prim.Native.Nat.{ℕ, _+_, _≤_, _<_}
 use mathlib.Core.Path.{_≡_, refl, sym, ap, _∙_}
 use mathlib.Core.Bool.{Bool, true, false}

@@ -1,5 +1,5 @@
--- Laws of the compiled labelling of any policy: what stands in the three results, that it grants alike, and that no labelling that does
--- so uses fewer labels.
+-- Laws of the compiled labelling of any policy: what stands in the three results, that it grants alike, and that no
+-- labelling that does so uses fewer labels.
 use Prim.Native.Nat.{ℕ, _+_, _*_, _/_, _%_, _≤_, _<_}
 use mathlib.Core.Path.{_≡_, ap₂, _∙_}
 use mathlib.Core.Bool.{true}
@@ -36,7 +36,8 @@ module _ (p : Policy) where
   unfolding likeObjects
   likeObjects-equivalence = objects-equivalence (grants p) (actions (p .form)) (sets (p .user))
 
-  -- "Two user sets have the same label exactly when no action and no object set tells them apart. Object sets likewise."
+  -- "Two user sets have the same label exactly when no action and no object set tells them apart. Object sets
+  -- likewise."
   pub userLabel-iff : (u v : ℕ) → (userLabel p u ≡ userLabel p v) ↔ UsersSame (grants p) (actions (p .form)) (sets (p .object)) u v
   unfolding likeUsers
   userLabel-iff = user-label-iff (grants p) (actions (p .form)) (sets (p .object))

@@ -1,4 +1,5 @@
--- Laws of entries: the entry of a lane, that entries differ at an action, and that user sets whose entries are equal are alike.
+-- Laws of entries: the entry of a lane, that entries differ at an action, and that user sets whose entries are equal
+-- are alike.
 use Prim.Native.Nat.{ℕ, suc, _+_, _/_, _%_, _^_, _≤_, _<_}
 use mathlib.Core.Path.{_≡_, refl, sym, ap, ap₂, _∙_}
 use mathlib.Core.Bool.{true, false, not}

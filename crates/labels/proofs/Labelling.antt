@@ -1,5 +1,5 @@
--- Laws of labellings over what is granted, `g action sets`, and over any number of actions k, user sets m and object sets n. The laws of
--- object sets are those of user sets with the two sides changed over.
+-- Laws of labellings over what is granted, `g action sets`, and over any number of actions k, user sets m and object
+-- sets n. The laws of object sets are those of user sets with the two sides changed over.
 use Prim.Native.Nat.{ℕ, suc, _+_, _≤_, _<_}
 use mathlib.Core.Path.{_≡_, refl, sym, ap, _∙_}
 use mathlib.Core.Bool.{Bool, true}

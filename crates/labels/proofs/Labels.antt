@@ -1,5 +1,6 @@
--- Laws of labels over any test `like` that is an equivalence on the sets below m. A set leads where no lower set is like it, and the label
--- of a set is how many sets lead below the lowest of its like; so the laws come from those of `first` and `count`.
+-- Laws of labels over any test `like` that is an equivalence on the sets below m. A set leads where no lower set is
+-- like it, and the label of a set is how many sets lead below the lowest of its like; so the laws come from those of
+-- `first` and `count`.
 use Prim.Native.Nat.{ℕ, _≤_, _<_}
 use mathlib.Core.Path.{_≡_, refl, sym, ap, _∙_}
 use mathlib.Core.Bool.{Bool, true}

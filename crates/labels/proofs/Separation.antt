@@ -1,5 +1,5 @@
--- 'Alike' and a witness exclude each other, and one of the two is always right: what separates two user sets keeps them from being
--- alike, and something separates any two that are not.
+-- 'Alike' and a witness exclude each other, and one of the two is always right: what separates two user sets keeps them
+-- from being alike, and something separates any two that are not.
 use Prim.Native.Nat.{ℕ}
 use mathlib.Core.Path.{_≡_}
 use mathlib.Core.Bool.{false}

@@ -1,5 +1,5 @@
--- Compiling from a grid: the labels of its rows and columns are those of the policy's sets, and what the parts leave in the buffers is what
--- compiling is to leave there.
+-- Compiling from a grid: the labels of its rows and columns are those of the policy's sets, and what the parts leave in
+-- the buffers is what compiling is to leave there.
 use Prim.Native.Nat.{ℕ, _+_, _*_, _/_, _%_, _≤_, _<_}
 use mathlib.Core.Path.{_≡_, ap, _∙_}
 use mathlib.Core.Bool.{Bool, true, false, _||_}

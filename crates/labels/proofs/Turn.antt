@@ -1,4 +1,5 @@
--- One turn of the labelling: the label whose leader a row is like says the row's own, and a row that is like none leads.
+-- One turn of the labelling: the label whose leader a row is like says the row's own, and a row that is like none
+-- leads.
 use Prim.Native.Nat.{ℕ, _+_, _≤_, _<_, zero-le}
 use mathlib.Core.Path.{_≡_, refl, sym, ap, subst, _∙_}
 use mathlib.Core.Bool.{Bool, true, false}

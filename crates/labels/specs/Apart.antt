@@ -1,4 +1,5 @@
--- "Apart (11, 19): for two user sets, either 'alike' or some action and object set that tells them apart; which one is free."
+-- "Apart (11, 19): for two user sets, either 'alike' or some action and object set that tells them apart; which one is
+-- free."
 use Prim.Native.Nat.{ℕ, _<_}
 use mathlib.Core.Path.{_≡_}
 use mathlib.Core.Bool.{true, false, not, _||_}

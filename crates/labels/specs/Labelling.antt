@@ -1,5 +1,5 @@
--- Which sets are alike, what a labelling is, and when it grants alike. All over what is granted, `g action sets`, and over any number of
--- actions k, of user sets m and of object sets n.
+-- Which sets are alike, what a labelling is, and when it grants alike. All over what is granted, `g action sets`, and
+-- over any number of actions k, of user sets m and of object sets n.
 use Prim.Native.Nat.{ℕ, _<_}
 use mathlib.Core.Path.{_≡_}
 use mathlib.Core.Bool.{Bool}
@@ -15,8 +15,8 @@ usersAlike g k n u v = every (λ o. every (λ a. agree (g a (at u o)) (g a (at v
 unfoldable pub objectsAlike : (ℕ → Sets → Bool) → ℕ → ℕ → ℕ → ℕ → Bool
 objectsAlike g k m o p = every (λ u. every (λ a. agree (g a (at u o)) (g a (at u p))) k) m
 
--- "A labelling in general gives a number to each user set and each object set, and has a table that says granted or denied for every
--- user number and object number given and every action."
+-- "A labelling in general gives a number to each user set and each object set, and has a table that says granted or
+-- denied for every user number and object number given and every action."
 pub record Labelling : Type 0 where
   pub user : ℕ → ℕ
   pub object : ℕ → ℕ
@@ -29,7 +29,7 @@ userLabels l m = different (l .user) m
 abbrev pub objectLabels : Labelling → ℕ → ℕ
 objectLabels l n = different (l .object) n
 
--- "It grants alike when for every user set, object set and action its table, at their two numbers, says granted exactly when the
--- formula is true."
+-- "It grants alike when for every user set, object set and action its table, at their two numbers, says granted exactly
+-- when the formula is true."
 abbrev pub GrantsAlike : (ℕ → Sets → Bool) → ℕ → ℕ → ℕ → Labelling → Type 0
 GrantsAlike g k m n l = (a u o : ℕ) → a < k → u < m → o < n → l .table (l .user u) (l .object o) a ≡ g a (at u o)

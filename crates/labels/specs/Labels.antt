@@ -1,4 +1,5 @@
--- Labels over any test `like` of two numbers, and over any number of sets. The sets of a side are numbers, so the sides share these.
+-- Labels over any test `like` of two numbers, and over any number of sets. The sets of a side are numbers, so the sides
+-- share these.
 use Prim.Native.Nat.{ℕ}
 use mathlib.Core.Bool.{Bool}
 use lib.Dec.{eqb}

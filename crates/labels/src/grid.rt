@@ -13,8 +13,8 @@ use formula::attributes;
 use formula::attributes::Attributes;
 use policy::limits::MOST_PAIRS;
 
-// A grid as seen from one side: its sets are the rows and those of the other side the columns. A row starts `down` places after the one
-// before, and in it a column lies `along` places after the one before.
+// A grid as seen from one side: its sets are the rows and those of the other side the columns. A row starts `down`
+// places after the one before, and in it a column lies `along` places after the one before.
 pub struct View {
     pub rows: usize,
     pub columns: usize,

@@ -72,7 +72,8 @@ pub fn compile(
     buffers::store(&entries, view, users, objects, table)
 }
 
-// Whether no action and no object set tells two user sets apart, or else some that do: the lowest object set, and at it the lowest action.
+// Whether no action and no object set tells two user sets apart, or else some that do: the lowest object set, and at it
+// the lowest action.
 pub fn apart(policy: PolicyValue, u: u32, w: u32) -> Apartness
     ensures { λ r. ⌜ Tells policy u w r ⌝ }
 {

@@ -1,5 +1,5 @@
-// Rows of entries. The entry of a user set and an object set is a byte whose bit a says whether action a is granted; a user set's row has
-// its entries at the object sets.
+// Rows of entries. The entry of a user set and an object set is a byte whose bit a says whether action a is granted; a
+// user set's row has its entries at the object sets.
 ghost use Prim.Native.Nat.{ℕ, _+_, _^_, _≤_, _<_, min};
 ghost use mathlib.Core.Path.{_≡_};
 ghost use lib.ListN.{length, getD};
@@ -43,8 +43,8 @@ pub fn rows_of(policy: PolicyValue) -> Rows
     Rows { source, grants }
 }
 
-// Puts into a row that has the entries of the object sets before `start` those of the next `count`, which may be fewer than the 64 of the
-// vectors.
+// Puts into a row that has the entries of the object sets before `start` those of the next `count`, which may be fewer
+// than the 64 of the vectors.
 fn put_block(
     row: &mut [u8; MOST_SETS],
     sides: Attributes,

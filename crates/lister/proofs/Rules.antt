@@ -2,16 +2,18 @@
 use Prim.Native.Nat.{ℕ, _≤_, _<_}
 use mathlib.Core.Path.{_≡_, sym, ap}
 use mathlib.Core.Bool.{true}
-use mathlib.Core.List.{map}
+use mathlib.Core.List.{map, Memᴰ·map}
 use native.Mathlib.Omega.{arith}
 use lib.ListN.{length, getD, take, length-map, length-take}
+use Rattle.basis.proofs.Places.{taken-in}
 use Rattle.policy.specs.Limits.{actions}
 use Rattle.policy.specs.Value.{rulePlaces, rulesValue, valueOf, ruleOf, rulesOf, policyOf}
 use Rattle.policy.specs.Valid.{valid}
 use Rattle.policy.specs.declared.value.PolicyValue.{PolicyValue}
-use Rattle.policy.proofs.Valid.{valid-stored}
+use Rattle.policy.proofs.Bounds.{rule-bounds}
+use Rattle.policy.proofs.Valid.{valid-stored, valid-parts}
 use Rattle.formula.proofs.Checked.{valid-fits}
-use Rattle.formula.proofs.Rows.{noWords, rule-at}
+use Rattle.formula.proofs.Granting.{noWords}
 
 module _ (v : PolicyValue) (e : valid v ≡ true) where
   pub rules-few : v .rules .count ≤ rulePlaces
@@ -27,4 +29,8 @@ module _ (v : PolicyValue) (e : valid v ≡ true) where
       omega (arith, k, length-map (take n es) ruleOf, length-take n es)
 
   pub rule-action : (i : ℕ) → i < v .rules .count → getD (v .rules .entries) i noWords .action < actions (v .form)
-  rule-action i h = rule-at (v .rules) (valid-fits v e .rules) rules-stored i h .action
+  unfolding policyOf rulesOf ruleOf
+  rule-action i h =
+      let r = getD (v .rules .entries) i noWords in
+      let m = Memᴰ·map ruleOf (taken-in noWords (v .rules .entries) (v .rules .count) i h rules-stored) in
+      rule-bounds (policyOf v) (policyOf v .rules) (valid-parts v e .rules) (ruleOf r) m .action

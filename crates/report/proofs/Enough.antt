@@ -21,7 +21,7 @@ use Rattle.policy.proofs.Valid.{valid-parts}
 use Rattle.policy.proofs.Bounds.{total-few}
 use Rattle.tuples.specs.Tuples.{grantsAt, tuples, list, listBuffer}
 use Rattle.labels.specs.Compile.{Buffers, userResult, objectResult, tableResult, NU, NO, compile}
-use Rattle.labels.proofs.Compile.{NU-le, NO-le, length-userResult, length-objectResult, length-tableResult}
+use Rattle.labels.proofs.Compiling.{NU-le, NO-le, length-userResult, length-objectResult, length-tableResult}
 
 module _ (v : PolicyValue) (e : valid v ≡ true) where
   few-users : total (policyOf v .user) ≤ mostValues

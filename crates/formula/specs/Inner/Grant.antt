@@ -5,16 +5,15 @@ use mathlib.Core.List.{[]}
 use lib.ListN.{getD}
 use Rattle.policy.specs.Limits.{actions}
 use Rattle.policy.specs.Policy.{Policy}
-use Rattle.policy.specs.Value.{wordPlaces}
+use Rattle.policy.specs.Value.{wordPlaces, wordsIn}
 use Rattle.formula.specs.Truth.{Sets, truth, grants}
-use Rattle.formula.specs.Inner.Lane.{wordsOf}
 use Rattle.formula.specs.declared.grant.Grant.{Grant}
 use Rattle.formula.specs.declared.grant.Grants.{Grants}
 
 -- this grants the action, at the sets at which the policy does
 pub record GrantOf (p : Policy) (a : ℕ) (g : Grant) : Type 0 where
   pub few : g .count ≤ wordPlaces
-  pub formula : (s : Sets) → truth p s (wordsOf (g .count) (g .words)) ≡ grants p a s
+  pub formula : (s : Sets) → truth p s (wordsIn (g .count) (g .words)) ≡ grants p a s
 
 -- past the end of an array
 abbrev pub noGrant : Grant

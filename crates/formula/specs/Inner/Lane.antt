@@ -1,17 +1,16 @@
--- 64 pairs of a user set and an object set at once: bit k of a number says what holds at pair k. What the evaluator's vectors stand for.
+-- 64 pairs of a user set and an object set at once: bit k of a number says what holds at pair k. What the evaluator's
+-- vectors stand for.
 use Prim.Native.Nat.{ℕ, zero, suc, _+_, _*_, _^_, _≤_, _<_}
 use mathlib.Core.Path.{_≡_}
 use mathlib.Core.Bool.{Bool, true, false}
-use mathlib.Core.List.{List, [], _∷_, map}
+use mathlib.Core.List.{List, [], _∷_}
 use lib.Bits.{bitOr}
-use lib.ListN.{length, getD, take, set}
+use lib.ListN.{length, getD, set}
 use Rattle.basis.specs.Numbers.{agree, implies}
 use Rattle.sets.specs.Set.{has}
 use Rattle.seniority.specs.Seniority.{heldOrSenior, heldOrJunior}
-use Rattle.words.specs.declared.Word.{Word}
 use Rattle.policy.specs.Limits.{mostValues}
 use Rattle.policy.specs.Policy.{Side, Policy, total, start}
-use Rattle.policy.specs.declared.value.Slot.{Slot}
 use Rattle.formula.specs.Truth.{Sets}
 use Rattle.formula.specs.declared.attributes.Attributes.{Attributes}
 
@@ -64,10 +63,6 @@ pub record InLane (p : Policy) (users objects : List ℕ) (k : ℕ) (s : Sets) :
   pub object : Stands (heldOrJunior (p .object .lines)) objects k (s .object)
 
 -- ---- words
-
--- the words of a formula of n words
-abbrev pub wordsOf : ℕ → List Slot → List Word
-wordsOf n slots = map (λ (x : Slot). x .word) (take n slots)
 
 -- whether a place passes a comparison, by whether the object set and the user set hold it
 abbrev pub passes : Bool → Bool → Bool → Bool

@@ -1,6 +1,7 @@
 -- `lister::list_tuples` meets its contract: listing gives the tuples, since the buffer is long enough for any policy.
 use mathlib.Core.Path.{_∙_}
 use borrow.Author.Needs.{needs}
+use Rattle.policy.specs.Value.{policyOf}
 use Rattle.report.proofs.Enough.{lists, listed-over}
 use Rattle.lister.proofs.Answers.{given, not-refused}
 use Rattle.lister.proofs.list_tuples.Statement.{statement}
@@ -19,6 +20,7 @@ same-length : tie.Need-same-length
 same-length c = search needs
 
 returns : tie.Need-returns
+unfolding policyOf
 returns c =
     let d = c .before .before .before .before in
     let s = d .before .before .before in
@@ -28,6 +30,7 @@ same-length-2 : tie.Need-same-length-2
 same-length-2 c = search needs
 
 returns-2 : tie.Need-returns-2
+unfolding policyOf
 returns-2 c =
     let d = c .before .before .before .before .before in
     let s = d .before .before .before in

@@ -1,4 +1,5 @@
--- `formula::attributes::starts` meets its contract: after i turns the first i + 1 entries are sums of widths, and `next` is the last of them.
+-- `formula::attributes::starts` meets its contract: after i turns the first i + 1 entries are sums of widths, and
+-- `next` is the last of them.
 use Prim.Native.Nat.{ℕ, _+_, _-_, _≤_, _<_}
 use mathlib.Core.Path.{_≡_, refl}
 use mathlib.Core.Logic.{⊎-elim}

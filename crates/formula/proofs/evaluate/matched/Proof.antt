@@ -1,4 +1,5 @@
--- `formula::evaluate::matched` meets its contract: attributes of equal width are compared place by place from their first values.
+-- `formula::evaluate::matched` meets its contract: attributes of equal width are compared place by place from their
+-- first values.
 use mathlib.Core.Path.{_≡_, sym, _∙_}
 use native.Mathlib.Omega.{arith}
 use borrow.Author.Needs.{needs}

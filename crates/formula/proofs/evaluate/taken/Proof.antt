@@ -1,4 +1,5 @@
--- `formula::evaluate::taken` meets its contract: there is a vector for each value that a set may have, and no set has another.
+-- `formula::evaluate::taken` meets its contract: there is a vector for each value that a set may have, and no set has
+-- another.
 use mathlib.Core.Path.{sym, _∙_}
 use borrow.Author.Needs.{needs}
 use Rattle.sets.proofs.Laws.{has-zero}

@@ -7,9 +7,9 @@ use lib.ListN.{length, length-set}
 use borrow.Author.Needs.{needs}
 use Rattle.basis.proofs.Lists.{long}
 use Rattle.policy.specs.Policy.{Policy}
-use Rattle.policy.specs.Value.{wordPlaces}
+use Rattle.policy.specs.Value.{wordPlaces, wordsIn}
 use Rattle.formula.specs.Truth.{Sets, top, run, truth}
-use Rattle.formula.specs.Inner.Lane.{AttributesOf, InLane, wordsOf, column}
+use Rattle.formula.specs.Inner.Lane.{AttributesOf, InLane, column}
 use Rattle.formula.proofs.Stack.{column-next}
 use Rattle.formula.proofs.evaluate.truths.Statement.{statement}
 use Rattle.formula.proofs.evaluate.truths.Tie as tie
@@ -17,7 +17,7 @@ use Rattle.formula.proofs.evaluate.truths.Tie as tie
 abbrev Inv-loop : tie.InvT-loop
 Inv-loop sides users objects n words stack₀ d₀ i₀ stack d i =
     (i ≤ n) × (d ≤ i) × (length stack ≡ wordPlaces)
-    × ((p : Policy) (k : ℕ) (s : Sets) → AttributesOf p sides → InLane p users objects k s → column stack d k ≡ run p s (wordsOf i words) [])
+    × ((p : Policy) (k : ℕ) (s : Sets) → AttributesOf p sides → InLane p users objects k s → column stack d k ≡ run p s (wordsIn i words) [])
 
 abbrev μ-loop : tie.MeasureT-loop
 μ-loop sides users objects n words stack₀ d₀ i₀ stack d i = n - i

@@ -1,4 +1,5 @@
--- `formula::side::with_seniors` meets its contract: in every lane what the lines from i on make of r is what all of them make of the set.
+-- `formula::side::with_seniors` meets its contract: in every lane what the lines from i on make of r is what all of
+-- them make of the set.
 use Prim.Native.Nat.{ℕ, _-_, _≤_}
 use mathlib.Core.Path.{_≡_, refl}
 use native.Mathlib.Omega.{arith}

@@ -1,5 +1,5 @@
--- `labels::buffers::store` meets its contract: rows and columns are labelled, a buffer that is too short is refused before any is written,
--- and the three writers leave the labels and the table.
+-- `labels::buffers::store` meets its contract: rows and columns are labelled, a buffer that is too short is refused
+-- before any is written, and the three writers leave the labels and the table.
 use Prim.Native.Nat.{_≤_}
 use denote.Ref.{now}
 use native.Mathlib.Nat.{le-trans, mul-le-mul}

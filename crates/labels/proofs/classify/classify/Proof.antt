@@ -1,4 +1,5 @@
--- `labels::classify::classify` meets its contract: each turn labels one row, and a row that is like no leader becomes one.
+-- `labels::classify::classify` meets its contract: each turn labels one row, and a row that is like no leader becomes
+-- one.
 use Prim.Native.Nat.{_-_}
 use mathlib.Core.Logic.{⊎-elim}
 use native.Mathlib.Omega.{arith}

@@ -1,4 +1,5 @@
--- `labels::classify::label_of` meets its contract: the leaders passed are unlike the row, and the next is like it before column o.
+-- `labels::classify::label_of` meets its contract: the leaders passed are unlike the row, and the next is like it
+-- before column o.
 use Prim.Native.Nat.{_-_}
 use mathlib.Core.Path.{_≡_, refl, sym, _∙_}
 use borrow.Author.Count.{below-none}

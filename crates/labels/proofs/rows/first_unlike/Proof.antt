@@ -1,4 +1,5 @@
--- `labels::rows::first_unlike` meets its contract: the columns passed are alike, and the first that is not is the answer.
+-- `labels::rows::first_unlike` meets its contract: the columns passed are alike, and the first that is not is the
+-- answer.
 use Prim.Native.Nat.{ℕ, _-_, _≤_, _<_}
 use mathlib.Core.Path.{_≡_, sym}
 use native.Mathlib.Omega.{arith}

@@ -1,5 +1,5 @@
--- `labels::rows::row` meets its contract: the object sets before `start` have their entries, and each lane of the next block stands for
--- the user set and one object set.
+-- `labels::rows::row` meets its contract: the object sets before `start` have their entries, and each lane of the next
+-- block stands for the user set and one object set.
 use Prim.Native.Nat.{ℕ, _+_, _-_, _*_, _%_, _≤_, _<_}
 use mathlib.Core.Path.{_≡_, refl, sym, ap, _∙_}
 use mathlib.Core.List.{List}

@@ -1,4 +1,5 @@
--- `labels::telling::tell` meets its contract: rows that are alike belong to user sets that nothing tells apart, and at the first unlike column an action does.
+-- `labels::telling::tell` meets its contract: rows that are alike belong to user sets that nothing tells apart, and at
+-- the first unlike column an action does.
 use Prim.Native.Nat.{_<_}
 use native.Mathlib.Nat.{lt-of-lt-of-le}
 use native.Mathlib.Omega.{arith}
