@@ -1,4 +1,5 @@
--- The rules of a policy value that passes check 11: no more than there are places, and each has an action of the policy.
+-- The rules of a policy value that passes check 11: no more than there are places, and each has an action of the
+-- policy.
 use Prim.Native.Nat.{ℕ, _≤_, _<_}
 use mathlib.Core.Path.{_≡_, sym, ap}
 use mathlib.Core.Bool.{true}

@@ -1,4 +1,5 @@
-// Reads a policy text from standard input, and writes the numbers of its labels and the tuples of each rule's action; or the refusal.
+// Reads a policy text from standard input, and writes the numbers of its labels and the tuples of each rule's action;
+// or the refusal.
 ghost use mathlib.Core.Path.{_≡_};
 ghost use mathlib.Core.Bool.{true};
 ghost use mathlib.Core.List.{List};

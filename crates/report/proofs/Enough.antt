@@ -1,5 +1,5 @@
--- Of a policy value that passes check 11, compiling and listing are not refused in buffers of the most sets, pairs and labels that a policy has: each
--- side has at most as many values as any form allows.
+-- Of a policy value that passes check 11, compiling and listing are not refused in buffers of the most sets, pairs and
+-- labels that a policy has: each side has at most as many values as any form allows.
 use Prim.Native.Nat.{ℕ, _+_, _^_, _≤_, _<_}
 use mathlib.Core.Path.{_≡_}
 use mathlib.Core.Bool.{true}

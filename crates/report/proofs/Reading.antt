@@ -1,4 +1,5 @@
--- What is read: the policy value of an accepted text passes check 11, and the line that a refusal names is at most one more than the bytes of the text.
+-- What is read: the policy value of an accepted text passes check 11, and the line that a refusal names is at most one
+-- more than the bytes of the text.
 use Prim.Native.Nat.{ℕ, suc, _+_, _≤_}
 use mathlib.Core.Path.{_≡_, refl, ap}
 use mathlib.Core.Bool.{Bool, true, false, cond}

@@ -1,5 +1,5 @@
--- The lines of tuples, put one after the other: what is put from `from` on is the lines of the tuples before the next one, and the whole text
--- is what is put and then the lines from the next one on.
+-- The lines of tuples, put one after the other: what is put from `from` on is the lines of the tuples before the next
+-- one, and the whole text is what is put and then the lines from the next one on.
 use Prim.Native.Nat.{ℕ, _+_, _-_, _≤_, _<_}
 use mathlib.Core.Path.{_≡_, sym, ap, _∙_}
 use mathlib.Core.List.{List, _++_}

@@ -1,4 +1,5 @@
--- What only the code and the proofs of the lister speak of: the room for a line, and lines that are put as long as there is room.
+-- What only the code and the proofs of the lister speak of: the room for a line, and lines that are put as long as
+-- there is room.
 use Prim.Native.Nat.{ℕ, _+_, _*_, _-_, _≤_, _<_}
 use mathlib.Core.List.{List, _++_}
 use lib.ListN.{length, take, drop}
@@ -23,7 +24,8 @@ ended l = l ++ feed
 abbrev pub tupleText : ℕ → ℕ → ℕ → List ℕ
 tupleText action values n = ended (tupleLine action values n)
 
--- the lines of the tuples from `from` to the next one, put at the start of a buffer: where there is a tuple and room for a line, at least one
+-- the lines of the tuples from `from` to the next one, put at the start of a buffer: where there is a tuple and room
+-- for a line, at least one
 pub record Some (line : ℕ → List ℕ) (tuples : List ℕ) (from : ℕ) (entry exit : List ℕ) (r : Lines) : Type 0 where
   pub put : Put (each line (take (r .next - from) (drop from tuples))) 0 entry exit (r .at)
   pub low : from ≤ r .next

@@ -26,7 +26,8 @@ labelsLine users objects = lineOf (bytes "labels") (users ∷ objects ∷ [])
 abbrev pub actionLine : ℕ → ℕ → List ℕ
 actionLine action count = lineOf (bytes "action") (action ∷ count ∷ [])
 
--- "and each tuple as action, user set, object set": a tuple is stored as user set × 2^O + object set, where the object side has O values
+-- "and each tuple as action, user set, object set": a tuple is stored as user set × 2^O + object set, where the object
+-- side has O values
 abbrev pub tupleLine : ℕ → ℕ → ℕ → List ℕ
 tupleLine action values n = lineOf (bytes "tuple") (action ∷ n / 2 ^ values ∷ n % 2 ^ values ∷ [])
 

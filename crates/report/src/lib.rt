@@ -7,7 +7,8 @@ ghost use Rattle.report.specs.Report.{refusalLine, labelsLine, actionLin
 ghost use Rattle.report.specs.Inner.{lineRoom, ended, tupleText, Some};
 use writer::line;
 
-// Room for any of these lines: a word of at most 7 bytes, three numbers of at most 10 digits, each after a comma, and a line feed.
+// Room for any of these lines: a word of at most 7 bytes, three numbers of at most 10 digits, each after a comma, and a
+// line feed.
 pub const ROOM: usize = 7 + 3 * (10 + 1) + 1;
 
 // Where the lines put end, and the first tuple whose line is not put.

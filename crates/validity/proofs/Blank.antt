@@ -1,4 +1,5 @@
--- The loop over the places of an array behind its elements, each of which must be blank: one law for a turn and one for the end.
+-- The loop over the places of an array behind its elements, each of which must be blank: one law for a turn and one for
+-- the end.
 use Prim.Native.Nat.{ℕ, _+_, _≤_, _<_}
 use mathlib.Core.Path.{_≡_, refl, sym, _∙_}
 use mathlib.Core.Bool.{Bool, true, _&&_, and-true, and-assoc}
@@ -9,7 +10,8 @@ use Rattle.basis.specs.Lists.{all}
 use Rattle.basis.proofs.Walk.{rest-next}
 use Rattle.policy.specs.declared.value.RuleValue.{RuleValue}
 
--- `so` says whether the places looked at, up to place i of an array of m, are blank: the answer is that, and that of the rest
+-- `so` says whether the places looked at, up to place i of an array of m, are blank: the answer is that, and that of
+-- the rest
 pub record BlankTo {A : Type 0} (answer : Bool) (t : A → Bool) (xs : List A) (m i : ℕ) (so : Bool) : Type 0 where
   pub places : length xs ≡ m
   pub rest : answer ≡ (so && all t (drop i xs))

@@ -1,5 +1,6 @@
--- The loop over the first n elements of a list that must each pass a test and rise above the one before: one law for each turn and way out,
--- for every list, test and order. A test speaks of something, as a side, and holds of each that the code's numbers stand for.
+-- The loop over the first n elements of a list that must each pass a test and rise above the one before: one law for
+-- each turn and way out, for every list, test and order. A test speaks of something, as a side, and holds of each that
+-- the code's numbers stand for.
 use Prim.Native.Nat.{ℕ, _+_, _≤_, _<_}
 use mathlib.Core.Path.{_≡_, refl, sym, _∙_}
 use mathlib.Core.Bool.{Bool, true, false, _&&_, _||_, and-false, and-true}
@@ -15,8 +16,9 @@ use Rattle.basis.proofs.Walk.{part-next, part-end}
 use Rattle.policy.proofs.Rising.{rising}
 use Rattle.validity.proofs.Blank.{BlankTo, blank-none}
 
--- The elements before place i of n in an array of m pass: the answer is that of the rest, and of the places from n on, which must be blank. S is
--- what the test speaks of and P what is known of it; the code keeps the key of the element before place i and compares by `above`.
+-- The elements before place i of n in an array of m pass: the answer is that of the rest, and of the places from n on,
+-- which must be blank. S is what the test speaks of and P what is known of it; the code keeps the key of the element
+-- before place i and compares by `above`.
 pub record Risen {A K S : Type 0} (P : S → Type 0) (answer : S → Bool) (blank : A → Bool) (f : S → A → Bool) (key : A → K) (above : K → A → Bool)
     (xs : List A) (m n i : ℕ) (last : K) : Type 0 where
   pub places : length xs ≡ m

@@ -1,4 +1,5 @@
--- A list stored in an array, blank behind it: what each test of the code says of it. One law for each answer of the tests of a whole list.
+-- A list stored in an array, blank behind it: what each test of the code says of it. One law for each answer of the
+-- tests of a whole list.
 use Prim.Native.Nat.{ℕ, _≤_, _<_}
 use mathlib.Core.Path.{_≡_, refl, sym, ap, _∙_}
 use mathlib.Core.Bool.{Bool, true, false, _&&_, and-false}

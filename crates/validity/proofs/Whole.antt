@@ -1,4 +1,5 @@
--- Check 11 by its parts: a side by its widths and lines, the rules by each rule and what is behind the last, and the value by its sides and lists.
+-- Check 11 by its parts: a side by its widths and lines, the rules by each rule and what is behind the last, and the
+-- value by its sides and lists.
 use Prim.Native.Nat.{ℕ, _≤_, _<_}
 use mathlib.Core.Path.{_≡_, refl, sym, ap, _∙_}
 use mathlib.Core.Bool.{Bool, true, false, not, _&&_, and-false}

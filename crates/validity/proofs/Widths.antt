@@ -1,5 +1,5 @@
--- The loop over the first n widths of a side: the widths before place i pass and sum to t, and the answer is that of the rest and of the places
--- from n on. Widths that pass have a small sum.
+-- The loop over the first n widths of a side: the widths before place i pass and sum to t, and the answer is that of
+-- the rest and of the places from n on. Widths that pass have a small sum.
 use Prim.Native.Nat.{ℕ, _+_, _≤_, _<_}
 use mathlib.Core.Path.{_≡_, refl, sym, _∙_}
 use mathlib.Core.Bool.{Bool, true, false, _&&_, and-false, and-true}

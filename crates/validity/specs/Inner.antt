@@ -1,4 +1,5 @@
--- The parts of check 11, a test for each list of a policy value: it is what the lists read from it are stored as, and these pass their checks.
+-- The parts of check 11, a test for each list of a policy value: it is what the lists read from it are stored as, and
+-- these pass their checks.
 use Prim.Native.Nat.{ℕ}
 use mathlib.Core.Path.{_≡_}
 use mathlib.Core.Bool.{Bool, true, _&&_}

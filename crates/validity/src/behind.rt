@@ -1,5 +1,5 @@
-// The places behind the last element of a list, which must be blank. The loops over them have no early way out, so that the compiler can look
-// at several places at once.
+// The places behind the last element of a list, which must be blank. The loops over them have no early way out, so that
+// the compiler can look at several places at once.
 ghost use mathlib.Core.Path.{_≡_};
 ghost use mathlib.Core.Bool.{_&&_};
 

@@ -1,5 +1,5 @@
--- Putting one text after another: what stands in a buffer once a text is put, the next text behind it, a line in the rest of the buffer, and the
--- lines of a list.
+-- Putting one text after another: what stands in a buffer once a text is put, the next text behind it, a line in the
+-- rest of the buffer, and the lines of a list.
 use Prim.Native.Nat.{ℕ, suc, _+_, _-_, _≤_, _<_}
 use mathlib.Core.Path.{_≡_, refl, sym, ap, _∙_}
 use mathlib.Core.List.{List, [], _∷_, _++_, append-assoc, append-nil}

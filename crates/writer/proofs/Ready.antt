@@ -1,4 +1,5 @@
--- A value that passes check 11 can be written: its counts are within their arrays, its words can be spelt and its text is not too long.
+-- A value that passes check 11 can be written: its counts are within their arrays, its words can be spelt and its text
+-- is not too long.
 use Prim.Native.Nat.{_≤_}
 use mathlib.Core.Path.{_≡_}
 use mathlib.Core.Bool.{true}

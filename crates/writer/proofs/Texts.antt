@@ -1,4 +1,5 @@
--- The text of a value is the texts of its lists, one after the other: each line is its word, its fields and a line feed.
+-- The text of a value is the texts of its lists, one after the other: each line is its word, its fields and a line
+-- feed.
 use Prim.Native.Nat.{ℕ}
 use mathlib.Core.Path.{_≡_, refl, sym, _∙_}
 use mathlib.Core.List.{List, [], _∷_, _++_, map, map-map, append-assoc, append-nil}

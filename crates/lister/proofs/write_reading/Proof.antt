@@ -1,4 +1,5 @@
--- `lister::write_reading` meets its contract: the policy value of an accepted text passes check 11, and a refusal's line is small.
+-- `lister::write_reading` meets its contract: the policy value of an accepted text passes check 11, and a refusal's
+-- line is small.
 use native.Mathlib.Omega.{arith}
 use borrow.Author.Needs.{needs}
 use Rattle.writer.proofs.Putting.{put-long}

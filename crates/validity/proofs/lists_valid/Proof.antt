@@ -1,4 +1,5 @@
--- `validity::lists_valid` meets its contract: valid sides have small shapes, and the lists are checked against these one after the other.
+-- `validity::lists_valid` meets its contract: valid sides have small shapes, and the lists are checked against these
+-- one after the other.
 use Prim.Native.Nat.{_≤_}
 use mathlib.Core.Path.{_≡_, refl}
 use native.Mathlib.Omega.{arith}

@@ -1,5 +1,5 @@
--- `validity::register::register_valid` meets its contract: the entries before place i pass and rise, and `blank` says whether those
--- from place n to i are.
+-- `validity::register::register_valid` meets its contract: the entries before place i pass and rise, and `blank` says
+-- whether those from place n to i are.
 use Prim.Native.Nat.{_-_}
 use mathlib.Core.Path.{_≡_}
 use borrow.Author.Tests.{not-true, not-false}

@@ -1,4 +1,5 @@
--- `validity::rules::rule_valid` meets its contract: too many words, a rule that does not pass, and else what is behind its words.
+-- `validity::rules::rule_valid` meets its contract: too many words, a rule that does not pass, and else what is behind
+-- its words.
 use mathlib.Core.Bool.{and-false, and-true}
 use borrow.Author.Tests.{not-true, not-false}
 use borrow.Author.Needs.{needs}

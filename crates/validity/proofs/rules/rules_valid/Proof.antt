@@ -1,5 +1,5 @@
--- `validity::rules::rules_valid` meets its contract: the rules before place i pass and rise, and `blank` says whether those
--- from place n to i are.
+-- `validity::rules::rules_valid` meets its contract: the rules before place i pass and rise, and `blank` says whether
+-- those from place n to i are.
 use Prim.Native.Nat.{_-_}
 use borrow.Author.Tests.{not-true, not-false}
 use borrow.Author.Needs.{needs}

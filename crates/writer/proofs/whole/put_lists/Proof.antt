@@ -1,4 +1,5 @@
--- `writer::whole::put_lists` meets its contract: each list stands after those before it, and the end line after them all.
+-- `writer::whole::put_lists` meets its contract: each list stands after those before it, and the end line after them
+-- all.
 use borrow.Author.Needs.{needs}
 use Rattle.writer.proofs.Putting.{put-long, room-first, room-next, put-next}
 use Rattle.writer.proofs.whole.put_lists.Statement.{statement}
