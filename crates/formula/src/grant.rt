@@ -1,8 +1,7 @@
 // What grants an action, and where it does: the one place that says so, for 64 pairs at once.
-ghost use Prim.Native.Nat.{ℕ, _≤_, _<_};
+ghost use Prim.Native.Nat.{ℕ};
 ghost use mathlib.Core.Path.{_≡_};
 ghost use Rattle.sets.specs.Set.{has};
-ghost use Rattle.policy.specs.Limits.{actions};
 ghost use Rattle.policy.specs.Policy.{Policy};
 ghost use Rattle.policy.specs.Value.{rulesOf};
 ghost use Rattle.formula.specs.Truth.{Sets, grants};

@@ -6,17 +6,16 @@ use mathlib.Core.Bool.{true}
 use mathlib.Core.Logic.{_↔_}
 use lib.Arith.{digits-lt, digits-div, digits-mod}
 use lib.ListN.{length, getD}
-use lib.Pow.{pow-pos}
 use Rattle.basis.proofs.Counting.{length-upTo, getD-upTo}
 use Rattle.sets.specs.Set.{has}
 use Rattle.sets.proofs.Laws.{has-setOf}
 use Rattle.policy.specs.Limits.{actions}
-use Rattle.policy.specs.Policy.{Policy, total, sets}
+use Rattle.policy.specs.Policy.{Policy, sets}
 use Rattle.formula.specs.Truth.{at, grants}
 use Rattle.labels.specs.Labels.{leader}
 use Rattle.labels.specs.Labelling.{Labelling, userLabels, objectLabels, GrantsAlike}
 use Rattle.labels.specs.Compile.{likeUsers, likeObjects, userLabel, objectLabel, NU, NO, entryOf, entry, userResult, objectResult, tableResult, compiled}
-use Rattle.labels.proofs.Labels.{Equivalence, labelCount-le, labelCount-positive, label-below, label-different, leader-like, leader-is, different-same}
+use Rattle.labels.proofs.Labels.{Equivalence, labelCount-le, label-below, label-different, leader-like, leader-is, different-same}
 use Rattle.labels.proofs.Labelling.{UsersSame, ObjectsSame, usersAlike-iff, objectsAlike-iff, users-equivalence, objects-equivalence, user-label-iff, object-label-iff, users-fewest, objects-fewest}
 
 module _ (p : Policy) where
@@ -47,14 +46,6 @@ module _ (p : Policy) where
   objectLabel-iff = object-label-iff (grants p) (actions (p .form)) (sets (p .user))
 
   -- ---- the counts
-
-  pub NU-positive : 0 < NU p
-  unfolding NU
-  NU-positive = labelCount-positive (likeUsers p) _ (pow-pos (total (p .user)))
-
-  pub NO-positive : 0 < NO p
-  unfolding NO
-  NO-positive = labelCount-positive (likeObjects p) _ (pow-pos (total (p .object)))
 
   pub NU-le : NU p ≤ sets (p .user)
   unfolding NU

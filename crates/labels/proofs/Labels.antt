@@ -9,7 +9,6 @@ use native.Mathlib.Nat.{eq-or-lt-of-le}
 use native.Mathlib.Omega.{arith}
 use lib.Dec.{eqb}
 use borrow.Author.Tests.{eqb-true, eq-eqb, ne-eqb}
-use Rattle.basis.specs.Numbers.{first, count}
 use Rattle.basis.proofs.Bools.{never}
 use Rattle.basis.proofs.Counting.{Least, first-least, first-is, first-same, count-strict, count-mono, count-under, count-le, nth}
 use Rattle.labels.specs.Labels.{lowestLike, leads, labelCount, label, leader, different}
@@ -35,14 +34,10 @@ module _ (like : ℕ → ℕ → Bool) where
   unfolding leads
   is-leads u = eq-eqb _ u
 
-  -- there are no more labels than sets, and one where there is a set
+  -- there are no more labels than sets
   pub labelCount-le : (m : ℕ) → labelCount like m ≤ m
   unfolding labelCount
   labelCount-le m = count-le (leads like) m
-
-  pub labelCount-positive : (m : ℕ) → 0 < m → 0 < labelCount like m
-  unfolding labelCount count lowestLike first
-  labelCount-positive m h = count-strict (leads like) 0 m (is-leads 0 refl) h
 
   pub labelCount-mono : (a b : ℕ) → a ≤ b → labelCount like a ≤ labelCount like b
   unfolding labelCount

@@ -5,7 +5,6 @@ use native.Mathlib.Nat.{not-suc-le-zero}
 use native.Mathlib.Omega.{arith}
 use lib.ListN.{length, getD, length-set}
 use borrow.Author.Needs.{needs}
-use Rattle.basis.proofs.Lists.{long}
 use Rattle.basis.proofs.Places.{stored-next}
 use Rattle.sets.specs.Set.{has}
 use Rattle.policy.specs.Limits.{mostActions}
