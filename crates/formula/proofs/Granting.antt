@@ -63,8 +63,13 @@ module _ (p : Policy) (s : Sets) where
     outcome-passed e =
         rw (part-next noWords rs i n h l, outcome-first (getD rs i noWords) (drop (i + 1) (take n rs)) a, ne-eqb (getD rs i noWords .action) a e)
 
+  -- no words, and so nothing is true
+  pub nothing-true : (g : Grant) → g .rule .count ≡ 0 → truth p s (wordsIn (g .rule .count) (g .rule .words)) ≡ false
+  unfolding truth run
+  nothing-true g e = rw e
+
   -- no rule, and so no words
-  pub outcome-none : (g : Grant) (a : ℕ) → g .count ≡ 0 → truth p s (wordsIn (g .count) (g .words)) ≡ outcome p s [] a
+  pub outcome-none : (g : Grant) (a : ℕ) → g .rule .count ≡ 0 → truth p s (wordsIn (g .rule .count) (g .rule .words)) ≡ outcome p s [] a
   unfolding outcome formulaIn truth run
   outcome-none g a e = rw e
 

@@ -15,7 +15,7 @@ use crate::grant::Grants;
 use crate::side::VECTORS;
 use policy::limits::MOST_ACTIONS;
 
-// For each action the pairs at which it is granted.
+// For each action the pairs at which it is granted; none past the last action.
 pub fn of_pairs(
     sides: Attributes,
     users: &[u64; VECTORS],
@@ -23,7 +23,7 @@ pub fn of_pairs(
     grants: Grants,
 ) -> [u64; MOST_ACTIONS]
     requires { ⌜ ((p : Policy) × AttributesOf p sides × GrantsOf p grants) ⌝ }
-    ensures { λ r. ⌜ ((p : Policy) (k : ℕ) (s : Sets) → AttributesOf p sides → GrantsOf p grants → InLane p (now (users .entry)) (now (objects .entry)) k s → (a : ℕ) → a < grants .count → has (getD r a 0) k ≡ truth.grants p a s) ⌝ }
+    ensures { λ r. ⌜ ((p : Policy) (k : ℕ) (s : Sets) → AttributesOf p sides → GrantsOf p grants → InLane p (now (users .entry)) (now (objects .entry)) k s → (a : ℕ) → a < grants .count → has (getD r a 0) k ≡ truth.grants p a s) × ((a : ℕ) → grants .count ≤ a → getD r a 0 ≡ 0) ⌝ }
 {
     let each = grants.each;
     let n = grants.count;
@@ -35,13 +35,14 @@ pub fn of_pairs(
     r
 }
 
-// The table entry of pair k: bit a is set where action a is granted, of n actions.
-pub fn entry(granted: &[u64; MOST_ACTIONS], n: usize, k: usize) -> u8
-    requires { ⌜ (n ≤ mostActions) × (k < lanes) ⌝ }
-    ensures { λ r. ⌜ r ≡ setOf (λ a. has (getD (now (granted .entry)) a 0) k) n ⌝ }
+// The table entry of pair k: bit a is set where action a is granted. The loop goes over as many actions as any form
+// has, so that the compiler knows how many.
+pub fn entry(granted: &[u64; MOST_ACTIONS], k: usize) -> u8
+    requires { ⌜ k < lanes ⌝ }
+    ensures { λ r. ⌜ r ≡ setOf (λ a. has (getD (now (granted .entry)) a 0) k) mostActions ⌝ }
 {
     let mut r: u8 = 0;
-    for a in 0..n {
+    for a in 0..MOST_ACTIONS {
         if (granted[a] >> k) % 2 == 1 {
             r += 1 << a;
         }

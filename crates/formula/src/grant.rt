@@ -13,15 +13,15 @@ use crate::evaluate;
 use crate::side::VECTORS;
 use policy::limits;
 use policy::limits::MOST_ACTIONS;
+use policy::value::RuleValue;
 use policy::value::Rules;
 use policy::value::Slot;
 use policy::value::WORD_PLACES;
 use words::Word;
 
-// What grants one action: the words of its formula, and none where it has no rule.
+// What grants one action: its rule, and one without words where it has none.
 pub struct Grant {
-    pub count: usize,
-    pub words: [Slot; WORD_PLACES],
+    pub rule: RuleValue,
 }
 
 // What grants each action of a policy.
@@ -32,10 +32,16 @@ pub struct Grants {
 
 // What grants nothing.
 fn nothing() -> Grant
-    ensures { λ r. ⌜ r .count ≡ 0 ⌝ }
+    ensures { λ r. ⌜ r .rule .count ≡ 0 ⌝ }
 {
     let words = [Slot { word: Word::False }; WORD_PLACES];
-    Grant { count: 0, words }
+    Grant {
+        rule: RuleValue {
+            action: 0,
+            count: 0,
+            words,
+        },
+    }
 }
 
 // What grants an action by these rules.
@@ -49,11 +55,7 @@ pub fn of_action(rules: Rules, action: u32) -> Grant
     while i < n {
         let rule = entries[i];
         if rule.action == action {
-            let words = rule.words;
-            return Grant {
-                count: rule.count,
-                words,
-            };
+            return Grant { rule };
         }
         i += 1;
     }
@@ -83,6 +85,10 @@ pub fn where_granted(
     requires { ⌜ ((p : Policy) × (a : ℕ) × AttributesOf p sides × GrantOf p a grant) ⌝ }
     ensures { λ r. ⌜ ((p : Policy) (a k : ℕ) (s : Sets) → AttributesOf p sides → GrantOf p a grant → InLane p (now (users .entry)) (now (objects .entry)) k s → has r k ≡ grants p a s) ⌝ }
 {
-    let words = grant.words;
-    evaluate::truths(sides, users, objects, words, grant.count)
+    let rule = grant.rule;
+    if rule.count == 0 {
+        return 0;
+    }
+    let words = rule.words;
+    evaluate::truths(sides, users, objects, words, rule.count)
 }

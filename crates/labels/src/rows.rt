@@ -58,9 +58,8 @@ fn put_block(
     ensures { λ _. ⌜ (length (now (row .exit)) ≡ mostSets) × ((p : Policy) (u : ℕ) → AttributesOf p sides → GrantsOf p grants → ((k : ℕ) → k < count → InLane p (now (users .entry)) (now (objects .entry)) k (at u (start + k))) → ((o : ℕ) → o < start → getD (now (row .entry)) o 0 ≡ entryOf p (at u o)) → (o : ℕ) → o < start + count → getD (now (row .exit)) o 0 ≡ entryOf p (at u o)) ⌝ }
 {
     let granted = entries::of_pairs(sides, users, objects, grants);
-    let n = grants.count;
     for k in 0..count {
-        row[start + k] = entries::entry(&granted, n, k);
+        row[start + k] = entries::entry(&granted, k);
     }
 }
 

@@ -91,7 +91,7 @@ module _ {t : List ℕ} {c : Cursor} (l : LookedAt t 0 0 Start c) {f : FormRead}
       ∙ p .lines .left user-pairs (withSides form us os) (record { kind = usen; side = shape-sizes us (u .shape) (w .shape) }) refl
       ∙ q .lines .left object-pairs (withSides form userSide os) (record { kind = osen; side = shape-sizes os (o .shape) (v .shape) }) refl
 
-  pub sides-read : SidesFrom t (record { form = f .form; user = record { value = a .side; shape = u .shape }; object = record { value = b .side; shape = o .shape }; cursor = b .cursor })
+  pub sides-read : SidesFrom t (record { form = f .form; user = a .side; ushape = u .shape; object = b .side; oshape = o .shape; cursor = b .cursor })
   sides-read =
       record {
         user = userSide;
@@ -116,9 +116,9 @@ unfolding valueOf
 value-made p a b c d e f g h i j = rw (f, g, h, i, j)
 
 module _ {t : List ℕ} {s : SidesRead} (h : SidesFrom t s)
-    {e : EntriesRead} (u : EntriesFrom t User userNumbers (s .user .shape .total) (s .cursor) e)
-    {f : EntriesRead} (o : EntriesFrom t Object objectNumbers (s .object .shape .total) (e .cursor) f)
-    {r : RulesRead} (l : RulesFrom t (s .form) (s .user .shape) (s .object .shape) (f .cursor) r) where
+    {e : EntriesRead} (u : EntriesFrom t User userNumbers (s .ushape .total) (s .cursor) e)
+    {f : EntriesRead} (o : EntriesFrom t Object objectNumbers (s .oshape .total) (e .cursor) f)
+    {r : RulesRead} (l : RulesFrom t (s .form) (s .ushape) (s .oshape) (f .cursor) r) where
   -- behind the rules only the end line may stand
   pub lists-past : Past (placeOf End) (r .cursor)
   lists-past = l .lines .past (o .lines .past (u .lines .past (h .past)))
@@ -133,16 +133,16 @@ module _ {t : List ℕ} {s : SidesRead} (h : SidesFrom t s)
       let q : Policy = record { form = s .form; user = h .user; object = h .object; users = u .entries; objects = []; rules = [] } in
       let v : Policy = record { form = s .form; user = h .user; object = h .object; users = u .entries; objects = o .entries; rules = [] } in
       h .left
-      ∙ u .lines .left users p (record { kind = user; total = shape-total (h .user) (s .user .shape) (h .user-shape) }) refl
-      ∙ o .lines .left objects q (record { kind = object; total = shape-total (h .object) (s .object .shape) (h .object-shape) }) refl
+      ∙ u .lines .left users p (record { kind = user; total = shape-total (h .user) (s .ushape) (h .user-shape) }) refl
+      ∙ o .lines .left objects q (record { kind = object; total = shape-total (h .object) (s .oshape) (h .object-shape) }) refl
       ∙ l .lines .left rules v
-      (record { kind = rule; form = refl; sizes = rw (shape-sizes (h .user) (s .user .shape) (h .user-shape), shape-sizes (h .object) (s .object .shape) (h .object-shape)) }) refl
+      (record { kind = rule; form = refl; sizes = rw (shape-sizes (h .user) (s .ushape) (h .user-shape), shape-sizes (h .object) (s .oshape) (h .object-shape)) }) refl
 
   pub lists-read : (x : Reading) (v : PolicyValue)
-      → v ≡ record { form = s .form; user = s .user .value; object = s .object .value; users = e .register; objects = f .register; rules = r .rules }
+      → v ≡ record { form = s .form; user = s .user; object = s .object; users = e .register; objects = f .register; rules = r .rules }
       → ((p : Policy) → v ≡ valueOf p → ReadAs (left t (r .cursor) p) x) → ReadAs (readLines start 0 (lines t)) x
   lists-read x v i g =
-      rw lists-left (g policy (i ∙ value-made policy (s .user .value) (s .object .value) (e .register) (f .register) (r .rules) (h .user-value) (h .object-value) (u .register) (o .register) (l .rules)))
+      rw lists-left (g policy (i ∙ value-made policy (s .user) (s .object) (e .register) (f .register) (r .rules) (h .user-value) (h .object-value) (u .register) (o .register) (l .rules)))
 
 -- ---- the text
 

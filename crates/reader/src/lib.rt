@@ -73,10 +73,8 @@ fn read_lists(text: &[u8]) -> Reading
     ensures { λ r. ⌜ ReadAs (readLines start 0 (lines (now (text .entry)))) r ⌝ }
 {
     let s = sides::read(text);
-    let u = s.user;
-    let us = u.shape;
-    let o = s.object;
-    let os = o.shape;
+    let us = s.ushape;
+    let os = s.oshape;
     let c = s.cursor;
     let e = entries::read(text, c, Kind::User, USER_NUMBERS, us.total);
     let users = e.register;
@@ -87,8 +85,8 @@ fn read_lists(text: &[u8]) -> Reading
     let r = rules::read(text, c, s.form, us, os);
     let rules = r.rules;
     let c = r.cursor;
-    let user = u.value;
-    let object = o.value;
+    let user = s.user;
+    let object = s.object;
     let policy = PolicyValue {
         form: s.form,
         user,

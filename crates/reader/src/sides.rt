@@ -6,16 +6,13 @@ use line::head::Before;
 use policy::value::SideValue;
 use text::kind::Kind;
 
-// A side, and its shape.
-pub struct SideRead {
-    pub value: SideValue,
-    pub shape: Shape,
-}
-
+// The sides, each with its shape.
 pub struct SidesRead {
     pub form: u32,
-    pub user: SideRead,
-    pub object: SideRead,
+    pub user: SideValue,
+    pub ushape: Shape,
+    pub object: SideValue,
+    pub oshape: Shape,
     pub cursor: Cursor,
 }
 
@@ -34,17 +31,17 @@ pub fn read(text: &[u8]) -> SidesRead
     let os = o.shape;
     let c = o.cursor;
     let u = crate::seniorities::read(text, c, Kind::Usen, us);
-    let value = u.side;
-    let user = SideRead { value, shape: us };
+    let user = u.side;
     let c = u.cursor;
     let o = crate::seniorities::read(text, c, Kind::Osen, os);
-    let value = o.side;
-    let object = SideRead { value, shape: os };
+    let object = o.side;
     let cursor = o.cursor;
     SidesRead {
         form: f.form,
         user,
+        ushape: us,
         object,
+        oshape: os,
         cursor,
     }
 }

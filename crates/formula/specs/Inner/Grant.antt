@@ -12,12 +12,12 @@ use Rattle.formula.specs.declared.grant.Grants.{Grants}
 
 -- this grants the action, at the sets at which the policy does
 pub record GrantOf (p : Policy) (a : ℕ) (g : Grant) : Type 0 where
-  pub few : g .count ≤ wordPlaces
-  pub formula : (s : Sets) → truth p s (wordsIn (g .count) (g .words)) ≡ grants p a s
+  pub few : g .rule .count ≤ wordPlaces
+  pub formula : (s : Sets) → truth p s (wordsIn (g .rule .count) (g .rule .words)) ≡ grants p a s
 
 -- past the end of an array
 abbrev pub noGrant : Grant
-noGrant = record { count = 0; words = [] }
+noGrant = record { rule = record { action = 0; count = 0; words = [] } }
 
 pub record GrantsOf (p : Policy) (g : Grants) : Type 0 where
   pub all : g .count ≡ actions (p .form)

@@ -18,10 +18,10 @@ read-requires-4 : tie.Need-read-requires-4
 read-requires-4 c κs = search needs
 
 finish-requires : tie.Need-finish-requires
-finish-requires c κs = let b = c .before .before .before .before .before .before .before in (c .before .before .before .before .read4 .ensures .lines .stands, lists-past (b .before .before .before .before .before .before .before .before .before .read .ensures) (b .before .before .before .read2 .ensures) (b .read3 .ensures) (c .before .before .before .before .read4 .ensures))
+finish-requires c κs = let b = c .before .before .before .before .before .before .before in (c .before .before .before .before .read4 .ensures .lines .stands, lists-past (b .before .before .before .before .before .before .before .read .ensures) (b .before .before .before .read2 .ensures) (b .read3 .ensures) (c .before .before .before .before .read4 .ensures))
 
 returns : tie.Need-returns
-returns c = let b = c .before .before .before .before .before .before .before .before in lists-read (b .before .before .before .before .before .before .before .before .before .read .ensures) (b .before .before .before .read2 .ensures) (b .read3 .ensures) (c .before .before .before .before .before .read4 .ensures) _ _ refl (c .finish .ensures)
+returns c = let b = c .before .before .before .before .before .before .before .before in lists-read (b .before .before .before .before .before .before .before .read .ensures) (b .before .before .before .read2 .ensures) (b .read3 .ensures) (c .before .before .before .before .before .read4 .ensures) _ _ refl (c .finish .ensures)
 
 pub read-lists-spec : {M : Type 1} → statement M
 read-lists-spec =

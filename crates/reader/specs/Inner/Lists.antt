@@ -150,12 +150,12 @@ withSides form user object = record { form = form; user = user; object = object;
 pub record SidesFrom (t : List ℕ) (r : SidesRead) : Type 0 where
   pub user : Side
   pub object : Side
-  pub user-value : r .user .value ≡ sideValue user
-  pub object-value : r .object .value ≡ sideValue object
-  pub user-shape : r .user .shape ≡ shapeWith (user .widths)
-  pub object-shape : r .object .shape ≡ shapeWith (object .widths)
-  pub user-sized : Sized (r .user .shape)
-  pub object-sized : Sized (r .object .shape)
+  pub user-value : r .user ≡ sideValue user
+  pub object-value : r .object ≡ sideValue object
+  pub user-shape : r .ushape ≡ shapeWith (user .widths)
+  pub object-shape : r .oshape ≡ shapeWith (object .widths)
+  pub user-sized : Sized (r .ushape)
+  pub object-sized : Sized (r .oshape)
   pub stands : Stands t (r .cursor)
   pub past : Past (suc (placeOf Osen)) (r .cursor)
   pub left : readLines start 0 (lines t) ≡ left t (r .cursor) (withSides (r .form) user object)

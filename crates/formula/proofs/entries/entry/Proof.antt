@@ -14,10 +14,10 @@ use Rattle.formula.proofs.entries.entry.Statement.{statement}
 use Rattle.formula.proofs.entries.entry.Tie as tie
 
 abbrev Inv-loop : tie.InvT-loop
-Inv-loop granted n k r₀ a₀ r a = (a ≤ n) × (r ≡ setOf (λ b. has (getD granted b 0) k) a)
+Inv-loop granted k r₀ a₀ r a = (a ≤ mostActions) × (r ≡ setOf (λ b. has (getD granted b 0) k) a)
 
 abbrev μ-loop : tie.MeasureT-loop
-μ-loop granted n k r₀ a₀ r a = n - a
+μ-loop granted k r₀ a₀ r a = mostActions - a
 
 loop-holds : tie.Need-loop-holds Inv-loop μ-loop
 unfolding setOf
@@ -64,7 +64,7 @@ loop-again c =
     )
 
 returns : tie.Need-returns Inv-loop μ-loop
-returns c = let e : c .before .loop .a ≡ c .before .before .args .n = omega arith in rw e at (c .before .loop .inv .1)
+returns c = let e : c .before .loop .a ≡ mostActions = omega arith in rw e at (c .before .loop .inv .1)
 
 pub entry-spec : {M : Type 1} → statement M
 entry-spec =

@@ -35,12 +35,12 @@ array-copy-out-rule c = search needs
 
 returns : tie.Need-returns Inv-loop μ-loop
 returns c p e =
-    let t = c .before .before .before .before .before .before .before in let l = c .before .before .before .before .before .loop in
+    let t = c .before .before .before .before .before .before in let l = c .before .before .before .before .loop in
     let rs = t .args .rules in let a = t .args .action in
     let h : l .i < rs .count = omega arith in
     record {
       few = rule-at rs (t .pre) (l .inv .1) (l .i) h .words;
-      formula = λ s. outcome-found p s (rs .entries) (rs .count) (l .i) a h (l .inv .1) (c .before .if1 .taken) ∙ l .inv .2 p s ∙ outcome-all p s rs a e;
+      formula = λ s. outcome-found p s (rs .entries) (rs .count) (l .i) a h (l .inv .1) (c .if1 .taken) ∙ l .inv .2 p s ∙ outcome-all p s rs a e;
     }
 
 add-i : tie.Need-add-i Inv-loop μ-loop

@@ -5,8 +5,7 @@ use native.Mathlib.Omega.{arith}
 use lib.ListN.{length, getD, length-set}
 use borrow.Author.Needs.{needs}
 use Rattle.basis.proofs.Places.{stored-next}
-use Rattle.policy.specs.Limits.{mostActions, mostSets}
-use Rattle.policy.proofs.Forms.{actions-most}
+use Rattle.policy.specs.Limits.{mostSets}
 use Rattle.formula.specs.Truth.{at}
 use Rattle.labels.specs.Compile.{entryOf}
 use Rattle.labels.proofs.Entries.{laneEntry, lane-entry}
@@ -14,21 +13,20 @@ use Rattle.labels.proofs.rows.put_block.Statement.{statement}
 use Rattle.labels.proofs.rows.put_block.Tie as tie
 
 abbrev Inv-loop : tie.InvT-loop
-Inv-loop row₀ users objects start count granted n k₀ row k =
-    (k ≤ count) × (n ≤ mostActions) × (length row ≡ mostSets)
-    × ((f : ℕ → ℕ) → ((o : ℕ) → o < start → getD row₀ o 0 ≡ f o) → ((i : ℕ) → i < count → laneEntry granted n i ≡ f (start + i))
+Inv-loop row₀ users objects start count granted k₀ row k =
+    (k ≤ count) × (length row ≡ mostSets)
+    × ((f : ℕ → ℕ) → ((o : ℕ) → o < start → getD row₀ o 0 ≡ f o) → ((i : ℕ) → i < count → laneEntry granted i ≡ f (start + i))
     → (o : ℕ) → o < start + k → getD row o 0 ≡ f o)
 
 abbrev μ-loop : tie.MeasureT-loop
-μ-loop row₀ users objects start count granted n k₀ row k = count - k
+μ-loop row₀ users objects start count granted k₀ row k = count - k
 
 of-pairs-requires : tie.Need-of-pairs-requires Inv-loop μ-loop
 of-pairs-requires c κs = search needs
 
 loop-holds : tie.Need-loop-holds Inv-loop μ-loop
 loop-holds c =
-    let h = c .before .pre .0 in
-    (search needs, omega (arith, h .2 .all, actions-most (h .0 .form)), c .before .pre .3, λ f old new o b. old o (omega arith))
+    (search needs, c .before .pre .3, λ f old new o b. old o (omega arith))
 
 entry-requires : tie.Need-entry-requires Inv-loop μ-loop
 entry-requires c κs = search needs
@@ -50,20 +48,19 @@ loop-again c =
     let l = c .before .before .before .loop in
     let start = c .before .before .before .before .before .args .start in (
       omega arith,
-      l .inv .1,
-      simp length-set (l .inv .2),
+      simp length-set (l .inv .1),
       λ f old new o h.
-          stored-next (λ i x. x ≡ f i) 0 (l .row) (start + l .k) _ (omega (arith, l .inv .2)) (l .inv .3 f old new)
+          stored-next (λ i x. x ≡ f i) 0 (l .row) (start + l .k) _ (omega (arith, l .inv .1)) (l .inv .2 f old new)
           (c .entry .ensures ∙ new (l .k) (c .before .before .loop-test .taken)) o (omega arith),
     )
 
 returns : tie.Need-returns Inv-loop μ-loop
 returns c = (
-  c .before .loop .inv .2,
+  c .before .loop .inv .1,
   λ p u sides grants lane old o h.
       let g = c .before .before .of-pairs in
-      c .before .loop .inv .3 (λ i. entryOf p (at u i)) old
-      (λ k l. lane-entry p (g .result) _ k _ (grants .all) (λ a b. g .ensures p k _ sides grants (lane k l) a b)) o (omega arith),
+      c .before .loop .inv .2 (λ i. entryOf p (at u i)) old
+      (λ k l. lane-entry p (g .result) _ k _ (grants .all) (λ a b. g .ensures .0 p k _ sides grants (lane k l) a b) (g .ensures .1)) o (omega arith),
 )
 
 pub put-block-spec : {M : Type 1} → statement M
