@@ -8,11 +8,10 @@ use native.Mathlib.Nat.{le-trans}
 use native.Mathlib.Omega.{arith}
 use lib.Dec.{eqb, lit≤}
 use borrow.Author.Tests.{eqb-true}
-use Rattle.policy.specs.Limits.{values, userNumbers, objectNumbers}
-use Rattle.policy.specs.Policy.{Side, Policy, sets, setOfNumber}
+use Rattle.policy.specs.Limits.{values, userNumbers}
+use Rattle.policy.specs.Policy.{Side, sets, setOfNumber}
 use Rattle.policy.specs.Value.{entryPlaces, policyOf, sideValue, register, valueOf}
 use Rattle.policy.specs.Valid.{valid}
-use Rattle.policy.specs.Inner.Sound.{sound}
 use Rattle.policy.specs.declared.value.Entry.{Entry}
 use Rattle.policy.specs.declared.value.PolicyValue.{PolicyValue}
 use Rattle.policy.proofs.Parts.{numberFits, numberAbove, Parts, parts, whole}
@@ -20,7 +19,6 @@ use Rattle.policy.proofs.Rising.{rising}
 use Rattle.policy.proofs.Bounds.{Within, total-few, lines-ordered, entry-bounds, parts-within, sound-within}
 use Rattle.policy.proofs.Valid.{valid-stored}
 use Rattle.board.specs.Inner.{Reachable}
-use Rattle.board.proofs.Agreement.{ObjectsFit}
 
 -- a set that is found is that of an entry with the number
 set-in : (es : List Entry) (n s : ℕ) → setOfNumber es n ≡ some s → (e : Entry) × List·Memᴰ e es × (e .number ≡ n) × (e .set ≡ s)
@@ -41,9 +39,6 @@ module _ (most : ℕ) (side : Side) (es : List Entry) (h : rising (numberFits mo
 
   set-lt : s < sets side
   set-lt = let r = set-in es n s q in rw (r .3) at (entry-bounds most side es h (r .0) (r .1) .1)
-
-pub objects-fit : (p : Policy) → sound p ≡ true → ObjectsFit p
-objects-fit p e = set-lt objectNumbers (p .object) (p .objects) (parts p (whole p e .lists) .objects)
 
 pub reachable : (v : PolicyValue) → valid v ≡ true → Reachable (v .user) (v .users)
 unfolding policyOf valueOf sideValue register

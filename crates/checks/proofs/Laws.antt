@@ -12,13 +12,11 @@ use lib.Pow.{pow-pos}
 use lib.Seq.{length-take-le}
 use Rattle.basis.specs.Lists.{sum}
 use Rattle.basis.proofs.Bools.{both-ways}
-use Rattle.basis.proofs.Padded.{take-padded}
 use Rattle.basis.proofs.Walk.{part-next, part-end}
 use Rattle.sets.specs.Set.{mask}
 use Rattle.seniority.specs.declared.Direct.{Direct}
 use Rattle.policy.specs.Policy.{Side, total, attributeOf}
 use Rattle.policy.specs.Checks.{sideSizes, widthFits, pairFits, pairAbove, entryFits}
-use Rattle.policy.specs.Value.{widthPlaces, sideValue}
 use Rattle.checks.specs.Inner.{sizesIn, shapeOf}
 use Rattle.checks.specs.declared.side.Shape.{Shape}
 
@@ -71,11 +69,6 @@ module _ (most t w : ℕ) where
 pub shape-sizes : (ws : List ℕ) (n : ℕ) → n ≤ length ws → (s : Side) → s .widths ≡ take n ws → sizesIn (shapeOf ws n) ≡ sideSizes s
 unfolding total
 shape-sizes ws n h s e = rw (e, length-take-le n ws h)
-
--- and so of the side that is stored with them
-pub value-sizes : (s : Side) → let x = sideValue s in sizesIn (shapeOf (x .widths) (x .attributes)) ≡ sideSizes s
-unfolding sideValue total
-value-sizes s = rw (take-padded widthPlaces 0 (s .widths))
 
 -- ---- a pair
 

@@ -62,16 +62,21 @@ pub fn of_action(rules: Rules, action: u32) -> Grant
     nothing()
 }
 
-// What grants each action of this form by these rules.
+// What grants each action of this form by these rules. The last rule comes first, so an action's first one counts.
 pub fn of_actions(form: u32, rules: Rules) -> Grants
     requires { ⌜ RulesFit rules ⌝ }
     ensures { λ r. ⌜ ((p : Policy) → p .form ≡ form → p .rules ≡ rulesOf rules → GrantsOf p r) ⌝ }
 {
-    let n = limits::actions(form) as usize;
+    let entries = rules.entries;
     let mut each = [nothing(); MOST_ACTIONS];
-    for a in 0..n {
-        each[a] = of_action(rules, a as u32);
+    let mut i = rules.count;
+    while 0 < i {
+        i -= 1;
+        let rule = entries[i];
+        let a = rule.action as usize;
+        each[a] = Grant { rule };
     }
+    let n = limits::actions(form) as usize;
     Grants { count: n, each }
 }
 

@@ -27,7 +27,6 @@ use Rattle.policy.specs.Checks.{sizes, inRange, extended}
 use Rattle.policy.specs.Read.{State, start, after, lineRefusal, lineAfter}
 use Rattle.policy.specs.Inner.Sound.{widthsSound, linesSound, entriesSound, rulesSound, sideSound, listsSound, sound}
 use Rattle.policy.proofs.Parts.{Parts, parts, lists-sound, is-sound}
-use Rattle.policy.proofs.Bounds.{Within, sound-within}
 use Rattle.policy.proofs.Order.{reached, required, May, allowed-order, cut, cut-more}
 use Rattle.policy.proofs.Growth.{Fits, parts-more}
 use Rattle.policy.proofs.Passed.{Passed, taken}
@@ -133,9 +132,6 @@ pub reading-next : (s : State) (l : TextLine) → Reading s → lineRefusal s l 
 reading-next s l r e =
     let t = taken s l e in
     rw (t .named) (reading-kind s (l .ended) (t .kind) (fields (l .bytes)) r (t .checks))
-
-pub reading-within : (s : State) → Reading s → Within (s .policy)
-reading-within s r = sound-within (s .policy) (r .lists)
 
 -- at the end all is due
 pub reading-sound : (s : State) → Reading s → required ≤ reached (s .before) → sound (s .policy) ≡ true

@@ -9,11 +9,10 @@ use Rattle.seniority.specs.Seniority.{direct}
 use Rattle.words.specs.declared.Word.{Word}
 use Rattle.words.specs.declared.Word.the-variants.{True}
 use Rattle.policy.specs.Policy.{Side, Rule, Policy}
-use Rattle.policy.specs.Checks.{withWidth, withLine, withEntry}
+use Rattle.policy.specs.Checks.{withEntry}
 use Rattle.policy.specs.Value.{widthPlaces, entryPlaces, wordPlaces, rulePlaces, slot, noEntry, noRule, sideValue, register, ruleValue, rulesValue, valueOf, sideOf, entriesOf, ruleOf, rulesOf, policyOf, linePlaces}
 use Rattle.policy.specs.declared.value.Entry.{Entry}
 use Rattle.policy.specs.declared.value.Slot.{Slot}
-use Rattle.policy.specs.declared.value.SideValue.{SideValue}
 use Rattle.policy.specs.declared.value.Register.{Register}
 use Rattle.policy.specs.declared.value.RuleValue.{RuleValue}
 use Rattle.policy.specs.declared.value.Rules.{Rules}
@@ -50,25 +49,11 @@ policy-value p = rw (side-value (p .user), side-value (p .object), register-valu
 
 -- ---- one line more is a store behind the last
 
-abbrev pub moreWidth : ℕ → SideValue → SideValue
-moreWidth w x = record { attributes = x .attributes + 1; widths = set (x .widths) (x .attributes) w; lines = x .lines; seniority = x .seniority }
-
-abbrev pub moreLine : ℕ → ℕ → SideValue → SideValue
-moreLine v j x = record { attributes = x .attributes; widths = x .widths; lines = x .lines + 1; seniority = set (x .seniority) (x .lines) (direct v j) }
-
 abbrev pub moreEntry : ℕ → ℕ → Register → Register
 moreEntry n s x = record { count = x .count + 1; entries = set (x .entries) (x .count) (record { number = n; set = s }) }
 
 abbrev pub moreRule : RuleValue → Rules → Rules
 moreRule r x = record { count = x .count + 1; entries = set (x .entries) (x .count) r }
-
-pub more-width : (w : ℕ) (s : Side) → length (s .widths) < widthPlaces → sideValue (withWidth w s) ≡ moreWidth w (sideValue s)
-unfolding sideValue
-more-width w s h = rw (length-snoc (s .widths) w, padded-more widthPlaces 0 (s .widths) w h)
-
-pub more-line : (v j : ℕ) (s : Side) → length (s .lines) < linePlaces → sideValue (withLine v j s) ≡ moreLine v j (sideValue s)
-unfolding sideValue
-more-line v j s h = rw (length-snoc (s .lines) (direct v j), padded-more linePlaces (direct 0 0) (s .lines) (direct v j) h)
 
 pub more-entry : (n s : ℕ) (es : List Entry) → length es < entryPlaces → register (withEntry n s es) ≡ moreEntry n s (register es)
 unfolding register

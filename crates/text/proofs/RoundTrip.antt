@@ -16,10 +16,9 @@ use Rattle.basis.specs.Lists.{all, same}
 use Rattle.basis.proofs.Bools.{and-left, and-right, or-cases, never}
 use Rattle.basis.proofs.Lists.{all-at, all-of}
 use Rattle.basis.proofs.Same.{same-eq}
-use Rattle.text.specs.Number.{mostDigits, isDigit, digitOf, valueFrom, valueOf, isNumber, numeral, digitsBefore, decimal}
+use Rattle.text.specs.Number.{mostDigits, isDigit, digitOf, valueFrom, valueOf, isNumber, digitsBefore, decimal}
 use Rattle.text.specs.Parts.{lineFeed, comma, onto, split, join, TextLine, linesOf, lines, textOf}
 use Rattle.text.specs.Kind.{wordOf, kinds, namedIn, named}
-use Rattle.text.specs.declared.number.Numeral.the-variants.{Value, Malformed}
 use Rattle.text.specs.declared.kind.Kind.{Kind}
 use Rattle.text.specs.declared.kind.Kind.the-variants.{Policy, Uattr, Oattr, Usen, Osen, User, Object, Rule, End}
 use Rattle.text.specs.declared.kind.Named.{Named}
@@ -259,14 +258,6 @@ value-decimal (d ∷ ds) e =
     let t = and-right (isDigit d) (all isDigit ds) (n .digits) in
     digits-of d ds h t
     (λ h. ⊎-elim (λ p. absurd (omega arith)) (λ p. p) (n .lead))
-
-said : (b : Bool) (v n : ℕ) → cond b (Value v) Malformed ≡ Value n → (b ≡ true) × (v ≡ n)
-said true v n e = (refl, cc)
-said false v n e = let z : _≡_ {A = ℕ} 0 1 = cc in absurd (omega arith)
-
-pub numeral-value : (f : List ℕ) (n : ℕ) → numeral f ≡ Value n → (isNumber f ≡ true) × (valueOf f ≡ n)
-unfolding numeral
-numeral-value f n e = said (isNumber f) (valueOf f) n e
 
 -- ---- parts
 

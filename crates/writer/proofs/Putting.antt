@@ -81,9 +81,6 @@ put-byte {c} {at} {b} h =
 -- ---- a line in the rest of the buffer
 
 module _ {t m : List ℕ} {at : ℕ} (h : Room t at m) where
-  pub part-start : at ≤ length m
-  part-start = omega (arith, h .fits)
-
   pub part-room : Room t 0 (take (length m - at) (drop at m))
   part-room = record { fits = omega (arith, h .fits, length-take-le (length m - at) (drop at m) (omega (arith, length-drop at m))) }
 

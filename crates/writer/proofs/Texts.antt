@@ -5,7 +5,7 @@ use mathlib.Core.Path.{_≡_, refl, sym, _∙_}
 use mathlib.Core.List.{List, [], _∷_, _++_, map, map-map, append-assoc, append-nil}
 use Rattle.seniority.specs.declared.Direct.{Direct}
 use Rattle.text.specs.Number.{decimal}
-use Rattle.text.specs.Parts.{comma, lineFeed, join, textOf as linesText}
+use Rattle.text.specs.Parts.{comma, join, textOf as linesText}
 use Rattle.text.specs.Kind.{wordOf, layoutOf}
 use Rattle.text.specs.declared.kind.Kind.{Kind}
 use Rattle.text.specs.declared.kind.Kind.the-variants.{Policy as PolicyKind, Uattr, Oattr, Usen, Osen, User, Object, Rule as RuleKind, End}

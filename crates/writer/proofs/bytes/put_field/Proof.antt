@@ -5,7 +5,7 @@ use mathlib.Core.List.{List, [], _∷_}
 use Prim.Native.Nat.{ℕ, _+_}
 use lib.ListN.{set}
 use Rattle.text.specs.Parts.{comma}
-use Rattle.writer.specs.Inner.Put.{Room, Put, field}
+use Rattle.writer.specs.Inner.Put.{Room, field}
 use Rattle.writer.proofs.Putting.{put-long, room-first, room-next, put-next, put-byte}
 use Rattle.writer.proofs.bytes.put_field.Statement.{statement}
 use Rattle.writer.proofs.bytes.put_field.Tie as tie
