@@ -10,14 +10,16 @@ use Rattle.text.specs.Kind.{placeOf}
 use Rattle.text.specs.Parts.{lines}
 use Rattle.text.specs.declared.kind.Kind.{Kind}
 use Rattle.text.specs.declared.kind.Kind.the-variants.{Uattr, Oattr, Usen, Osen, User, Object, End}
-use Rattle.policy.specs.Answers.{ReadAs}
+use Rattle.policy.specs.Answers.{numberOf, ReadAs, valueIn}
 use Rattle.policy.specs.Checks.{sideSizes}
 use Rattle.policy.specs.Limits.{textBytes, mostValues, values, userNumbers, objectNumbers}
 use Rattle.policy.specs.Policy.{Side, Policy, blank, total}
 use Rattle.policy.specs.Read.{Refused, start, readLines, readText}
 use Rattle.policy.specs.Value.{widthPlaces, sideValue, register, rulesValue, valueOf}
-use Rattle.policy.specs.declared.value.PolicyValue.{PolicyValue}
+use Rattle.policy.specs.declared.refusal.Refusal.{Refusal}
 use Rattle.policy.specs.declared.value.Reading.{Reading}
+use Rattle.policy.specs.declared.value.Verdict.{Verdict}
+use Rattle.policy.specs.declared.value.Verdict.the-variants.{Accepted as AcceptedText, Refused as RefusedText}
 use Rattle.policy.specs.declared.value.Register.{Register}
 use Rattle.policy.specs.declared.value.Rules.{Rules}
 use Rattle.policy.specs.declared.value.SideValue.{SideValue}
@@ -25,7 +27,7 @@ use Rattle.policy.proofs.Forms.{values-most}
 use Rattle.checks.specs.Inner.{sizesIn}
 use Rattle.checks.specs.declared.side.Shape.{Shape}
 use Rattle.line.specs.declared.head.Before.the-variants.{Start}
-use Rattle.reader.specs.Inner.Cursor.{left, Past, LookedAt}
+use Rattle.reader.specs.Inner.Cursor.{left, outcomeOf, Past, LookedAt}
 use Rattle.reader.specs.Inner.Lists.{shapeWith, withSides, Sized, WidthsFrom, SenioritiesFrom, EntriesFrom, RulesFrom, FormFrom, SidesFrom}
 use Rattle.reader.specs.declared.cursor.Cursor.{Cursor}
 use Rattle.reader.specs.declared.entries.EntriesRead.{EntriesRead}
@@ -138,11 +140,20 @@ module _ {t : List ℕ} {s : SidesRead} (h : SidesFrom t s)
       ∙ l .lines .left rules v
       (record { kind = rule; form = refl; sizes = rw (shape-sizes (h .user) (s .ushape) (h .user-shape), shape-sizes (h .object) (s .oshape) (h .object-shape)) }) refl
 
-  pub lists-read : (x : Reading) (v : PolicyValue)
-      → v ≡ record { form = s .form; user = s .user; object = s .object; users = e .register; objects = f .register; rules = r .rules }
-      → ((p : Policy) → v ≡ valueOf p → ReadAs (left t (r .cursor) p) x) → ReadAs (readLines start 0 (lines t)) x
-  lists-read x v i g =
-      rw lists-left (g policy (i ∙ value-made policy (s .user) (s .object) (e .register) (f .register) (r .rules) (h .user-value) (h .object-value) (u .register) (o .register) (l .rules)))
+  -- the answer by what is said behind the lists
+  module _ (y : Verdict) (z : (p : Policy) → left t (r .cursor) p ≡ outcomeOf y p) where
+    pub lists-refused : (w : Refusal) (n : ℕ) → y ≡ RefusedText w n → (x : Reading) → ReadAs (Refused (numberOf w) n) x → ReadAs (readLines start 0 (lines t)) x
+    lists-refused w n q x g = rw (lists-left, z policy, q) g
+
+    pub lists-read : y ≡ AcceptedText
+        → ReadAs (readLines start 0 (lines t)) (record { verdict = AcceptedText; policy = record { form = s .form; user = s .user; object = s .object; users = e .register; objects = f .register; rules = r .rules } })
+    unfolding valueIn
+    lists-read q =
+        rw (lists-left, z policy, q)
+        (record {
+          verdict = refl;
+          value = value-made policy (s .user) (s .object) (e .register) (f .register) (r .rules) (h .user-value) (h .object-value) (u .register) (o .register) (l .rules);
+        })
 
 -- ---- the text
 

@@ -6,8 +6,7 @@ ghost use Rattle.text.specs.declared.kind.Kind.the-variants as kind;
 ghost use Rattle.policy.specs.Answers.{numberOf, ReadAs};
 ghost use Rattle.policy.specs.Policy.{Policy};
 ghost use Rattle.policy.specs.Read.{Refused, start, readLines, readText};
-ghost use Rattle.policy.specs.Value.{valueOf};
-ghost use Rattle.reader.specs.Inner.Cursor.{Stands, Past, Bare, left};
+ghost use Rattle.reader.specs.Inner.Cursor.{Stands, Past, Bare, left, outcomeOf};
 
 mod cursor;
 mod entries;
@@ -50,21 +49,18 @@ fn pass_end(text: &[u8], c: Cursor) -> Cursor
     c
 }
 
-// The answer at the end line, or where the text is refused, with the value of the lines before.
-fn finish(text: &[u8], c: Cursor, policy: PolicyValue) -> Reading
+// What is said of a text behind its lists: it is over at the end line, or is refused.
+fn finish(text: &[u8], c: Cursor) -> Verdict
     requires { ⌜ Stands (now text) c × Past (placeOf kind.End) c ⌝ }
-    ensures { λ r. ⌜ ((p : Policy) → policy ≡ valueOf p → ReadAs (left (now (text .entry)) c p) r) ⌝ }
+    ensures { λ r. ⌜ ((p : Policy) → left (now (text .entry)) c p ≡ outcomeOf r p) ⌝ }
 {
     let d = pass_end(text, c);
     let a = d.ahead;
     match a {
-        Ahead::Over => Reading {
-            verdict: Verdict::Accepted,
-            policy,
-        },
-        Ahead::Fault(r) => refused(r, d.line),
+        Ahead::Over => Verdict::Accepted,
+        Ahead::Fault(r) => Verdict::Refused(r, d.line),
         // No line may stand behind the end line.
-        Ahead::Line(_) => refused(Refusal::KindNotAllowed, d.line),
+        Ahead::Line(_) => Verdict::Refused(Refusal::KindNotAllowed, d.line),
     }
 }
 
@@ -85,6 +81,10 @@ fn read_lists(text: &[u8]) -> Reading
     let r = rules::read(text, c, s.form, us, os);
     let rules = r.rules;
     let c = r.cursor;
+    let said = finish(text, c);
+    if let Verdict::Refused(why, n) = said {
+        return refused(why, n);
+    }
     let user = s.user;
     let object = s.object;
     let policy = PolicyValue {
@@ -95,7 +95,10 @@ fn read_lists(text: &[u8]) -> Reading
         objects,
         rules,
     };
-    finish(text, c, policy)
+    Reading {
+        verdict: Verdict::Accepted,
+        policy,
+    }
 }
 
 // The policy value of a text, or the refusal and its line.

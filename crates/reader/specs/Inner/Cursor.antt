@@ -14,6 +14,8 @@ use Rattle.policy.specs.Checks.{lineInRange, lineRises, lineWidthsEqual, lineBa
 use Rattle.policy.specs.Line.{noNumbers, allowed, countFits, formFits, numbersOf, lineOf}
 use Rattle.policy.specs.Policy.{Policy}
 use Rattle.policy.specs.Read.{Outcome, Accepted, Refused, readLines}
+use Rattle.policy.specs.declared.value.Verdict.{Verdict}
+use Rattle.policy.specs.declared.value.Verdict.the-variants.{Accepted as AcceptedText, Refused as RefusedText}
 use Rattle.line.specs.Inner.Head.{beforeOf, between, numbersFit}
 use Rattle.line.specs.declared.head.Before.{Before}
 use Rattle.reader.specs.declared.cursor.Ahead.{Ahead}
@@ -46,6 +48,11 @@ leftBy t c (Fault r) p = Refused (numberOf r) (c .line)
 
 unfoldable pub left : List ℕ → Cursor → Policy → Outcome
 left t c p = leftBy t c (c .ahead) p
+
+-- the outcome that a verdict on the lines of a policy says
+abbrev pub outcomeOf : Verdict → Policy → Outcome
+outcomeOf AcceptedText p = Accepted p
+outcomeOf (RefusedText r l) p = Refused (numberOf r) l
 
 -- a cursor with no line
 abbrev pub bareAt : ℕ → ℕ → Ahead → Cursor
