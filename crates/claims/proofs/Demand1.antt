@@ -1,51 +1,100 @@
--- Demand 1: a refusal leaves the lent buffers and the board as they were.
+-- Demand 1, call by call: each goes by the lowest broken check of its list.
 use Prim.Native.Nat.{ℕ}
-use mathlib.Core.Path.{_≡_, refl}
-use mathlib.Core.Bool.{Bool, true, false}
+use mathlib.Core.Path.{_≡_, refl, ap}
+use mathlib.Core.Bool.{false, false≢true}
+use mathlib.Core.List.{[], _∷_, map}
 use mathlib.Core.Option.{Option, none, some}
 use native.Mathlib.Omega.{arith}
-use Rattle.basis.specs.Choice.{given, gives, refuses, lowest}
-use Rattle.policy.specs.Policy.{Policy}
+use Rattle.basis.proofs.Bools.{fails}
+use Rattle.policy.specs.Policy.{blank}
+use Rattle.policy.specs.Value.{valueOf}
+use Rattle.policy.specs.Valid.{valid}
 use Rattle.policy.specs.Write.{write, writeBuffer, writeChecks}
-use Rattle.policy.specs.Answers.{Reply, refused, decided}
-use Rattle.tuples.specs.Tuples.{list, listBuffer, listChecks}
+use Rattle.policy.specs.Answers.{numberOf, valueIn}
+use Rattle.policy.specs.declared.value.PolicyValue.{PolicyValue}
+use Rattle.policy.proofs.Values.{policy-value}
+use Rattle.policy.proofs.Valid.{valid-whole}
+use Rattle.formula.specs.Decide as byFormula
+use Rattle.tuples.specs.Tuples as byTuples
 use Rattle.labels.specs.Compile.{compile, compileBuffers, compileChecks}
-use Rattle.board.specs.Machine.{Call, opens, adds, drops, closes, requests, Entry, Out, sessionOf, setsAsked}
-use Rattle.board.specs.Board.{Labels, boardStep, boardChecks, boardReply, entryAt, grantsByLabels}
+use Rattle.labels.specs.Apart.{Tells, apartChecks}
+use Rattle.labels.specs.declared.Apartness.{Apartness}
+use Rattle.labels.specs.declared.Apartness.the-variants.{Alike, Apart, Refused as ApartRefused}
+use Rattle.board.specs.Machine.{Call, opens, adds, drops, closes, requests, Out, checks}
+use Rattle.board.specs.Board.{Labels, boardStep, boardChecks, lookUp}
 use Rattle.board.specs.declared.Board.{Board}
-use Rattle.claims.specs.Demand1.{Claim}
+use Rattle.runner.specs.Run.{runChecks, answerCount, answerBuffer, boardAfterRun}
+use Rattle.claims.specs.Answers.{Answers}
+use Rattle.claims.specs.Demand1.{ApartResult, ApartRefuses, refusalsOf, Calls, Claim}
+use Rattle.claims.proofs.Answers.{answers, none-given, some-given}
+use Rattle.claims.proofs.Reading.{because}
 
--- where a call refuses, what goes by the same checks takes its refused value
-kept : {A B : Type 0} (o : Option ℕ) (a : A) (x y : B) (n : ℕ) → given o (gives a) refuses ≡ refuses n → given o x (λ m. y) ≡ y
-kept none a x y n e = let z : _≡_ {A = ℕ} 0 1 = cc in absurd (omega arith)
-kept (some m) a x y n e = refl
+-- ---- "A refused read yields no policy"
 
--- a decision is no refusal
-decided-not : (b : Bool) (n : ℕ) → decided b ≡ refused n → ⊥
-decided-not true n e = let z : _≡_ {A = ℕ} 0 1 = cc in omega arith
-decided-not false n e = let z : _≡_ {A = ℕ} 0 1 = cc in omega arith
+-- the blank policy is of no form
+pub blank-refused : valid (valueOf blank) ≡ false
+unfolding blank
+blank-refused =
+    fails (valid (valueOf blank)) (λ e.
+    let w = valid-whole (valueOf blank) e .form in
+    false≢true (rw (policy-value blank) at w))
 
-reply-not : (p : Policy) (l : Labels) (c : Call) (e : Option Entry) (n : ℕ) → boardReply p l c e ≡ refused n → ⊥
-unfolding boardReply
-reply-not p l (opens u s set) e n q = let z : _≡_ {A = ℕ} 0 1 = cc in omega arith
-reply-not p l (adds u s set) e n q = let z : _≡_ {A = ℕ} 0 1 = cc in omega arith
-reply-not p l (drops u s set) e n q = let z : _≡_ {A = ℕ} 0 1 = cc in omega arith
-reply-not p l (closes u s) e n q = let z : _≡_ {A = ℕ} 0 1 = cc in omega arith
-reply-not p l (requests s a m) e n q = decided-not (grantsByLabels l a (setsAsked p m e)) n q
+-- ---- Apart
 
--- a step that answers a refusal keeps its state
-step-kept : (o : Option ℕ) (r : Reply) (x b : Board) (n : ℕ) → (r ≡ refused n → ⊥)
-    → given {B = Out Board} o (record { reply = r; state = x }) (λ m. record { reply = refused m; state = b }) .reply ≡ refused n
-    → given {B = Out Board} o (record { reply = r; state = x }) (λ m. record { reply = refused m; state = b }) .state ≡ b
-step-kept none r x b n h e = absurd (h e)
-step-kept (some m) r x b n h e = refl
+no-number : {A : Type 0} (o : Option ℕ) (n : ℕ) → o ≡ none → o ≡ some n → A
+no-number o n e f = let z : _≡_ {A = ℕ} 0 1 = cc in absurd (omega arith)
+
+same-number : (o : Option ℕ) (m n : ℕ) → o ≡ some m → o ≡ some n → m ≡ n
+same-number o m n e f = cc
+
+apart : (v : PolicyValue) (u w : ℕ) (r : Apartness) → Tells v u w r
+    → Answers (11 ∷ 19 ∷ []) (apartChecks v u w) (ApartResult v u w r) (ApartRefuses r)
+apart v u w Alike t = answers _ (apartChecks v u w) refl (λ e. t .1) (λ n e. no-number _ n (t .0) e)
+apart v u w (Apart x) t = answers _ (apartChecks v u w) refl (λ e. t .1) (λ n e. no-number _ n (t .0) e)
+apart v u w (ApartRefused r) t =
+    answers _ (apartChecks v u w) refl (λ e. no-number _ (numberOf r) e t) (λ n e. same-number _ (numberOf r) n t e)
+
+-- ---- session calls
+
+session-numbers : (v : PolicyValue) (l : Labels) (c : Call) (b : Board) → map (λ x. x .number) (boardChecks v l c b) ≡ refusalsOf c
+unfolding boardChecks checks lookUp
+session-numbers v l (opens u s set) b = refl
+session-numbers v l (adds u s set) b = refl
+session-numbers v l (drops u s set) b = refl
+session-numbers v l (closes u s) b = refl
+session-numbers v l (requests s a n) b = refl
+
+-- ---- all calls
+
+calls : (v : PolicyValue) → Calls v
+unfolding write writeBuffer byFormula.decide byTuples.list byTuples.listBuffer byTuples.decideByTuples compile compileBuffers boardStep answerCount answerBuffer boardAfterRun
+calls v =
+    record {
+      write = λ buffer.
+          answers _ (writeChecks v buffer) refl
+          (λ e. (none-given _ _ _ e, none-given _ _ _ e))
+          (λ n e. (some-given _ _ _ n e, some-given _ _ _ n e));
+      decide = λ a s. answers _ (byFormula.decideChecks v a s) refl (none-given _ _ _) (some-given _ _ _);
+      list = λ a buffer.
+          answers _ (byTuples.listChecks v a buffer) refl
+          (λ e. (none-given _ _ _ e, none-given _ _ _ e))
+          (λ n e. (some-given _ _ _ n e, some-given _ _ _ n e));
+      decide-by-tuples = λ s listing count. answers _ (byTuples.decideChecks v s listing count) refl (none-given _ _ _) (some-given _ _ _);
+      compile = λ b.
+          answers _ (compileChecks v b) refl
+          (λ e. (none-given _ _ _ e, none-given _ _ _ e))
+          (λ n e. (some-given _ _ _ n e, some-given _ _ _ n e));
+      apart = apart v;
+      session = λ l c b.
+          answers _ (boardChecks v l c b) (session-numbers v l c b)
+          (λ e. (ap (λ (o : Out Board). o .reply) (none-given _ _ _ e), ap (λ (o : Out Board). o .state) (none-given _ _ _ e)))
+          (λ n e. (ap (λ (o : Out Board). o .reply) (some-given _ _ _ n e), ap (λ (o : Out Board). o .state) (some-given _ _ _ n e)));
+      run = λ l numbers buffer.
+          answers _ (runChecks numbers buffer) refl
+          (λ e. (none-given _ _ _ e, none-given _ _ _ e, none-given _ _ _ e))
+          (λ n e. (some-given _ _ _ n e, some-given _ _ _ n e, some-given _ _ _ n e));
+    }
 
 pub demand1 : Claim
-unfolding write writeBuffer list listBuffer compile compileBuffers boardStep
-demand1 v n =
-    record {
-      write = λ buffer. kept (lowest (writeChecks v buffer)) _ _ buffer n;
-      list = λ a buffer. kept (lowest (listChecks v a buffer)) _ _ buffer n;
-      compile = λ b. kept (lowest (compileChecks v b)) _ _ b n;
-      sessions = λ l c b. step-kept (lowest (boardChecks v l c b)) _ _ b n (reply-not _ l c (entryAt b (sessionOf c)) n);
-    }
+unfolding valueIn
+demand1 = record { read = because; no-policy = λ t n line e. rw e blank-refused; calls = calls }

@@ -1,22 +1,37 @@
--- Demand 2: texts both ways, labels by what formulas part, and sessions within reach.
-use Prim.Native.Nat.{ℕ}
-use mathlib.Core.Path.{_≡_, refl, ap, _∙_}
+-- Demand 2: what decides, what is alike, sessions within reach, and texts both ways.
+use Prim.Native.Nat.{ℕ, _≤_}
+use mathlib.Core.Path.{_≡_, refl}
 use mathlib.Core.Bool.{Bool, true, false, cond, false≢true}
 use mathlib.Core.List.{List, [], _∷_}
 use mathlib.Core.Option.{Option, none, some}
+use native.Mathlib.Omega.{arith}
+use borrow.Author.Tests.{le-ltb}
 use lib.Dec.{eqb}
+use lib.ListN.{length}
+use lib.Seq.{take-append-seam}
 use Rattle.basis.specs.Choice.{given, there, lowest}
-use Rattle.basis.proofs.Bools.{and-left, and-right}
+use Rattle.basis.specs.Lists.{over}
+use Rattle.basis.proofs.Bools.{and-left, and-right, never}
 use Rattle.policy.specs.Policy.{Policy, setOfNumber}
 use Rattle.policy.specs.Read.{Accepted, readText}
+use Rattle.policy.specs.Text.{textOf}
+use Rattle.policy.specs.Value.{valueOf, policyOf}
+use Rattle.policy.specs.Write.{write, writeBuffer}
 use Rattle.policy.specs.Answers.{refused}
 use Rattle.policy.proofs.Values.{policy-value}
-use Rattle.policy.proofs.RoundTrip.{read-text}
-use Rattle.policy.proofs.Valid.{yielded-valid, valid-iff}
-use Rattle.labels.proofs.Compiling.{userLabel-iff, objectLabel-iff}
+use Rattle.policy.proofs.RoundTrip.{read-text, sound-read}
+use Rattle.policy.proofs.Valid.{yielded-valid, valid-iff, valid-stored}
+use Rattle.labels.specs.Compile.{likeUsers}
+use Rattle.labels.specs.Apart.{Separates, apartRefusal, Tells}
+use Rattle.labels.specs.declared.Apartness.{Apartness}
+use Rattle.labels.specs.declared.Apartness.the-variants.{Alike, Apart, Refused}
+use Rattle.labels.proofs.Compiling.{likeUsers-iff, userLabel-iff, objectLabel-iff}
+use Rattle.labels.proofs.Separation.{apart-unlike}
+use Rattle.labels.proofs.Told.{not-refused}
 use Rattle.board.specs.Machine.{Call, Entry, Map, Out, sessionOf, checks, entryAfter, reply, step, put, empty, run, machine}
 use Rattle.board.proofs.Agreement.{fitting, kept}
-use Rattle.claims.specs.Demand2.{Allowed, Claim, CheckClaim}
+use Rattle.claims.specs.Demand2.{Told, Allowed, WrittenBack, Claim, WriteClaim, CheckClaim}
+use Rattle.claims.proofs.Deciding.{decides, equal-sets}
 
 -- ---- sessions hold what is allowed
 
@@ -65,12 +80,66 @@ allowed t p e calls =
       in-reach = λ k x q. and-right (there (setOfNumber (p .users) (x .user))) _ (fits k x q);
     }
 
+-- ---- alike as Apart tells it
+
+told : (p : Policy) (u w : ℕ) (r : Apartness) → apartRefusal (valueOf p) u w ≡ none → Tells (valueOf p) u w r → Told p u w r
+told p u w Alike n x =
+    record {
+      alike = (λ e. likeUsers-iff p u w .0 (rw (policy-value p) at (x .1)), λ h. refl);
+      apart = λ y e. absurd (let z : _≡_ {A = ℕ} 0 1 = cc in omega arith);
+      never-refused = λ y e. let z : _≡_ {A = ℕ} 0 1 = cc in omega arith;
+    }
+told p u w (Apart y) n x =
+    let s : Separates p u w (y .action) (y .object) = rw (policy-value p) at (x .1) in
+    record {
+      alike = (
+        (λ e. absurd (let z : _≡_ {A = ℕ} 0 1 = cc in omega arith)),
+        (λ h. absurd (never (likeUsers p u w) (likeUsers-iff p u w .1 h) (apart-unlike p u w (y .action) (y .object) s))),
+      );
+      apart = λ z e. let q : y ≡ z = cc in rw (← q) s;
+      never-refused = λ z e. let q : _≡_ {A = ℕ} 0 1 = cc in omega arith;
+    }
+told p u w (Refused y) n x = let z : _≡_ {A = ℕ} 0 1 = cc in absurd (omega arith)
+
+-- ---- texts
+
+module _ (t : List ℕ) (p : Policy) (e : readText t ≡ Accepted p) (buffer : List ℕ) (room : length t ≤ length buffer) where
+  written-back : WrittenBack t p buffer
+  unfolding write writeBuffer lowest
+  written-back =
+      let h = le-ltb (length buffer) (length t) room in
+      record { count = rw (policy-value p, yielded-valid t p e, read-text t p e, h); bytes = rw (policy-value p, yielded-valid t p e, read-text t p e, h) }
+
+pub write-read : WriteClaim
+unfolding write writeBuffer lowest over
+write-read v e buffer room =
+    let p = policyOf v in
+    let s = valid-stored v e in
+    let h = le-ltb (length buffer) (length (textOf p)) room in
+    record {
+      count = length (textOf p);
+      returned = rw (e, h);
+      policy = p;
+      accepted = rw (e, h, take-append-seam (textOf p)) (sound-read p (s .1));
+      same = s .0;
+    }
+
 pub demand2 : Claim
 demand2 t p e =
+    let ok = yielded-valid t p e in
     record {
-      texts = record { unchanged = read-text t p e; read-back = ap readText (read-text t p e) ∙ e; passes = yielded-valid t p e; says = policy-value p };
-      alike = record { users = λ u w hu hw. userLabel-iff p u w; objects = λ o q ho hq. objectLabel-iff p o q };
+      decides = decides t p e;
+      equal-sets = equal-sets t p e;
+      alike =
+          record {
+            users = λ u w hu hw. userLabel-iff p u w;
+            objects = λ o q ho hq. objectLabel-iff p o q;
+            told = λ u w hu hw r.
+                told p u w r (not-refused (valueOf p) u w ok (rw (policy-value p) hu) (rw (policy-value p) hw));
+          };
       allowed = allowed t p e;
+      said = record { passes = ok; says = policy-value p };
+      written-back = written-back t p e;
     }
 
 pub check11 : CheckClaim

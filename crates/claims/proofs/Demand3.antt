@@ -12,22 +12,21 @@ use Rattle.policy.specs.Policy.{Policy, sets}
 use Rattle.policy.specs.Read.{Accepted, readText}
 use Rattle.policy.specs.Value.{valueOf}
 use Rattle.policy.specs.Valid.{valid}
-use Rattle.policy.specs.Answers.{decided}
 use Rattle.policy.proofs.Values.{policy-value}
 use Rattle.policy.proofs.Valid.{yielded-valid}
 use Rattle.policy.proofs.RoundTrip.{read-sound}
 use Rattle.policy.proofs.Parts.{parts, whole}
 use Rattle.policy.proofs.Lookup.{registered-bounds}
-use Rattle.formula.specs.Truth.{at, grants}
-use Rattle.formula.specs.Decide.{decide}
+use Rattle.formula.specs.Truth.{at}
 use Rattle.tuples.specs.Tuples.{tuples, list, listBuffer}
 use Rattle.tuples.proofs.Tuples.{tuples-rise, listed-decides}
-use Rattle.labels.specs.Compile.{Buffers, tooShort, NU, NO, compile, compileBuffers}
+use Rattle.labels.specs.Compile.{Buffers, tooShort, counts, compile, compileBuffers, filled}
 use Rattle.labels.proofs.Compiling.{compiled-grants, compiled-users, compiled-objects, fewest}
 use Rattle.board.specs.Machine.{Call, machine, run, step, empty}
 use Rattle.board.proofs.Agreement.{ObjectsFit, Serves, replies-agree, sessions-agree}
-use Rattle.claims.specs.Demand3.{Tuples, Labelled, Compiled, Sessions, withCounts, Claim}
-use Rattle.claims.proofs.Serving.{filled, inside, decides}
+use Rattle.claims.specs.Demand3.{Tuples, Compiled, Sessions, withCounts, Claim}
+use Rattle.claims.proofs.Deciding.{by-formula}
+use Rattle.claims.proofs.Serving.{inside, decides}
 
 module _ (t : List ℕ) (p : Policy) (e : readText t ≡ Accepted p) where
   ok : valid (valueOf p) ≡ true
@@ -44,10 +43,6 @@ module _ (t : List ℕ) (p : Policy) (e : readText t ≡ Accepted p) where
     unfolding listBuffer lowest
     is-stored = rw (policy-value p, ok, lt-leb (actions (p .form)) a ha, le-ltb (length buffer) (length (tuples p a)) room)
 
-    by-formula : (u o : ℕ) → u < sets (p .user) → o < sets (p .object) → decide (valueOf p) a (at u o) ≡ decided (grants p a (at u o))
-    unfolding decide lowest
-    by-formula u o hu ho = rw (policy-value p, ok, lt-leb (actions (p .form)) a ha, lt-leb (sets (p .user)) u hu, lt-leb (sets (p .object)) o ho)
-
   listed : (a : ℕ) → a < actions (p .form) → Tuples p a
   listed a ha =
       record {
@@ -55,23 +50,13 @@ module _ (t : List ℕ) (p : Policy) (e : readText t ≡ Accepted p) where
         listed = is-listed a ha;
         stored-are = is-stored a ha;
         decides = λ buffer room u o hu ho.
-            listed-decides (valueOf p) a (at u o) buffer (length (tuples p a)) (is-listed a ha buffer room) ∙ by-formula a ha buffer room u o hu ho;
+            listed-decides (valueOf p) a (at u o) buffer (length (tuples p a)) (is-listed a ha buffer room) ∙ by-formula t p e a ha (at u o) hu ho;
       }
 
   -- ---- labels
 
-  labels : Labelled p
-  labels =
-      record {
-        alike = compiled-grants p;
-        users = compiled-users p;
-        objects = compiled-objects p;
-        fewest-users = λ l h. fewest p l h .0;
-        fewest-objects = λ l h. fewest p l h .1;
-      }
-
   module _ (b : Buffers) (room : tooShort p b ≡ false) where
-    is-compiled : compile (valueOf p) b ≡ gives (record { users = NU p; objects = NO p })
+    is-compiled : compile (valueOf p) b ≡ gives (counts p)
     unfolding compile lowest
     is-compiled = rw (policy-value p, ok, room)
 
@@ -82,10 +67,13 @@ module _ (t : List ℕ) (p : Policy) (e : readText t ≡ Accepted p) where
     compiled-to : Compiled p b
     compiled-to =
         record {
-          counts = is-compiled;
+          gives-counts = is-compiled;
           users = ap (λ (x : Buffers). x .users) buffers-are;
           objects = ap (λ (x : Buffers). x .objects) buffers-are;
           table = ap (λ (x : Buffers). x .table) buffers-are;
+          alike = rw buffers-are (compiled-grants p b);
+          users-used = rw buffers-are (compiled-users p b);
+          objects-used = rw buffers-are (compiled-objects p b);
         }
 
     -- ---- sessions
@@ -108,4 +96,10 @@ module _ (t : List ℕ) (p : Policy) (e : readText t ≡ Accepted p) where
         }
 
 pub demand3 : Claim
-demand3 t p e = record { tuples-listed = listed t p e; labelled = labels t p e; compiled-to = compiled-to t p e; sessions = sessions t p e }
+demand3 t p e =
+    record {
+      tuples-listed = listed t p e;
+      compiled-to = compiled-to t p e;
+      fewest = record { users = λ l h. fewest p l h .0; objects = λ l h. fewest p l h .1 };
+      sessions = sessions t p e;
+    }

@@ -1,3 +1,6 @@
+pub mod Answers
+pub mod Reading
+pub mod Deciding
 pub mod Demand1
 pub mod Demand2
 pub mod Demand3

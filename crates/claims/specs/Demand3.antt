@@ -18,7 +18,7 @@ use Rattle.policy.specs.declared.value.PolicyValue.{PolicyValue}
 use Rattle.formula.specs.Truth.{Sets, at, grants}
 use Rattle.tuples.specs.Tuples.{tuples, list, listBuffer, decideByTuples}
 use Rattle.labels.specs.Labelling.{Labelling, userLabels, objectLabels, GrantsAlike}
-use Rattle.labels.specs.Compile.{Buffers, tooShort, NU, NO, userResult, objectResult, tableResult, compile, compileBuffers, compiled}
+use Rattle.labels.specs.Compile.{Buffers, tooShort, NU, NO, counts, userResult, objectResult, tableResult, compile, compileBuffers, compiled}
 use Rattle.board.specs.Machine.{Call, requests, run, machine, checks, setsAsked, Out}
 use Rattle.board.specs.Board.{Labels, labelsOf, boardStep, fresh, entryAt, fits, pastEnd, grantsByLabels}
 use Rattle.board.specs.declared.Board.{Board}
@@ -37,32 +37,36 @@ pub record Tuples (p : Policy) (a : ℕ) : Type 0 where
   pub decides : (buffer : List ℕ) → length (tuples p a) ≤ length buffer → (u o : ℕ) → u < sets (p .user) → o < sets (p .object)
       → decideByTuples (valueOf p) (at u o) (listBuffer (valueOf p) a buffer) (length (tuples p a)) ≡ decided (grants p a (at u o))
 
--- ---- labels: "the compiled labelling is document 01's, grants alike, uses NU and NO, and no labelling that grants alike uses fewer on either
--- side"
+-- ---- labels: "the compiled labelling is document 01's, grants alike, uses NU and NO, and no labelling that grants alike
+-- uses fewer on either side"
 
 abbrev pub GrantsAs : Policy → Labelling → Type 0
 GrantsAs p l = GrantsAlike (grants p) (actions (p .form)) (sets (p .user)) (sets (p .object)) l
 
-pub record Labelled (p : Policy) : Type 0 where
-  pub alike : GrantsAs p (compiled p)
-  pub users : userLabels (compiled p) (sets (p .user)) ≡ NU p
-  pub objects : objectLabels (compiled p) (sets (p .object)) ≡ NO p
-  pub fewest-users : (l : Labelling) → GrantsAs p l → NU p ≤ userLabels l (sets (p .user))
-  pub fewest-objects : (l : Labelling) → GrantsAs p l → NO p ≤ objectLabels l (sets (p .object))
+-- the labelling that stands in buffers that were lent to the compiler, with the NU and NO that it returned
+abbrev pub labellingIn : Policy → Buffers → Labelling
+labellingIn p b = compiled (counts p) (compileBuffers (valueOf p) b)
 
--- what compiling gives and leaves, in buffers long enough
+-- in buffers long enough: what compiling gives and leaves, and what that labelling is
 pub record Compiled (p : Policy) (b : Buffers) : Type 0 where
-  pub counts : compile (valueOf p) b ≡ gives (record { users = NU p; objects = NO p })
+  pub gives-counts : compile (valueOf p) b ≡ gives (counts p)
   pub users : compileBuffers (valueOf p) b .users ≡ over (userResult p) (b .users)
   pub objects : compileBuffers (valueOf p) b .objects ≡ over (objectResult p) (b .objects)
   pub table : compileBuffers (valueOf p) b .table ≡ over (tableResult p) (b .table)
+  pub alike : GrantsAs p (labellingIn p b)
+  pub users-used : userLabels (labellingIn p b) (sets (p .user)) ≡ NU p
+  pub objects-used : objectLabels (labellingIn p b) (sets (p .object)) ≡ NO p
+
+pub record Fewest (p : Policy) : Type 0 where
+  pub users : (l : Labelling) → GrantsAs p l → NU p ≤ userLabels l (sets (p .user))
+  pub objects : (l : Labelling) → GrantsAs p l → NO p ≤ objectLabels l (sets (p .object))
 
 -- ---- sessions: every list of calls, refused ones included, from a fresh board, with the text's policy value and the compiler's buffers, NU
 -- and NO
 
 -- buffers, with the NU and NO that the compiler returns
 abbrev pub withCounts : Policy → Buffers → Labels
-withCounts p b = labelsOf (record { users = NU p; objects = NO p }) b
+withCounts p b = labelsOf (counts p) b
 
 pub record Sessions (t : List ℕ) (p : Policy) (b : Buffers) (calls : List Call) : Type 0 where
   pub answers : run (boardStep (valueOf p) (withCounts p (compileBuffers (valueOf p) b))) calls fresh .replies ≡ machine t calls .replies
@@ -73,8 +77,8 @@ pub record Sessions (t : List ℕ) (p : Policy) (b : Buffers) (calls : List Call
 
 pub record Demand3 (t : List ℕ) (p : Policy) : Type 0 where
   pub tuples-listed : (a : ℕ) → a < actions (p .form) → Tuples p a
-  pub labelled : Labelled p
   pub compiled-to : (b : Buffers) → tooShort p b ≡ false → Compiled p b
+  pub fewest : Fewest p
   pub sessions : (b : Buffers) → tooShort p b ≡ false → (calls : List Call) → Sessions t p b calls
 
 abbrev pub Claim : Type 0

@@ -1,3 +1,5 @@
+pub mod Answers
+pub mod Reading
 pub mod Demand1
 pub mod Demand2
 pub mod Demand3

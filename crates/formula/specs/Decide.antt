@@ -1,9 +1,9 @@
 -- "Decide: by the formula, on two given sets (11, 12, 19)."
 use Prim.Native.Nat.{ℕ}
 use mathlib.Core.Bool.{Bool, not, _||_}
-use mathlib.Core.List.{[], _∷_}
+use mathlib.Core.List.{List, [], _∷_}
 use lib.Dec.{leb}
-use Rattle.basis.specs.Choice.{given, check, lowest}
+use Rattle.basis.specs.Choice.{given, Check, check, lowest}
 use Rattle.policy.specs.Limits.{actions}
 use Rattle.policy.specs.Policy.{Policy, sets}
 use Rattle.policy.specs.Value.{policyOf}
@@ -28,7 +28,10 @@ noAction p a = leb (actions (p .form)) a
 abbrev pub lacking : Policy → Sets → Bool
 lacking p s = leb (sets (p .user)) (s .user) || leb (sets (p .object)) (s .object)
 
+-- "(11, 12, 19)"
+abbrev pub decideChecks : PolicyValue → ℕ → Sets → List Check
+decideChecks v a s =
+    check 11 (not (valid v)) ∷ check 12 (noAction (policyOf v) a) ∷ check 19 (lacking (policyOf v) s) ∷ []
+
 unfoldable pub decide : PolicyValue → ℕ → Sets → Reply
-decide v a s =
-    given (lowest (check 11 (not (valid v)) ∷ check 12 (noAction (policyOf v) a) ∷ check 19 (lacking (policyOf v) s) ∷ []))
-    (decided (grants (policyOf v) a s)) refused
+decide v a s = given (lowest (decideChecks v a s)) (decided (grants (policyOf v) a s)) refused

@@ -7,6 +7,7 @@ use mathlib.Core.Logic.{_↔_}
 use lib.Arith.{digits-lt, digits-div, digits-mod}
 use lib.ListN.{length, getD}
 use Rattle.basis.proofs.Counting.{length-upTo, getD-upTo}
+use Rattle.basis.proofs.Over.{over-at}
 use Rattle.sets.specs.Set.{has}
 use Rattle.sets.proofs.Laws.{has-setOf}
 use Rattle.policy.specs.Limits.{actions}
@@ -14,7 +15,7 @@ use Rattle.policy.specs.Policy.{Policy, sets}
 use Rattle.formula.specs.Truth.{at, grants}
 use Rattle.labels.specs.Labels.{leader}
 use Rattle.labels.specs.Labelling.{Labelling, userLabels, objectLabels, GrantsAlike}
-use Rattle.labels.specs.Compile.{likeUsers, likeObjects, userLabel, objectLabel, NU, NO, entryOf, entry, userResult, objectResult, tableResult, compiled}
+use Rattle.labels.specs.Compile.{likeUsers, likeObjects, userLabel, objectLabel, NU, NO, counts, entryOf, entry, userResult, objectResult, tableResult, Buffers, compiled, filled}
 use Rattle.labels.proofs.Labels.{Equivalence, labelCount-le, label-below, label-different, leader-like, leader-is, different-same}
 use Rattle.labels.proofs.Labelling.{UsersSame, ObjectsSame, usersAlike-iff, objectsAlike-iff, users-equivalence, objects-equivalence, user-label-iff, object-label-iff, users-fewest, objects-fewest}
 
@@ -103,22 +104,32 @@ module _ (p : Policy) where
       getD-upTo (λ i. entry p (i / NO p) (i % NO p)) (NU p * NO p) (ul * NO p + ol) 0 (digits-lt hu ho)
       ∙ ap₂ (entry p) (digits-div ul ho) (digits-mod ul ho)
 
-  -- ---- the compiled labelling
+  -- ---- the compiled labelling, in any buffers that have the results at their starts
 
-  -- it grants alike
-  pub compiled-grants : GrantsAlike (grants p) (actions (p .form)) (sets (p .user)) (sets (p .object)) (compiled p)
-  unfolding compiled
-  compiled-grants a u o ha hu ho =
-      rw (userResult-at u hu, objectResult-at o ho, tableResult-at _ _ (userLabel-below u hu) (objectLabel-below o ho)) (has-entry a u o ha hu ho)
+  module _ (b : Buffers) where
+    pub user-at : (u : ℕ) → u < sets (p .user) → getD (filled p b .users) u 0 ≡ userLabel p u
+    user-at u h = over-at (userResult p) (b .users) u (rw length-userResult h) ∙ userResult-at u h
 
-  -- it uses NU and NO labels
-  pub compiled-users : userLabels (compiled p) (sets (p .user)) ≡ NU p
-  unfolding compiled NU
-  compiled-users = different-same _ (userLabel p) _ userResult-at ∙ label-different (likeUsers-equivalence _)
+    pub object-at : (o : ℕ) → o < sets (p .object) → getD (filled p b .objects) o 0 ≡ objectLabel p o
+    object-at o h = over-at (objectResult p) (b .objects) o (rw length-objectResult h) ∙ objectResult-at o h
 
-  pub compiled-objects : objectLabels (compiled p) (sets (p .object)) ≡ NO p
-  unfolding compiled NO
-  compiled-objects = different-same _ (objectLabel p) _ objectResult-at ∙ label-different (likeObjects-equivalence _)
+    pub table-at : (ul ol : ℕ) → ul < NU p → ol < NO p → getD (filled p b .table) (ul * NO p + ol) 0 ≡ entry p ul ol
+    table-at ul ol hu ho = over-at (tableResult p) (b .table) _ (rw length-tableResult (digits-lt hu ho)) ∙ tableResult-at ul ol hu ho
+
+    -- it grants alike
+    pub compiled-grants : GrantsAlike (grants p) (actions (p .form)) (sets (p .user)) (sets (p .object)) (compiled (counts p) (filled p b))
+    unfolding compiled
+    compiled-grants a u o ha hu ho =
+        rw (user-at u hu, object-at o ho, table-at _ _ (userLabel-below u hu) (objectLabel-below o ho)) (has-entry a u o ha hu ho)
+
+    -- it uses NU and NO labels
+    pub compiled-users : userLabels (compiled (counts p) (filled p b)) (sets (p .user)) ≡ NU p
+    unfolding compiled NU
+    compiled-users = different-same _ (userLabel p) _ user-at ∙ label-different (likeUsers-equivalence _)
+
+    pub compiled-objects : objectLabels (compiled (counts p) (filled p b)) (sets (p .object)) ≡ NO p
+    unfolding compiled NO
+    compiled-objects = different-same _ (objectLabel p) _ object-at ∙ label-different (likeObjects-equivalence _)
 
   -- and every labelling that grants alike uses at least as many
   pub fewest : (l : Labelling) → GrantsAlike (grants p) (actions (p .form)) (sets (p .user)) (sets (p .object)) l

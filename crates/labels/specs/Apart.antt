@@ -3,10 +3,10 @@
 use Prim.Native.Nat.{ℕ, _<_}
 use mathlib.Core.Path.{_≡_}
 use mathlib.Core.Bool.{true, false, not, _||_}
-use mathlib.Core.List.{[], _∷_}
+use mathlib.Core.List.{List, [], _∷_}
 use mathlib.Core.Option.{Option, none, some}
 use lib.Dec.{leb}
-use Rattle.basis.specs.Choice.{check, lowest}
+use Rattle.basis.specs.Choice.{Check, check, lowest}
 use Rattle.basis.specs.Numbers.{agree}
 use Rattle.policy.specs.Limits.{actions}
 use Rattle.policy.specs.Policy.{Policy, sets}
@@ -25,9 +25,13 @@ pub record Separates (p : Policy) (u v a o : ℕ) : Type 0 where
   pub object : o < sets (p .object)
   pub differ : agree (grants p a (at u o)) (grants p a (at v o)) ≡ false
 
+-- "Apart (11, 19)"
+abbrev pub apartChecks : PolicyValue → ℕ → ℕ → List Check
+apartChecks value u v =
+    check 11 (not (valid value)) ∷ check 19 (leb (sets (policyOf value .user)) u || leb (sets (policyOf value .user)) v) ∷ []
+
 abbrev pub apartRefusal : PolicyValue → ℕ → ℕ → Option ℕ
-apartRefusal value u v =
-    lowest (check 11 (not (valid value)) ∷ check 19 (leb (sets (policyOf value .user)) u || leb (sets (policyOf value .user)) v) ∷ [])
+apartRefusal value u v = lowest (apartChecks value u v)
 
 -- what each answer says: a refusal is the lowest that applies, 'alike' is true, and a witness truly separates
 abbrev pub Tells : PolicyValue → ℕ → ℕ → Apartness → Type 0

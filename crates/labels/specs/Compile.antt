@@ -43,6 +43,9 @@ NU p = labelCount (likeUsers p) (sets (p .user))
 unfoldable pub NO : Policy → ℕ
 NO p = labelCount (likeObjects p) (sets (p .object))
 
+abbrev pub counts : Policy → Counts
+counts p = record { users = NU p; objects = NO p }
+
 -- the entry of two sets: "bit a (2^a) set exactly when action a is granted"
 unfoldable pub entryOf : Policy → Sets → ℕ
 entryOf p s = setOf (λ a. grants p a s) (actions (p .form))
@@ -61,15 +64,6 @@ objectResult p = upTo (objectLabel p) (sets (p .object))
 unfoldable pub tableResult : Policy → List ℕ
 tableResult p = upTo (λ i. entry p (i / NO p) (i % NO p)) (NU p * NO p)
 
--- "The compiled labelling is these labels with this table, read by its bits."
-unfoldable pub compiled : Policy → Labelling
-compiled p =
-    record {
-      user = λ u. getD (userResult p) u 0;
-      object = λ o. getD (objectResult p) o 0;
-      table = λ ul ol a. has (getD (tableResult p) (ul * NO p + ol) 0) a;
-    }
-
 -- the three lent buffers
 pub record Buffers : Type 0 where
   pub users : List ℕ
@@ -78,6 +72,16 @@ pub record Buffers : Type 0 where
 
 abbrev pub lent : List ℕ → List ℕ → List ℕ → Buffers
 lent us os ts = record { users = us; objects = os; table = ts }
+
+-- "The compiled labelling is these labels with this table, read by its bits": what stands in the three buffers, with NO
+-- entries to a row of the table.
+unfoldable pub compiled : Counts → Buffers → Labelling
+compiled n b =
+    record {
+      user = λ u. getD (b .users) u 0;
+      object = λ o. getD (b .objects) o 0;
+      table = λ ul ol a. has (getD (b .table) (ul * n .objects + ol) 0) a;
+    }
 
 -- 20: some buffer is shorter than its result
 abbrev pub tooShort : Policy → Buffers → Bool
@@ -95,18 +99,15 @@ stored (Stored c) = gives c
 stored (Refused r) = refuses (numberOf r)
 
 unfoldable pub compile : PolicyValue → Buffers → Result Counts
-compile v b = unlessRefused (compileChecks v b) (record { users = NU (policyOf v); objects = NO (policyOf v) })
+compile v b = unlessRefused (compileChecks v b) (counts (policyOf v))
 
--- the buffers afterwards: "what lies past a result in a longer buffer stays", and a refusal changes nothing
+-- "what lies past a result in a longer buffer stays"
+abbrev pub filled : Policy → Buffers → Buffers
+filled p b = lent (over (userResult p) (b .users)) (over (objectResult p) (b .objects)) (over (tableResult p) (b .table))
+
+-- the buffers afterwards; a refusal changes nothing
 unfoldable pub compileBuffers : PolicyValue → Buffers → Buffers
-compileBuffers v b =
-    given (lowest (compileChecks v b))
-    (record {
-      users = over (userResult (policyOf v)) (b .users);
-      objects = over (objectResult (policyOf v)) (b .objects);
-      table = over (tableResult (policyOf v)) (b .table);
-    })
-    (λ n. b)
+compileBuffers v b = given (lowest (compileChecks v b)) (filled (policyOf v) b) (λ n. b)
 
 -- what a call answers and leaves in the buffers
 pub record Compiles (v : PolicyValue) (before : Buffers) (r : Compiled) (after : Buffers) : Type 0 where
