@@ -4,7 +4,7 @@ use Prim.Native.Nat.{ℕ}
 use mathlib.Core.Path.{_≡_, refl}
 use mathlib.Core.Bool.{Bool, true, false, cond, not, _&&_}
 use mathlib.Core.List.{List, [], _∷_, _++_, map}
-use mathlib.Core.Logic.{_⊎_, inl, inr}
+use mathlib.Core.Logic.{_⊎_, inl, inr, ⊎-elim}
 use mathlib.Core.Option.{Option, none, some}
 use native.Mathlib.Omega.{arith}
 use Rattle.basis.specs.Choice.{given, Check, check, lowest}
@@ -59,3 +59,8 @@ none-given o x f e = rw e
 
 pub some-given : {B : Type 0} (o : Option ℕ) (x : B) (f : ℕ → B) (n : ℕ) → o ≡ some n → given o x f ≡ f n
 some-given o x f n e = rw e
+
+-- what follows from the result and from a refusal
+pub through : {R S : Type 0} {F G : ℕ → Type 0} {ns : List ℕ} {cs : List Check} → (R → S) → ((n : ℕ) → F n → G n) → Answers ns cs R F
+    → Answers ns cs S G
+through f g w = record { refusals = w .refusals; answer = ⊎-elim (λ x. inl (x .0, f (x .1))) (λ x. inr (x .0, x .1, g (x .0) (x .2))) (w .answer) }

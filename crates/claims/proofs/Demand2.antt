@@ -1,13 +1,13 @@
 -- Demand 2: what decides, what is alike, sessions within reach, and texts both ways.
 use Prim.Native.Nat.{ℕ, _≤_}
-use mathlib.Core.Path.{_≡_, refl}
+use mathlib.Core.Path.{_≡_, refl, ap, _∙_}
 use mathlib.Core.Bool.{Bool, true, false, cond, false≢true}
 use mathlib.Core.List.{List, [], _∷_}
 use mathlib.Core.Option.{Option, none, some}
 use native.Mathlib.Omega.{arith}
 use borrow.Author.Tests.{le-ltb}
 use lib.Dec.{eqb}
-use lib.ListN.{length}
+use lib.ListN.{length, drop}
 use lib.Seq.{take-append-seam}
 use Rattle.basis.specs.Choice.{given, there, lowest}
 use Rattle.basis.specs.Lists.{over}
@@ -120,7 +120,7 @@ write-read v e buffer room =
       count = length (textOf p);
       returned = rw (e, h);
       policy = p;
-      accepted = rw (e, h, take-append-seam (textOf p)) (sound-read p (s .1));
+      accepted = rw (e, h) (ap readText (take-append-seam (textOf p) (drop (length (textOf p)) buffer)) ∙ sound-read p (s .1));
       same = s .0;
     }
 

@@ -8,7 +8,7 @@ use lib.ListN.{length}
 use Rattle.basis.specs.Choice.{gives, lowest}
 use Rattle.basis.specs.Lists.{over}
 use Rattle.policy.specs.Limits.{actions, objectNumbers}
-use Rattle.policy.specs.Policy.{Policy, sets}
+use Rattle.policy.specs.Policy.{Policy}
 use Rattle.policy.specs.Read.{Accepted, readText}
 use Rattle.policy.specs.Value.{valueOf}
 use Rattle.policy.specs.Valid.{valid}

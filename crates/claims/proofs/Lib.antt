@@ -4,6 +4,7 @@ pub mod Deciding
 pub mod Demand1
 pub mod Demand2
 pub mod Demand3
+pub mod Exported
 pub mod Examples
 pub mod OneRequest
 pub mod Serving

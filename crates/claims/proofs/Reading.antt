@@ -1,7 +1,7 @@
 -- Why a text is accepted or refused, by induction over its lines.
 use Prim.Native.Nat.{ℕ, suc, _+_, _≤_}
 use mathlib.Core.Path.{_≡_, refl, sym, _∙_}
-use mathlib.Core.Bool.{Bool, true, false, cond, not, _&&_}
+use mathlib.Core.Bool.{Bool, true, false, cond, _&&_}
 use mathlib.Core.List.{List, [], _∷_, _++_}
 use mathlib.Core.Logic.{_⊎_, inl, inr}
 use mathlib.Core.Option.{Option, none, some}
@@ -9,10 +9,9 @@ use native.Mathlib.Omega.{arith}
 use borrow.Author.Tests.{ltb-true, ltb-false, leb-true}
 use lib.Dec.{leb, ltb}
 use lib.ListN.{length}
-use Rattle.basis.specs.Choice.{given, there, Check, lowest}
+use Rattle.basis.specs.Choice.{given, Check, lowest}
 use Rattle.basis.specs.Lists.{all}
 use Rattle.basis.proofs.Bools.{and-left, and-right}
-use Rattle.text.specs.Kind.{isKind}
 use Rattle.text.specs.Parts.{TextLine, fields, lines}
 use Rattle.text.specs.declared.kind.Named.{Named}
 use Rattle.text.specs.declared.kind.Named.the-variants.{Is, Unknown}
@@ -20,7 +19,7 @@ use Rattle.policy.specs.Limits.{textBytes}
 use Rattle.policy.specs.Policy.{Policy}
 use Rattle.policy.specs.Read.{Outcome, Accepted, Refused, State, start, kindOf, checksOf, refusalOf, lineRefusal, lineAfter, ending, readLines, readText}
 use Rattle.claims.specs.Answers.{Met}
-use Rattle.claims.specs.Reading.{checksFor, afterLines, passes, ends, TooLong, Faulty, Endless, Whole, Because}
+use Rattle.claims.specs.Reading.{checksFor, afterLines, passes, ends, Because}
 use Rattle.claims.proofs.Answers.{met, met-all}
 
 -- ---- a line

@@ -1,4 +1,5 @@
--- The compiled buffers serve a policy: in them a request finds each look-up's place, and the bit there is what the formula says.
+-- The compiled buffers serve a policy: in them a request finds each look-up's place, and the bit there is what the
+-- formula says.
 use Prim.Native.Nat.{ℕ, _+_, _*_, _<_}
 use mathlib.Core.Path.{_≡_, ap₂}
 use mathlib.Core.Bool.{false}

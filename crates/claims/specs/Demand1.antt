@@ -1,7 +1,7 @@
 -- Demand 1: "every text, number and buffer handed to a call gets its result or one numbered refusal; every call ends; a
--- refusal changes neither sessions nor any lent buffer." That every call ends and gives just one answer is what a proved
--- function is; the rest is here, call by call, on the definitions that the contracts equate the calls with, for good and
--- bad input. Each call's numbers are document 01's list for it.
+-- refusal changes neither sessions nor any lent buffer." That every call ends and gives just one answer is what a
+-- proved function is; the rest is here, call by call, on the definitions that the contracts equate the calls with, for
+-- good and bad input. Each call's numbers are document 01's list for it.
 use Prim.Native.Nat.{ℕ}
 use mathlib.Core.Path.{_≡_}
 use mathlib.Core.Bool.{true, false}
@@ -20,9 +20,8 @@ use Rattle.policy.specs.declared.value.PolicyValue.{PolicyValue}
 use Rattle.formula.specs.Truth.{Sets, grants}
 use Rattle.formula.specs.Decide as byFormula
 use Rattle.tuples.specs.Tuples as byTuples
-use Rattle.labels.specs.Compile.{Buffers, counts, filled, compile, compileBuffers, compileChecks}
+use Rattle.labels.specs.Compile.{likeUsers, counts, Buffers, filled, compile, compileBuffers, compileChecks}
 use Rattle.labels.specs.Apart.{Separates, apartChecks, Tells}
-use Rattle.labels.specs.Compile.{likeUsers}
 use Rattle.labels.specs.declared.Apartness.{Apartness}
 use Rattle.labels.specs.declared.Apartness.the-variants.{Alike, Apart, Refused as ApartRefused}
 use Rattle.board.specs.Machine.{Call, opens, adds, drops, closes, requests, sessionOf}

@@ -1,5 +1,6 @@
--- Demand 3: "for every accepted text and every list of calls from a fresh board, each answer is the plain machine's and the board ends with
--- its sessions; tuples and labels are exactly document 01's, labels as few as any labelling that grants alike." One claim.
+-- Demand 3: "for every accepted text and every list of calls from a fresh board, each answer is the plain machine's and
+-- the board ends with its sessions; tuples and labels are exactly document 01's, labels as few as any labelling that
+-- grants alike." One claim.
 use Prim.Native.Nat.{ℕ, _≤_, _<_}
 use mathlib.Core.Path.{_≡_}
 use mathlib.Core.Bool.{true, false, not}
@@ -27,8 +28,8 @@ use Rattle.board.specs.declared.Board.{Board}
 abbrev pub Rising : List ℕ → Type 0
 Rising ns = (i j : ℕ) → i < j → j < length ns → getD ns i 0 < getD ns j 0
 
--- ---- tuples: "for every action the tuples listed are document 01's, rising, each once, with their count, and grant exactly when the formula
--- is true", in a buffer long enough and not written to since
+-- ---- tuples: "for every action the tuples listed are document 01's, rising, each once, with their count, and grant
+-- exactly when the formula is true", in a buffer long enough and not written to since
 
 pub record Tuples (p : Policy) (a : ℕ) : Type 0 where
   pub rising : Rising (tuples p a)
@@ -37,8 +38,8 @@ pub record Tuples (p : Policy) (a : ℕ) : Type 0 where
   pub decides : (buffer : List ℕ) → length (tuples p a) ≤ length buffer → (u o : ℕ) → u < sets (p .user) → o < sets (p .object)
       → decideByTuples (valueOf p) (at u o) (listBuffer (valueOf p) a buffer) (length (tuples p a)) ≡ decided (grants p a (at u o))
 
--- ---- labels: "the compiled labelling is document 01's, grants alike, uses NU and NO, and no labelling that grants alike
--- uses fewer on either side"
+-- ---- labels: "the compiled labelling is document 01's, grants alike, uses NU and NO, and no labelling that grants
+-- alike uses fewer on either side"
 
 abbrev pub GrantsAs : Policy → Labelling → Type 0
 GrantsAs p l = GrantsAlike (grants p) (actions (p .form)) (sets (p .user)) (sets (p .object)) l
@@ -61,8 +62,8 @@ pub record Fewest (p : Policy) : Type 0 where
   pub users : (l : Labelling) → GrantsAs p l → NU p ≤ userLabels l (sets (p .user))
   pub objects : (l : Labelling) → GrantsAs p l → NO p ≤ objectLabels l (sets (p .object))
 
--- ---- sessions: every list of calls, refused ones included, from a fresh board, with the text's policy value and the compiler's buffers, NU
--- and NO
+-- ---- sessions: every list of calls, refused ones included, from a fresh board, with the text's policy value and the
+-- compiler's buffers, NU and NO
 
 -- buffers, with the NU and NO that the compiler returns
 abbrev pub withCounts : Policy → Buffers → Labels

@@ -1,5 +1,5 @@
--- The worked examples of document 01 ("One text through the lister", "Edges", "Plausible and false") as one table: what the definitions
--- say, beside what the document says, both as text.
+-- The worked examples of document 01 ("One text through the lister", "Edges", "Plausible and false") as one table: what
+-- the definitions say, beside what the document says, both as text.
 use Prim.Native.Nat.{ℕ}
 use Prim.Native.String.{String}
 use mathlib.Core.Bool.{Bool}
@@ -87,8 +87,9 @@ compiledExamples =
     ∷ example (numbers (tableResult q)) "0"
     ∷ []
 
--- starred: "user 0 may open a session with set 1 (junior) and with 3; set 4 gets 19; in such a session a drop of 4 gets 19; in it a request
--- for action 1 on object 0 is denied; for action 8 gets 12", once by the machine and once on the board
+-- starred: "user 0 may open a session with set 1 (junior) and with 3; set 4 gets 19; in such a session a drop of 4 gets
+-- 19; in it a request for action 1 on object 0 is denied; for action 8 gets 12", once by the machine and once on the
+-- board
 abbrev pub day : List Call
 day = opens 0 0 1 ∷ opens 0 1 3 ∷ opens 0 2 4 ∷ drops 0 0 4 ∷ requests 0 1 0 ∷ requests 0 8 0 ∷ []
 
@@ -118,8 +119,8 @@ edgeExamples =
 abbrev pub seniorObjects : String
 seniorObjects = "policy,1\nuattr,1\noattr,2\nosen,1,0\nuser,0,1\nobject,0,0\nrule,0,o0\nrule,1,o1,u0,a\nend\n"
 
--- "Plausible and false": the subset test, one direction of seniority for both sides, a drop that shrinks what may be added again, and
--- telling apart by registered objects only
+-- "Plausible and false": the subset test, one direction of seniority for both sides, a drop that shrinks what may be
+-- added again, and telling apart by registered objects only
 abbrev pub falseExamples : List Example
 falseExamples =
     let p = policyIs sample in

@@ -1,5 +1,6 @@
--- Demand 3's list of calls, as the code runs a list: for every accepted text, with the compiler's buffers, NU and NO, the bytes that
--- `runner::run` stores are the plain machine's answers, and the board after it holds the machine's sessions.
+-- Demand 3's list of calls, as the code runs a list: for every accepted text, with the compiler's buffers, NU and NO,
+-- the bytes that `runner::run` stores are the plain machine's answers, and the board after it holds the machine's
+-- sessions.
 use Prim.Native.Nat.{ℕ, _≤_}
 use mathlib.Core.Path.{_≡_}
 use mathlib.Core.Bool.{false}
