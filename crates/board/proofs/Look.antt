@@ -12,9 +12,15 @@ use Rattle.sets.specs.Set.{has}
 use Rattle.policy.specs.Answers.{granted, denied, refused, decided}
 use Rattle.formula.specs.Truth.{at}
 use Rattle.board.specs.Board.{Labels, placeAt, pastEnd, grantsByLabels}
-use Rattle.board.specs.Inner.{byteOf, byteAt, lookedUp}
+use Rattle.board.specs.Inner.{byteOf, userOf, objectOf, byteAt, lookedUp}
 use Rattle.board.specs.declared.buffers.Byte.{Byte}
 use Rattle.board.specs.declared.buffers.Byte.the-variants.{Past, At}
+use Rattle.board.specs.declared.buffers.UserRead.{UserRead}
+use Rattle.board.specs.declared.buffers.UserRead.the-variants.{Past as UserPast, At as UserAt}
+use Rattle.board.specs.declared.buffers.ObjectRead.{ObjectRead}
+use Rattle.board.specs.declared.buffers.ObjectRead.the-variants.{Past as ObjectPast, At as ObjectAt}
+use Rattle.labels.specs.declared.UserLabel.{UserLabel}
+use Rattle.labels.specs.declared.ObjectLabel.{ObjectLabel}
 
 -- a byte that is there, and one that is not
 there-at : (xs : List ℕ) (k b : ℕ) → byteAt xs k ≡ some b → (leb (length xs) k ≡ false) × (getD xs k 0 ≡ b)
@@ -34,31 +40,38 @@ gone-at xs k e = go (ltb k (length xs)) refl e
     go true q f = let z : _≡_ {A = ℕ} 0 1 = cc in absurd (omega arith)
     go false q f = le-leb (length xs) k (ltb-false k (length xs) q)
 
-module _ (l : Labels) (a u o : ℕ) (x : Byte) (hx : byteOf x ≡ byteAt (l .buffers .users) u) where
-  pub past-user : x ≡ Past → refused 20 ≡ lookedUp l a (at u o)
+-- what a byte's case says of what was read
+pub read-past : (x : Byte) (b : Option ℕ) → byteOf x ≡ b → x ≡ Past → none ≡ b
+read-past x b h e = rw e at h
+
+pub read-at : (x : Byte) (b : Option ℕ) → byteOf x ≡ b → (n : ℕ) → x ≡ At n → some n ≡ b
+read-at x b h n e = rw e at h
+
+module _ (l : Labels) (a u o : ℕ) (x : UserRead) (hx : userOf x ≡ byteAt (l .buffers .users) u) where
+  pub past-user : x ≡ UserPast → refused 20 ≡ lookedUp l a (at u o)
   unfolding lookedUp pastEnd
   past-user e = rw (gone-at (l .buffers .users) u (sym hx ∙ rw e))
 
-  module _ (ul : ℕ) (ex : x ≡ At ul) (y : Byte) (hy : byteOf y ≡ byteAt (l .buffers .objects) o) where
-    pub past-object : y ≡ Past → refused 20 ≡ lookedUp l a (at u o)
+  module _ (ul : UserLabel) (ex : x ≡ UserAt ul) (y : ObjectRead) (hy : objectOf y ≡ byteAt (l .buffers .objects) o) where
+    pub past-object : y ≡ ObjectPast → refused 20 ≡ lookedUp l a (at u o)
     unfolding lookedUp pastEnd
-    past-object e = rw (there-at (l .buffers .users) u ul (sym hx ∙ rw ex) .0, gone-at (l .buffers .objects) o (sym hy ∙ rw e))
+    past-object e = rw (there-at (l .buffers .users) u (ul .0) (sym hx ∙ rw ex) .0, gone-at (l .buffers .objects) o (sym hy ∙ rw e))
 
-    module _ (ol : ℕ) (ey : y ≡ At ol) (k : ℕ) (hk : k ≡ ul * l .counts .objects + ol) (z : Byte) (hz : byteOf z ≡ byteAt (l .buffers .table) k) where
+    module _ (ol : ObjectLabel) (ey : y ≡ ObjectAt ol) (k : ℕ) (hk : k ≡ ul .0 * l .counts .objects + ol .0) (z : Byte) (hz : byteOf z ≡ byteAt (l .buffers .table) k) where
       place : placeAt l (at u o) ≡ k
-      place = rw (there-at (l .buffers .users) u ul (sym hx ∙ rw ex) .1, there-at (l .buffers .objects) o ol (sym hy ∙ rw ey) .1) (sym hk)
+      place = rw (there-at (l .buffers .users) u (ul .0) (sym hx ∙ rw ex) .1, there-at (l .buffers .objects) o (ol .0) (sym hy ∙ rw ey) .1) (sym hk)
 
       pub past-table : z ≡ Past → refused 20 ≡ lookedUp l a (at u o)
       unfolding lookedUp pastEnd
       past-table e =
-          rw (there-at (l .buffers .users) u ul (sym hx ∙ rw ex) .0, there-at (l .buffers .objects) o ol (sym hy ∙ rw ey) .0, place, gone-at (l .buffers .table) k (sym hz ∙ rw e))
+          rw (there-at (l .buffers .users) u (ul .0) (sym hx ∙ rw ex) .0, there-at (l .buffers .objects) o (ol .0) (sym hy ∙ rw ey) .0, place, gone-at (l .buffers .table) k (sym hz ∙ rw e))
 
       module _ (b : ℕ) (ez : z ≡ At b) where
         decided-at : decided (has b a) ≡ lookedUp l a (at u o)
         unfolding lookedUp pastEnd grantsByLabels
         decided-at =
             let t = there-at (l .buffers .table) k b (sym hz ∙ rw ez) in
-            rw (there-at (l .buffers .users) u ul (sym hx ∙ rw ex) .0, there-at (l .buffers .objects) o ol (sym hy ∙ rw ey) .0, place, t .0, t .1)
+            rw (there-at (l .buffers .users) u (ul .0) (sym hx ∙ rw ex) .0, there-at (l .buffers .objects) o (ol .0) (sym hy ∙ rw ey) .0, place, t .0, t .1)
 
         pub granted-at : (t : Bool) → t ≡ has b a → t ≡ true → granted ≡ lookedUp l a (at u o)
         granted-at t e q = rw (sym e ∙ q) at decided-at

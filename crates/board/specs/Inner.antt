@@ -28,6 +28,10 @@ use Rattle.board.specs.declared.asking.Asked.{Asked}
 use Rattle.board.specs.declared.asking.Asked.the-variants.{Of, Refused as AskedRefused}
 use Rattle.board.specs.declared.buffers.Byte.{Byte}
 use Rattle.board.specs.declared.buffers.Byte.the-variants.{Past, At}
+use Rattle.board.specs.declared.buffers.UserRead.{UserRead}
+use Rattle.board.specs.declared.buffers.UserRead.the-variants.{Past as UserPast, At as UserAt}
+use Rattle.board.specs.declared.buffers.ObjectRead.{ObjectRead}
+use Rattle.board.specs.declared.buffers.ObjectRead.the-variants.{Past as ObjectPast, At as ObjectAt}
 
 -- ---- what the answers stand for
 
@@ -42,6 +46,14 @@ askedOf (AskedRefused r) = refuses (numberOf r)
 abbrev pub byteOf : Byte → Option ℕ
 byteOf Past = none
 byteOf (At b) = some b
+
+abbrev pub userOf : UserRead → Option ℕ
+userOf UserPast = none
+userOf (UserAt l) = some (l .0)
+
+abbrev pub objectOf : ObjectRead → Option ℕ
+objectOf ObjectPast = none
+objectOf (ObjectAt l) = some (l .0)
 
 -- ---- what the functions work out
 

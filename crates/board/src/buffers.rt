@@ -3,7 +3,7 @@ ghost use mathlib.Core.Path.{_≡_};
 ghost use Rattle.formula.specs.Truth.{at};
 ghost use Rattle.labels.specs.Compile.{lent};
 ghost use Rattle.board.specs.Board.{labelsOf, replyOf};
-ghost use Rattle.board.specs.Inner.{askedOf, answered, byteOf, byteAt, lookedUp};
+ghost use Rattle.board.specs.Inner.{askedOf, answered, byteOf, userOf, objectOf, byteAt, lookedUp};
 use crate::Answer;
 use crate::asking::Asked;
 use labels::Counts;
@@ -28,6 +28,37 @@ fn byte_at(buffer: &[u8], place: usize) -> Byte
     }
 }
 
+// The label of a user set and that of an object set, where its place is in the buffer.
+pub enum UserRead {
+    Past,
+    At(UserLabel),
+}
+
+pub enum ObjectRead {
+    Past,
+    At(ObjectLabel),
+}
+
+// The held set's label.
+fn user_label(users: &[u8], held: u32) -> UserRead
+    ensures { λ r. ⌜ userOf r ≡ byteAt (now (users .entry)) held ⌝ }
+{
+    match byte_at(users, held as usize) {
+        Byte::Past => UserRead::Past,
+        Byte::At(label) => UserRead::At(UserLabel(label)),
+    }
+}
+
+// The object set's label.
+fn object_label(objects: &[u8], object: u32) -> ObjectRead
+    ensures { λ r. ⌜ objectOf r ≡ byteAt (now (objects .entry)) object ⌝ }
+{
+    match byte_at(objects, object as usize) {
+        Byte::Past => ObjectRead::Past,
+        Byte::At(label) => ObjectRead::At(ObjectLabel(label)),
+    }
+}
+
 // What the labels of two sets say of an action.
 fn look_up(
     counts: Counts,
@@ -40,18 +71,13 @@ fn look_up(
 ) -> Answer
     ensures { λ r. ⌜ replyOf r ≡ lookedUp (labelsOf counts (lent (now (users .entry)) (now (objects .entry)) (now (table .entry)))) action (at held object) ⌝ }
 {
-    let Byte::At(user_label) = byte_at(users, held as usize) else {
+    let UserRead::At(ul) = user_label(users, held) else {
         return Answer::Refused(Refusal::BufferTooShort);
     };
-    let Byte::At(object_label) = byte_at(objects, object as usize) else {
+    let ObjectRead::At(ol) = object_label(objects, object) else {
         return Answer::Refused(Refusal::BufferTooShort);
     };
-    let place = labels::place(
-        UserLabel(user_label),
-        ObjectLabel(object_label),
-        counts.objects,
-    );
-    let Byte::At(entry) = byte_at(table, place) else {
+    let Byte::At(entry) = byte_at(table, labels::place(ul, ol, counts.objects)) else {
         return Answer::Refused(Refusal::BufferTooShort);
     };
     if sets::holds(entry as u32, action) {

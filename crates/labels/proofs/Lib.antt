@@ -4,6 +4,7 @@ pub mod Alike
 pub mod Entries
 pub mod Grids
 pub mod Turn
+pub mod Putting
 pub mod Compiling
 pub mod Storing
 pub mod Told

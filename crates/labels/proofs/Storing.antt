@@ -21,12 +21,12 @@ use Rattle.policy.specs.declared.refusal.Refusal.the-variants.{InvalidState, Bu
 use Rattle.formula.specs.Truth.{grants}
 use Rattle.labels.specs.Compile.{entryOf}
 use Rattle.labels.specs.Compile.{likeUsers, likeObjects, NU, NO, entry, userLabel, objectLabel, userResult, objectResult, tableResult, lent, tooShort, compile, compileBuffers, Compiles}
-use Rattle.labels.specs.Inner.Grid.{cell, turnedView, likeRows, GridOf, Labelled}
+use Rattle.labels.specs.Inner.Grid.{cell, turnedView, likeRows, GridOf, Labelled, Puts}
 use Rattle.labels.specs.declared.grid.View.{View}
 use Rattle.labels.specs.declared.Counts.{Counts}
 use Rattle.labels.specs.declared.Compiled.the-variants.{Stored, Refused}
 use Rattle.labels.proofs.Alike.{rows-equivalence, rows-alike, columns-alike}
-use Rattle.labels.proofs.Turn.{labelled-same, labelled-leader}
+use Rattle.labels.proofs.Turn.{labelled-same, labelled-leads}
 use Rattle.labels.proofs.Compiling.{length-userResult, length-objectResult, length-tableResult}
 
 -- ---- the labels
@@ -121,13 +121,12 @@ module _ (v : PolicyValue) (ok : valid v ≡ true) (us os ts : List ℕ) {grid :
     leaders-entry ul ol hu ho =
         let x = users-labelled G U in
         let y = objects-labelled G O in
-        G .entries _ _ (labelled-leader (rows-equivalence _ _ _) U ul hu) (labelled-leader (rows-equivalence _ _ _) O ol ho)
+        G .entries _ _ (labelled-leads (rows-equivalence _ _ _) U .row ul hu) (labelled-leads (rows-equivalence _ _ _) O .row ol ho)
         ∙ rw (x .leaders-are ul hu, y .leaders-are ol ho)
 
     -- what three writers leave that put the labels and the table there
     pub stored-all : (us′ os′ ts′ : List ℕ) → view .rows ≤ length us → view .columns ≤ length os → c .users * c .objects ≤ length ts
-        → ((f : ℕ → ℕ) → ((i : ℕ) → i < view .rows → getD lu i 0 ≡ f i) → us′ ≡ over (upTo f (view .rows)) us)
-        → ((f : ℕ → ℕ) → ((i : ℕ) → i < view .columns → getD lo i 0 ≡ f i) → os′ ≡ over (upTo f (view .columns)) os)
+        → Puts lu (view .rows) us us′ → Puts lo (view .columns) os os′
         → ((f : ℕ → ℕ → ℕ) → ((ul ol : ℕ) → ul < c .users → ol < c .objects → cell grid view (getD fu ul 0) (getD fo ol 0) ≡ f ul ol)
         → ts′ ≡ over (upTo (λ i. f (i / c .objects) (i % c .objects)) (c .users * c .objects)) ts)
         → Compiles v (lent us os ts) (Stored c) (lent us′ os′ ts′)

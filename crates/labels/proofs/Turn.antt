@@ -13,7 +13,7 @@ use Rattle.basis.proofs.Bools.{never, fails}
 use Rattle.basis.proofs.Counting.{Least, first-least}
 use Rattle.basis.proofs.Places.{stored-next}
 use Rattle.labels.specs.Labels.{lowestLike, leads, labelCount, label, leader}
-use Rattle.labels.specs.Inner.Grid.{Labelled}
+use Rattle.labels.specs.Inner.Grid.{Labelled, Leading}
 use Rattle.labels.proofs.Labels.{Equivalence, lowest-least, is-leads, labelCount-le, labelCount-mono, labelCount-strict, labelCount-same, label-same, leader-same, lowest-below, lowest-like, lowest-leads, label-iff, label-leads, leader-leads, leader-is}
 
 module _ (like : ℕ → ℕ → Bool) (u : ℕ) where
@@ -137,7 +137,20 @@ labelled-same {like} {other} {m} h s =
 pub labelled-few : {like : ℕ → ℕ → Bool} {m : ℕ} {labels leaders : List ℕ} {count : ℕ} → Labelled like m labels leaders count → count ≤ m
 labelled-few {like} {m} s = let q = s .counted in omega (arith, labelCount-le like m)
 
--- and the lowest set of a label is one of them
-pub labelled-leader : {like : ℕ → ℕ → Bool} {m : ℕ} {labels leaders : List ℕ} {count : ℕ} → Equivalence like m
-    → Labelled like m labels leaders count → (l : ℕ) → l < count → getD leaders l 0 < m
-labelled-leader E s l h = let q = s .counted in rw (s .leaders-are l h) (leader-is E l (omega arith) .below)
+-- and the lowest set of a label is one of them and has the label
+pub labelled-leads : {like : ℕ → ℕ → Bool} {m : ℕ} {labels leaders : List ℕ} {count : ℕ} → Equivalence like m
+    → Labelled like m labels leaders count → Leading m labels leaders count
+labelled-leads E s =
+    let q = s .counted in
+    record {
+      row = λ l h. rw (s .leaders-are l h) (leader-is E l (omega arith) .below);
+      labelled = λ l h. let r = leader-is E l (omega arith) in rw (s .leaders-are l h) (s .labels-are _ (r .below) ∙ r .labelled);
+    }
+
+-- what is read of a label's leader
+module _ {m l count : ℕ} {labels leaders : List ℕ} (L : Leading m labels leaders count) (h : l < count) {u : ℕ} (q : u ≡ getD leaders l 0) where
+  pub leading-row : u < m
+  leading-row = rw q (L .row l h)
+
+  pub leading-label : {r : ℕ} → r ≡ getD labels u 0 → r ≡ l
+  leading-label e = e ∙ ap (λ (y : ℕ). getD labels y 0) q ∙ L .labelled l h

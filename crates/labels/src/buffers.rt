@@ -10,25 +10,40 @@ ghost use Rattle.policy.specs.Value.{policyOf};
 ghost use Rattle.policy.specs.Valid.{valid};
 ghost use Rattle.policy.specs.declared.value.PolicyValue.{PolicyValue};
 ghost use Rattle.labels.specs.Compile.{lent, Compiles};
-ghost use Rattle.labels.specs.Inner.Grid.{cell, Inside, GridOf};
+ghost use Rattle.labels.specs.Inner.Grid.{cell, Inside, GridOf, Leading, Puts};
 use crate::Compiled;
 use crate::Counts;
-use crate::ObjectLabel;
-use crate::UserLabel;
 use crate::classify::classify;
 use crate::grid;
 use crate::grid::View;
+use crate::sorts;
+use crate::sorts::ObjectClasses;
+use crate::sorts::UserClasses;
 use policy::limits::MOST_PAIRS;
 use policy::limits::MOST_SETS;
 use policy::refusal::Refusal;
 
-// Puts the first n of some labels at the start of a lent buffer.
-fn put_labels(buffer: &mut [u8], labels: &[u8; MOST_SETS], n: usize)
+// Puts the labels of the first n user sets at the start of a lent buffer.
+fn put_user_labels(buffer: &mut [u8], users: UserClasses, n: usize)
     requires { ⌜ (n ≤ mostSets) × (n ≤ length (now buffer)) ⌝ }
-    ensures { λ _. ⌜ ((f : ℕ → ℕ) → ((i : ℕ) → i < n → getD (now (labels .entry)) i 0 ≡ f i) → now (buffer .exit) ≡ over (upTo f n) (now (buffer .entry))) ⌝ }
+    ensures { λ _. ⌜ Puts (users .0 .labels) n (now (buffer .entry)) (now (buffer .exit)) ⌝ }
 {
-    for i in 0..n {
-        buffer[i] = labels[i];
+    let labels = users.0.labels;
+    for u in 0..n {
+        let label = sorts::user_label(&labels, u);
+        buffer[u] = label.0;
+    }
+}
+
+// Puts the labels of the first n object sets at the start of a lent buffer.
+fn put_object_labels(buffer: &mut [u8], objects: ObjectClasses, n: usize)
+    requires { ⌜ (n ≤ mostSets) × (n ≤ length (now buffer)) ⌝ }
+    ensures { λ _. ⌜ Puts (objects .0 .labels) n (now (buffer .entry)) (now (buffer .exit)) ⌝ }
+{
+    let labels = objects.0.labels;
+    for o in 0..n {
+        let label = sorts::object_label(&labels, o);
+        buffer[o] = label.0;
     }
 }
 
@@ -37,21 +52,27 @@ fn put_table(
     buffer: &mut [u8],
     grid: &[u8; MOST_PAIRS],
     view: View,
-    users: &[u8; MOST_SETS],
-    objects: &[u8; MOST_SETS],
+    users: UserClasses,
+    objects: ObjectClasses,
     counts: Counts,
 )
     requires { ⌜ Inside view × (counts .users ≤ mostSets) × (counts .objects ≤ mostSets) × (counts .users * counts .objects ≤ length (now buffer)) ⌝ }
-    requires { ⌜ ((l : ℕ) → l < counts .users → getD (now users) l 0 < view .rows) × ((l : ℕ) → l < counts .objects → getD (now objects) l 0 < view .columns) ⌝ }
-    ensures { λ _. ⌜ ((f : ℕ → ℕ → ℕ) → ((ul ol : ℕ) → ul < counts .users → ol < counts .objects → cell (now (grid .entry)) view (getD (now (users .entry)) ul 0) (getD (now (objects .entry)) ol 0) ≡ f ul ol) → now (buffer .exit) ≡ over (upTo (λ i. f (i / counts .objects) (i % counts .objects)) (counts .users * counts .objects)) (now (buffer .entry))) ⌝ }
+    requires { ⌜ Leading (view .rows) (users .0 .labels) (users .0 .leaders) (counts .users) × Leading (view .columns) (objects .0 .labels) (objects .0 .leaders) (counts .objects) ⌝ }
+    ensures { λ _. ⌜ ((f : ℕ → ℕ → ℕ) → ((ul ol : ℕ) → ul < counts .users → ol < counts .objects → cell (now (grid .entry)) view (getD (users .0 .leaders) ul 0) (getD (objects .0 .leaders) ol 0) ≡ f ul ol) → now (buffer .exit) ≡ over (upTo (λ i. f (i / counts .objects) (i % counts .objects)) (counts .users * counts .objects)) (now (buffer .entry))) ⌝ }
 {
+    let user_labels = users.0.labels;
+    let user_leaders = users.0.leaders;
+    let object_labels = objects.0.labels;
+    let object_leaders = objects.0.leaders;
     let nu = counts.users;
     let no = counts.objects;
-    for ul in 0..nu {
-        let u = grid::wide(users[ul as usize]);
-        for ol in 0..no {
-            let o = grid::wide(objects[ol as usize]);
-            let at = crate::place(UserLabel(ul as u8), ObjectLabel(ol as u8), no);
+    for k in 0..nu {
+        let u = grid::wide(user_leaders[k as usize]);
+        let ul = sorts::user_label(&user_labels, u);
+        for l in 0..no {
+            let o = grid::wide(object_leaders[l as usize]);
+            let ol = sorts::object_label(&object_labels, o);
+            let at = crate::place(ul, ol, no);
             buffer[at] = grid::entry(grid, view, u, o);
         }
     }
@@ -68,10 +89,10 @@ pub fn store(
     requires { ⌜ Inside view ⌝ }
     ensures { λ r. ⌜ ((v : PolicyValue) → valid v ≡ true → GridOf (policyOf v) (now (grid .entry)) view → Compiles v (lent (now (users .entry)) (now (objects .entry)) (now (table .entry))) r (lent (now (users .exit)) (now (objects .exit)) (now (table .exit)))) ⌝ }
 {
-    let user = classify(grid, view);
-    let object = classify(grid, grid::turned(view));
-    let nu = user.count;
-    let no = object.count;
+    let rows = classify(grid, view);
+    let columns = classify(grid, grid::turned(view));
+    let nu = rows.count;
+    let no = columns.count;
     if users.len() < view.rows {
         return Compiled::Refused(Refusal::BufferTooShort);
     }
@@ -86,12 +107,10 @@ pub fn store(
         users: nu as u32,
         objects: no as u32,
     };
-    let user_labels = user.labels;
-    put_labels(users, &user_labels, view.rows);
-    let object_labels = object.labels;
-    put_labels(objects, &object_labels, view.columns);
-    let user_leaders = user.leaders;
-    let object_leaders = object.leaders;
-    put_table(table, grid, view, &user_leaders, &object_leaders, counts);
+    let user = UserClasses(rows);
+    put_user_labels(users, user, view.rows);
+    let object = ObjectClasses(columns);
+    put_object_labels(objects, object, view.columns);
+    put_table(table, grid, view, user, object, counts);
     Compiled::Stored(counts)
 }

@@ -8,6 +8,7 @@ mod buffers;
 mod classify;
 mod grid;
 mod rows;
+mod sorts;
 mod telling;
 
 use policy::limits::MOST_PAIRS;

@@ -4,6 +4,8 @@ use mathlib.Core.Path.{_≡_}
 use mathlib.Core.Bool.{Bool}
 use mathlib.Core.List.{List}
 use lib.ListN.{getD}
+use Rattle.basis.specs.Lists.{over}
+use Rattle.basis.specs.Numbers.{upTo}
 use Rattle.policy.specs.Limits.{mostSets, mostPairs}
 use Rattle.policy.specs.Policy.{Policy, sets}
 use Rattle.formula.specs.Truth.{at}
@@ -50,3 +52,12 @@ pub record Labelled (like : ℕ → ℕ → Bool) (m : ℕ) (labels leaders : Li
   pub counted : count ≡ labelCount like m
   pub labels-are : (u : ℕ) → u < m → getD labels u 0 ≡ label like u
   pub leaders-are : (l : ℕ) → l < count → getD leaders l 0 ≡ leader like m l
+
+-- each of so many labels has a leader among m sets, and the leader has the label
+pub record Leading (m : ℕ) (labels leaders : List ℕ) (count : ℕ) : Type 0 where
+  pub row : (l : ℕ) → l < count → getD leaders l 0 < m
+  pub labelled : (l : ℕ) → l < count → getD labels (getD leaders l 0) 0 ≡ l
+
+-- a buffer gets the labels of the first n sets, whatever these are, and keeps the rest
+abbrev pub Puts : List ℕ → ℕ → List ℕ → List ℕ → Type 0
+Puts labels n before after = (f : ℕ → ℕ) → ((i : ℕ) → i < n → getD labels i 0 ≡ f i) → after ≡ over (upTo f n) before

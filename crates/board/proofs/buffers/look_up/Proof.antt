@@ -4,11 +4,11 @@ use Rattle.board.proofs.Look.{past-user, past-object, past-table, grant
 use Rattle.board.proofs.buffers.look_up.Statement.{statement}
 use Rattle.board.proofs.buffers.look_up.Tie as tie
 
-byte-at-requires : tie.Need-byte-at-requires
-byte-at-requires c κs = search needs
+user-label-requires : tie.Need-user-label-requires
+user-label-requires c κs = search needs
 
-enum-known-user-label : tie.Need-enum-known-user-label
-enum-known-user-label c = search needs
+enum-known-ul : tie.Need-enum-known-ul
+enum-known-ul c = search needs
 
 enum-told : tie.Need-enum-told
 enum-told c = search needs
@@ -16,11 +16,11 @@ enum-told c = search needs
 returns : tie.Need-returns
 returns c = search past-user
 
-byte-at-requires-2 : tie.Need-byte-at-requires-2
-byte-at-requires-2 c κs = search needs
+object-label-requires : tie.Need-object-label-requires
+object-label-requires c κs = search needs
 
-enum-known-object-label : tie.Need-enum-known-object-label
-enum-known-object-label c = search needs
+enum-known-ol : tie.Need-enum-known-ol
+enum-known-ol c = search needs
 
 enum-told-2 : tie.Need-enum-told-2
 enum-told-2 c = search needs
@@ -31,8 +31,8 @@ returns-2 c = search past-object
 place-requires : tie.Need-place-requires
 place-requires c κs = search needs
 
-byte-at-requires-3 : tie.Need-byte-at-requires-3
-byte-at-requires-3 c κs = search needs
+byte-at-requires : tie.Need-byte-at-requires
+byte-at-requires c κs = search needs
 
 enum-known-entry : tie.Need-enum-known-entry
 enum-known-entry c = search needs
@@ -59,16 +59,16 @@ pub look-up-spec : {M : Type 1} → statement M
 look-up-spec =
     tie.close
     (tie.spec
-    byte-at-requires
-    enum-known-user-label
+    user-label-requires
+    enum-known-ul
     enum-told
     returns
-    byte-at-requires-2
-    enum-known-object-label
+    object-label-requires
+    enum-known-ol
     enum-told-2
     returns-2
     place-requires
-    byte-at-requires-3
+    byte-at-requires
     enum-known-entry
     enum-told-3
     returns-3

@@ -3,6 +3,7 @@ use Prim.Native.Nat.{ℕ, _+_, _*_, _-_, _/_, _%_, _≤_, _<_}
 use denote.Ref.{now}
 use mathlib.Core.Path.{_≡_, sym, ap, ap₂, _∙_}
 use mathlib.Core.List.{List}
+use native.Mathlib.Nat.{lt-of-lt-of-le}
 use native.Mathlib.Omega.{arith}
 use lib.Arith.{digits-lt, digits-div, digits-mod}
 use lib.ListN.{length, getD}
@@ -10,6 +11,7 @@ use borrow.Author.Needs.{needs}
 use Rattle.basis.proofs.Filled.{Filled, filled-none, filled-count, filled-same, filled-over, in-row, Further, further-none, further-more, further-count}
 use Rattle.labels.specs.Inner.Grid.{cell}
 use Rattle.labels.specs.declared.grid.View.{View}
+use Rattle.labels.proofs.Turn.{leading-row, leading-label}
 use Rattle.labels.proofs.buffers.put_table.Statement.{statement}
 use Rattle.labels.proofs.buffers.put_table.Tie as tie
 
@@ -18,17 +20,18 @@ abbrev atPlace : List ℕ → View → List ℕ → List ℕ → ℕ → ℕ →
 atPlace grid view users objects n i = cell grid view (getD users (i / n) 0) (getD objects (i % n) 0)
 
 abbrev Inv-loop2 : tie.InvT-loop2
-Inv-loop2 buffer₀ grid view users objects nu no' ul u ol₀ buffer ol =
-    (ol ≤ no') × Further (atPlace grid view users objects no') (ul * no') (ul * no' + ol) buffer₀ buffer
+Inv-loop2 buffer₀ grid view user-labels users object-labels objects nu no' k u ul l₀ buffer l =
+    (l ≤ no') × Further (atPlace grid view users objects no') (k * no') (k * no' + l) buffer₀ buffer
 
 abbrev μ-loop2 : tie.MeasureT-loop2
-μ-loop2 buffer₀ grid view users objects nu no' ul u ol₀ buffer ol = no' - ol
+μ-loop2 buffer₀ grid view user-labels users object-labels objects nu no' k u ul l₀ buffer l = no' - l
 
 abbrev Inv-loop : tie.InvT-loop
-Inv-loop buffer₀ grid view users objects nu no' ul₀ buffer ul = (ul ≤ nu) × Filled (atPlace grid view users objects no') (ul * no') buffer₀ buffer
+Inv-loop buffer₀ grid view user-labels users object-labels objects nu no' k₀ buffer k =
+    (k ≤ nu) × Filled (atPlace grid view users objects no') (k * no') buffer₀ buffer
 
 abbrev μ-loop : tie.MeasureT-loop
-μ-loop buffer₀ grid view users objects nu no' ul₀ buffer ul = nu - ul
+μ-loop buffer₀ grid view user-labels users object-labels objects nu no' k₀ buffer k = nu - k
 
 loop-holds : tie.Need-loop-holds Inv-loop2 μ-loop2 Inv-loop μ-loop
 loop-holds c = (search needs, filled-count (filled-none _ _) (omega arith))
@@ -36,11 +39,17 @@ loop-holds c = (search needs, filled-count (filled-none _ _) (omega arith))
 cast-wide : tie.Need-cast-wide Inv-loop2 μ-loop2 Inv-loop μ-loop
 cast-wide c = search needs
 
-element-copy-out-wide : tie.Need-element-copy-out-wide Inv-loop2 μ-loop2 Inv-loop μ-loop
-element-copy-out-wide c = search needs
+array-read-wide : tie.Need-array-read-wide Inv-loop2 μ-loop2 Inv-loop μ-loop
+array-read-wide c = search needs
 
 wide-requires : tie.Need-wide-requires Inv-loop2 μ-loop2 Inv-loop μ-loop
 wide-requires c κs = search needs
+
+user-label-requires : tie.Need-user-label-requires Inv-loop2 μ-loop2 Inv-loop μ-loop
+user-label-requires c κs =
+    let t = c .before .before in
+    let s = t .before .before .before .before .before .before .before .pre in
+    lt-of-lt-of-le (leading-row (s .1 .0) (t .loop-test .taken) (c .before .wide .ensures .0)) (s .0 .0 .few-rows)
 
 loop2-holds : tie.Need-loop2-holds Inv-loop2 μ-loop2 Inv-loop μ-loop
 loop2-holds c = (search needs, further-count (further-none _ _ _) (omega arith))
@@ -48,75 +57,89 @@ loop2-holds c = (search needs, further-count (further-none _ _ _) (omega arith))
 cast-wide-2 : tie.Need-cast-wide-2 Inv-loop2 μ-loop2 Inv-loop μ-loop
 cast-wide-2 c = search needs
 
-element-copy-out-wide-2 : tie.Need-element-copy-out-wide-2 Inv-loop2 μ-loop2 Inv-loop μ-loop
-element-copy-out-wide-2 c = search needs
+array-read-wide-2 : tie.Need-array-read-wide-2 Inv-loop2 μ-loop2 Inv-loop μ-loop
+array-read-wide-2 c = search needs
 
 wide-requires-2 : tie.Need-wide-requires-2 Inv-loop2 μ-loop2 Inv-loop μ-loop
 wide-requires-2 c κs = search needs
 
-cast-buffer : tie.Need-cast-buffer Inv-loop2 μ-loop2 Inv-loop μ-loop
-cast-buffer c = search needs
-
-cast-t25 : tie.Need-cast-t25 Inv-loop2 μ-loop2 Inv-loop μ-loop
-cast-t25 c = search needs
+object-label-requires : tie.Need-object-label-requires Inv-loop2 μ-loop2 Inv-loop μ-loop
+object-label-requires c κs =
+    let t = c .before .before in
+    let s = t .before .before .before .before .before .before .before .before .before .before .before .before .pre in
+    lt-of-lt-of-le (leading-row (s .1 .1) (t .loop2-test .taken) (c .before .wide2 .ensures .0)) (s .0 .0 .few-columns)
 
 place-requires : tie.Need-place-requires Inv-loop2 μ-loop2 Inv-loop μ-loop
 place-requires c κs = search needs
 
 entry-requires : tie.Need-entry-requires Inv-loop2 μ-loop2 Inv-loop μ-loop
 entry-requires c κs =
-    let k = c .before .before .before in
-    let m = k .before .before in
-    let s = m .before .before .before .before .before .pre in (
+    let t = c .before .before .before .before in
+    let w = t .before .before .before .before in
+    let s = w .before .before .before .before .before .before .before .before .pre in (
       s .0 .0,
-      rw (m .wide .ensures .0) (s .1 .0 (m .before .before .before .loop .ul) (m .before .before .loop-test .taken)),
-      rw (c .before .wide2 .ensures .0) (s .1 .1 (k .before .loop2 .ol) (k .loop2-test .taken)),
+      leading-row (s .1 .0) (w .before .loop-test .taken) (w .wide .ensures .0),
+      leading-row (s .1 .1) (t .loop2-test .taken) (c .before .before .before .wide2 .ensures .0),
     )
 
--- the place is in the buffer
+-- the labels that were read are those whose turn it is, so the place is the next, and it is in the buffer
+next : (c : tie.After-entry Inv-loop2 μ-loop2 Inv-loop μ-loop)
+    → let t = c .before .before .before .before .before in let m = t .before .before .before .before .before .before in
+    c .before .place .result ≡ m .loop .k * m .before .before .before .before .before .before .args .counts .objects + t .before .loop2 .l
+next c =
+    let p = c .before in
+    let t = p .before .before .before .before in
+    let w = t .before .before .before .before in
+    let s = w .before .before .before .before .before .before .before .before in
+    p .place .ensures
+    ∙ ap₂ (λ (x y : ℕ). x * s .args .counts .objects + y)
+    (leading-label (s .pre .1 .0) (w .before .loop-test .taken) (w .wide .ensures .0) (t .before .before .user-label .ensures))
+    (leading-label (s .pre .1 .1) (t .loop2-test .taken) (p .before .before .before .wide2 .ensures .0) (p .before .object-label .ensures))
+
 room : (c : tie.After-entry Inv-loop2 μ-loop2 Inv-loop μ-loop)
-    → let k = c .before .before .before .before .before in let l = k .before .before .before .before in
-    l .loop .ul * l .before .before .args .counts .objects + k .loop2 .ol < length (k .loop2 .buffer)
+    → let t = c .before .before .before .before .before in let m = t .before .before .before .before .before .before in
+    m .loop .k * m .before .before .before .before .before .before .args .counts .objects + t .before .loop2 .l < length (t .before .loop2 .buffer)
 room c =
-    let k = c .before .before .before .before in
-    let l = k .before .before .before .before in
-    omega (arith, k .before .loop2 .inv .1 .size, l .before .loop .inv .1 .size, l .before .before .before .pre .0 .3, digits-lt (l .loop-test .taken) (k .loop2-test .taken))
+    let t = c .before .before .before .before .before in
+    let l = t .before .before .before .before .before in
+    let s = l .before .before .before .before .before .before .before in
+    omega (arith, t .before .loop2 .inv .1 .size, l .before .loop .inv .1 .size, s .pre .0 .3, digits-lt (l .loop-test .taken) (t .loop2-test .taken))
 
 slice-write-buffer : tie.Need-slice-write-buffer Inv-loop2 μ-loop2 Inv-loop μ-loop
-slice-write-buffer c = rw (c .before .place .ensures) (room c)
+slice-write-buffer c = rw (next c) (room c)
 
-add-ol : tie.Need-add-ol Inv-loop2 μ-loop2 Inv-loop μ-loop
-add-ol c = search needs
+add-l : tie.Need-add-l Inv-loop2 μ-loop2 Inv-loop μ-loop
+add-l c = search needs
 
 loop2-less : tie.Need-loop2-less Inv-loop2 μ-loop2 Inv-loop μ-loop
 loop2-less c = search needs
 
 loop2-again : tie.Need-loop2-again Inv-loop2 μ-loop2 Inv-loop μ-loop
 loop2-again c =
-    let k = c .before .before .before .before in
-    let m = k .before .before in
-    let a = m .before .before .before .before .before .args in
-    let h = k .loop2-test .taken in
-    let ul = m .before .before .before .loop .ul in (
+    let t = c .before .before .before .before .before in
+    let w = t .before .before .before .before in
+    let a = w .before .before .before .before .before .before .before .before .args in
+    let h = t .loop2-test .taken in
+    let k = w .before .before .loop .k in (
       omega arith,
       further-count
-          (further-more (k .before .loop2 .inv .1) (c .before .place .ensures) (room c)
+          (further-more (t .before .loop2 .inv .1) (next c) (room c)
           (c .entry .ensures
           ∙ ap₂ (cell (now (a .grid)) (a .view))
-          (m .wide .ensures .0 ∙ ap (λ (x : ℕ). getD (now (a .users)) x 0) (sym (digits-div ul h)))
-          (c .before .before .wide2 .ensures .0 ∙ ap (λ (x : ℕ). getD (now (a .objects)) x 0) (sym (digits-mod ul h)))))
+          (w .wide .ensures .0 ∙ ap (λ (x : ℕ). getD (a .users .0 .leaders) x 0) (sym (digits-div k h)))
+          (c .before .before .before .before .wide2 .ensures .0 ∙ ap (λ (x : ℕ). getD (a .objects .0 .leaders) x 0) (sym (digits-mod k h)))))
           (omega arith),
     )
 
-add-ul : tie.Need-add-ul Inv-loop2 μ-loop2 Inv-loop μ-loop
-add-ul c = search needs
+add-k : tie.Need-add-k Inv-loop2 μ-loop2 Inv-loop μ-loop
+add-k c = search needs
 
 loop-less : tie.Need-loop-less Inv-loop2 μ-loop2 Inv-loop μ-loop
 loop-less c = search needs
 
 loop-again : tie.Need-loop-again Inv-loop2 μ-loop2 Inv-loop μ-loop
 loop-again c =
-    let l = c .before .before .before .before .before .loop in
+    let l = c .before .before .before .before .before .before .loop in
     (omega arith, filled-count (c .before .loop2 .inv .1 .filled _ (l .inv .1)) (omega arith))
 
 same-length : tie.Need-same-length Inv-loop2 μ-loop2 Inv-loop μ-loop
@@ -124,9 +147,9 @@ same-length c = c .before .loop .inv .1 .size
 
 returns : tie.Need-returns Inv-loop2 μ-loop2 Inv-loop μ-loop
 returns c =
-    let s = c .before .before .before in
+    let s = c .before .before .before .before .before .before .before in
     let n = s .args .counts in
-    let q : c .before .loop .ul ≡ s .args .counts .users = omega arith in
+    let q : c .before .loop .k ≡ s .args .counts .users = omega arith in
     λ f h.
     filled-over
     (filled-same (filled-count (c .before .loop .inv .1) (ap (λ (x : ℕ). x * n .objects) q)) (λ i l.
@@ -144,21 +167,21 @@ put-table-spec =
     μ-loop
     loop-holds
     cast-wide
-    element-copy-out-wide
+    array-read-wide
     wide-requires
+    user-label-requires
     loop2-holds
     cast-wide-2
-    element-copy-out-wide-2
+    array-read-wide-2
     wide-requires-2
-    cast-buffer
-    cast-t25
+    object-label-requires
     place-requires
     entry-requires
     slice-write-buffer
-    add-ol
+    add-l
     loop2-less
     loop2-again
-    add-ul
+    add-k
     loop-less
     loop-again
     same-length

@@ -10,7 +10,7 @@ use Rattle.labels.specs.Inner.Grid.{turnedView, likeRows, Labelled}
 use Rattle.labels.proofs.Alike.{rows-equivalence}
 use Rattle.labels.proofs.Grids.{turned-inside}
 use Rattle.labels.proofs.Storing.{short-users, short-objects, short-table, stored-all}
-use Rattle.labels.proofs.Turn.{labelled-few, labelled-leader}
+use Rattle.labels.proofs.Turn.{labelled-few, labelled-leads}
 use Rattle.labels.proofs.buffers.store.Statement.{statement}
 use Rattle.labels.proofs.buffers.store.Tie as tie
 
@@ -53,24 +53,24 @@ returns-3 c =
     let k = c .before .before .before .before .before in
     λ v ok G. short-table v ok _ _ _ G (record { users = _; objects = _ }) (users-are k) (objects-are k) (c .if3 .taken)
 
-cast-t22 : tie.Need-cast-t22
-cast-t22 c = omega (arith, users-few (c .before .before .before .before .before))
+cast-t20 : tie.Need-cast-t20
+cast-t20 c = omega (arith, users-few (c .before .before .before .before .before))
 
-cast-t23 : tie.Need-cast-t23
-cast-t23 c = omega (arith, objects-few (c .before .before .before .before .before))
+cast-t21 : tie.Need-cast-t21
+cast-t21 c = omega (arith, objects-few (c .before .before .before .before .before))
 
-put-labels-requires : tie.Need-put-labels-requires
-put-labels-requires c κs = search needs
+put-user-labels-requires : tie.Need-put-user-labels-requires
+put-user-labels-requires c κs = search needs
 
-put-labels-requires-2 : tie.Need-put-labels-requires-2
-put-labels-requires-2 c κs = search needs
+put-object-labels-requires : tie.Need-put-object-labels-requires
+put-object-labels-requires c κs = search needs
 
 put-table-requires : tie.Need-put-table-requires
 put-table-requires c κs =
-    let e = c .before .before .before .before .before .before .before .before .before .before .before .before .before .before .before .before .before in
+    let e = c .before .before .before .before .before .before .before .before .before in
     let k = e .before .before .before .before .before in (
       (k .before .before .before .before .before .before .pre, users-few k, objects-few k, e .if3 .left),
-      (labelled-leader (rows-equivalence _ _ _) (users-are k), labelled-leader (rows-equivalence _ _ _) (objects-are k)),
+      (labelled-leads (rows-equivalence _ _ _) (users-are k), labelled-leads (rows-equivalence _ _ _) (objects-are k)),
     )
 
 same-length : tie.Need-same-length
@@ -85,13 +85,14 @@ same-length-3 c = search needs
 returns-4 : tie.Need-returns-4
 returns-4 c =
     let t = c .before .before in
-    let o = t .before .before .before .before .before .before .before .before in
-    let u = o .before .before .before .before .before .before in
-    let e = u .before .before .before .before in
+    let o = t .before .before .before .before in
+    let u = o .before .before .before .before in
+    let e = u .before .before in
     let k = e .before .before .before .before .before in
     λ v ok G.
     stored-all v ok _ _ _ G (record { users = _; objects = _ }) (users-are k) (objects-are k) _ _ _
-    (e .before .before .before .if1 .left) (e .before .if2 .left) (e .if3 .left) (u .put-labels .ensures) (o .put-labels2 .ensures) (t .put-table .ensures)
+    (e .before .before .before .if1 .left) (e .before .if2 .left) (e .if3 .left)
+    (u .put-user-labels .ensures) (o .put-object-labels .ensures) (t .put-table .ensures)
 
 pub store-spec : {M : Type 1} → statement M
 store-spec =
@@ -104,10 +105,10 @@ store-spec =
     returns-2
     mul-places
     returns-3
-    cast-t22
-    cast-t23
-    put-labels-requires
-    put-labels-requires-2
+    cast-t20
+    cast-t21
+    put-user-labels-requires
+    put-object-labels-requires
     put-table-requires
     same-length
     same-length-2
