@@ -138,10 +138,11 @@ struct helvemoik_policy {
     struct helvemoik_rules rules;
 };
 
-/* ---- the board: an entry for each session number; while it is live, its user and the set it holds */
+/* ---- the board: an entry for each session number; while the session is open, its user and the set it holds */
 
+/* live 0: the session is closed, and user and held count for nothing. Any other number: it is open; calls store 1. */
 struct helvemoik_session {
-    bool live;
+    uint32_t live;
     uint32_t user;
     uint32_t held;
 };

@@ -124,13 +124,28 @@ pub struct Separation {
     pub object: u32,
 }
 
-/// The entry of a session number.
+/// The entry of a session number: closed where `live` is 0, else open.
 #[repr(C)]
 #[derive(Debug, Clone, Copy, Default, PartialEq, Eq)]
 pub struct Session {
-    pub live: bool,
+    pub live: u32,
     pub user: u32,
     pub held: u32,
+}
+
+impl Session {
+    /// An open session, as the calls store it.
+    pub fn open(user: u32, held: u32) -> Self {
+        Session {
+            live: 1,
+            user,
+            held,
+        }
+    }
+
+    pub fn is_open(&self) -> bool {
+        self.live != 0
+    }
 }
 
 #[repr(C)]

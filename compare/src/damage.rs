@@ -318,7 +318,12 @@ fn flip_bit(rng: &mut Rng, value: &mut PackedPolicy) {
     }
 }
 
-/// A board of any sessions that are in order, and numbers left in closed entries.
+/// A number by which a session is open: the one that calls store, or another.
+fn live(rng: &mut Rng) -> u32 {
+    rng.pick(&[1, 1, 1, 2, 256, 1 << 31, u32::MAX])
+}
+
+/// A board of any sessions that are in order, open by any number, and numbers left in closed entries.
 pub fn board(rng: &mut Rng, policy: &Policy) -> Board {
     let mut board = Board::default();
     let most = rng.pick(&[0, 1, 3, 8]);
@@ -331,7 +336,7 @@ pub fn board(rng: &mut Rng, policy: &Policy) -> Board {
             let (user, assigned) = rng.pick(&policy.users);
             let held = rng.below(policy.user_sets()) & reach(policy, assigned);
             *entry = Session {
-                live: true,
+                live: live(rng),
                 user,
                 held,
             };
@@ -359,7 +364,7 @@ pub fn damaged_board(rng: &mut Rng, policy: &Policy, board: &Board) -> Board {
         _ => within,
     };
     damaged.sessions[rng.index(SESSIONS)] = Session {
-        live: true,
+        live: live(rng),
         user,
         held,
     };

@@ -129,11 +129,7 @@ fn board(size: Size, policy: &Policy) -> Board {
     let mut board = Board::default();
     for session in 0..SESSIONS - 1 {
         let (user, held) = owner(size, policy, session as u32);
-        board.sessions[session] = Session {
-            live: true,
-            user,
-            held,
-        };
+        board.sessions[session] = Session::open(user, held);
     }
     board
 }

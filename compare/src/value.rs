@@ -146,7 +146,7 @@ fn rule(rule: &PackedRule) -> Option<Rule> {
 pub fn sessions(board: &Board) -> Sessions {
     (0..)
         .zip(&board.sessions)
-        .filter(|(_, entry)| entry.live)
+        .filter(|(_, entry)| entry.is_open())
         .map(|(number, entry)| (number, (entry.user, entry.held)))
         .collect()
 }

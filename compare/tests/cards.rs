@@ -63,11 +63,7 @@ impl Screen {
                 user,
                 held,
             } => {
-                self.board.sessions[session as usize] = Session {
-                    live: true,
-                    user,
-                    held,
-                };
+                self.board.sessions[session as usize] = Session::open(user, held);
                 DONE
             }
         }

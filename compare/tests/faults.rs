@@ -30,11 +30,14 @@ enum Fault {
     RequestHeedsNu,
     RequestSkipsCheck20,
     MissesABadBoard,
+    OnlyOneIsOpen,
+    RequestTidiesTheBoard,
+    AddKeepsTheNumber,
 }
 
 use Fault::*;
 
-const FAULTS: [Fault; 23] = [
+const FAULTS: [Fault; 26] = [
     LineOffByOne,
     PolicyBesideARefusal,
     WritesPastTheText,
@@ -58,6 +61,9 @@ const FAULTS: [Fault; 23] = [
     RequestHeedsNu,
     RequestSkipsCheck20,
     MissesABadBoard,
+    OnlyOneIsOpen,
+    RequestTidiesTheBoard,
+    AddKeepsTheNumber,
 ];
 
 /// Plain Rust with one fault.
@@ -172,7 +178,7 @@ impl Engine for Faulty {
 
     fn fresh(&self) -> Board {
         let mut board = Plain.fresh();
-        board.sessions[31].live = self.0 == FreshHoldsASession;
+        board.sessions[31].live = u32::from(self.0 == FreshHoldsASession);
         board
     }
 
@@ -188,11 +194,7 @@ impl Engine for Faulty {
         match self.0 {
             OpensForAll if step.answer == 19 => {
                 step.answer = DONE;
-                step.board.sessions[session as usize] = Session {
-                    live: true,
-                    user,
-                    held: set,
-                };
+                step.board.sessions[session as usize] = Session::open(user, set);
             }
             RefusalChangesTheBoard if step.answer == 16 => {
                 step.board.sessions[session as usize].held = 0
@@ -212,8 +214,13 @@ impl Engine for Faulty {
         set: u32,
     ) -> PackedStep {
         let mut step = Plain.add(board, policy, user, session, set);
-        if self.0 == AddForgets {
-            step.board = *board;
+        match self.0 {
+            AddForgets => step.board = *board,
+            AddKeepsTheNumber if step.answer == DONE => {
+                let session = session as usize;
+                step.board.sessions[session].live = board.sessions[session].live;
+            }
+            _ => {}
         }
         step
     }
@@ -235,8 +242,15 @@ impl Engine for Faulty {
 
     fn close(&self, board: &Board, policy: &PackedPolicy, user: u32, session: u32) -> PackedStep {
         let mut step = Plain.close(board, policy, user, session);
-        if self.0 == CloseKeeps {
-            step.board = *board;
+        match self.0 {
+            CloseKeeps => step.board = *board,
+            OnlyOneIsOpen if step.answer == DONE && board.sessions[session as usize].live != 1 => {
+                step = PackedStep {
+                    answer: 17,
+                    board: *board,
+                };
+            }
+            _ => {}
         }
         step
     }
@@ -254,6 +268,11 @@ impl Engine for Faulty {
         match self.0 {
             RequestHeedsNu if step.answer <= GRANTED && labels.nu == 0 => step.answer = 20,
             RequestSkipsCheck20 if step.answer == 20 => step.answer = DENIED,
+            RequestTidiesTheBoard => {
+                for entry in &mut step.board.sessions {
+                    entry.live = u32::from(entry.is_open());
+                }
+            }
             _ => {}
         }
         step

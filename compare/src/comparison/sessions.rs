@@ -1,9 +1,9 @@
 //! Session calls: in lists from a fresh board, and one by one on any board.
 
 use super::known::Known;
-use super::{same, Outcome, Trial, What};
+use super::{same, Outcome, Trial};
 use crate::boundary::{
-    Board, PackedStep, DENIED, DONE, GRANTED, MOST_LABELS, OBJECT_NUMBERS, SESSIONS,
+    Board, PackedStep, Session, DENIED, DONE, GRANTED, MOST_LABELS, OBJECT_NUMBERS, SESSIONS,
 };
 use crate::damage::{board, damaged_board, odd};
 use crate::engine::{Engine, Labels};
@@ -98,7 +98,11 @@ impl Trial<'_> {
             let what = || format!("{call:?} on {map:?}: {}", known.shown());
             same(&what, &found.answer, &number(answer))?;
             same(&what, &sessions(&found.board), &after)?;
-            stays(&what, &board, &found, &call)?;
+            same(
+                &what,
+                &found.board,
+                &board_after(&board, &call, found.answer, &after),
+            )?;
             board = found.board;
             map = after;
         }
@@ -160,7 +164,11 @@ impl Trial<'_> {
         };
         same(&what, &found.answer, &due)?;
         same(&what, &sessions(&found.board), &after)?;
-        stays(&what, &board, &found, &call)
+        same(
+            &what,
+            &found.board,
+            &board_after(&board, &call, found.answer, &after),
+        )
     }
 
     /// Compiled buffers, mostly with something wrong about them.
@@ -262,20 +270,22 @@ fn fits(policy: &Policy, board: &Board) -> bool {
     })
 }
 
-/// A refusal or a request leaves the whole board, another call all but its session's entry.
-fn stays(what: What, before: &Board, found: &PackedStep, call: &Call) -> Outcome {
+/// The board due: a refusal or a request leaves it as handed in, another call all but its session's entry.
+fn board_after(before: &Board, call: &Call, answer: u32, after: &Sessions) -> Board {
     let mut due = *before;
     let session = match *call {
         Call::Open { session, .. }
         | Call::Add { session, .. }
         | Call::Drop { session, .. }
-        | Call::Close { session, .. } => session as usize,
-        Call::Request { .. } => SESSIONS,
+        | Call::Close { session, .. } => session,
+        Call::Request { .. } => return due,
     };
-    if found.answer == DONE && session < SESSIONS {
-        due.sessions[session] = found.board.sessions[session];
+    if answer == DONE {
+        let entry = after.get(&session);
+        due.sessions[session as usize] =
+            entry.map_or_else(Session::default, |&(user, held)| Session::open(user, held));
     }
-    same(what, &found.board, &due)
+    due
 }
 
 /// A call that mostly names a session of the board and its user.

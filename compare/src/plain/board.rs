@@ -20,7 +20,7 @@ fn reach(policy: &Policy, user: u32) -> Option<u32> {
 /// Check 11 on policy and board.
 fn fits(policy: &Policy, board: &Board) -> Result<(), Refusal> {
     let entry_fits = |entry: &Session| {
-        !entry.live || reach(policy, entry.user).is_some_and(|reach| entry.held & !reach == 0)
+        !entry.is_open() || reach(policy, entry.user).is_some_and(|reach| entry.held & !reach == 0)
     };
     if valid(policy) && board.sessions.iter().all(entry_fits) {
         Ok(())
@@ -39,17 +39,13 @@ pub fn open(
     fits(policy, board)?;
     let entry = entry_mut(board, session)?;
     let reach = reach(policy, user).ok_or(Refusal::UnregisteredUser)?;
-    if entry.live {
+    if entry.is_open() {
         return Err(Refusal::SessionOpen);
     }
     if set & !reach != 0 {
         return Err(Refusal::SetOutOfReach);
     }
-    *entry = Session {
-        live: true,
-        user,
-        held: set,
-    };
+    *entry = Session::open(user, set);
     Ok(())
 }
 
@@ -86,7 +82,7 @@ pub fn close(board: &mut Board, policy: &Policy, user: u32, session: u32) -> Res
     Ok(())
 }
 
-/// The entry that add and drop change, after their checks.
+/// The entry that add and drop change, after their checks; `live` is what the calls store.
 fn changed<'a>(
     board: &'a mut Board,
     policy: &Policy,
@@ -101,6 +97,7 @@ fn changed<'a>(
     if set & !reach != 0 {
         return Err(Refusal::SetOutOfReach);
     }
+    *entry = Session::open(user, entry.held);
     Ok(entry)
 }
 
@@ -113,7 +110,7 @@ fn entry_mut(board: &mut Board, session: u32) -> Result<&mut Session, Refusal> {
 
 /// Whether the session is open and the user's.
 fn belongs(entry: &Session, user: u32) -> Result<(), Refusal> {
-    if !entry.live {
+    if !entry.is_open() {
         return Err(Refusal::SessionNotOpen);
     }
     if entry.user != user {
@@ -140,7 +137,7 @@ pub fn request(
     }
     let object = set_of(&policy.objects, object).ok_or(Refusal::UnregisteredObject)?;
     let entry = &board.sessions[session as usize];
-    if !entry.live {
+    if !entry.is_open() {
         return Err(Refusal::SessionNotOpen);
     }
     let byte = looked_up(labels, entry.held, object).ok_or(Refusal::BufferTooShort)?;

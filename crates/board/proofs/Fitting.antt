@@ -4,6 +4,7 @@ use mathlib.Core.Path.{_≡_, refl, _∙_}
 use mathlib.Core.Bool.{Bool, true, false, _&&_}
 use mathlib.Core.List.{List}
 use lib.ListN.{length, getD, drop, drop-of-length-le}
+use borrow.Author.Tests.{eq-eqb, ne-eqb}
 use Rattle.basis.specs.Choice.{given}
 use Rattle.basis.specs.Lists.{all}
 use Rattle.basis.proofs.Bools.{and-left}
@@ -25,12 +26,12 @@ abbrev pub fitsIn : Policy → Session → Bool
 fitsIn p x = given (entryOf x) true (entryFits p)
 
 module _ (p : Policy) (x : Session) where
-  pub fits-closed : x .live ≡ false → true ≡ fitsIn p x
-  fits-closed l = rw l
+  pub fits-closed : x .live ≡ 0 → true ≡ fitsIn p x
+  fits-closed l = rw (eq-eqb (x .live) 0 l)
 
-  pub fits-live : (side : SideValue) → p .user ≡ sideOf side → (f : Found) → FoundAs (setOfNumber (p .users) (x .user)) f → x .live ≡ true
+  pub fits-live : (side : SideValue) → p .user ≡ sideOf side → (f : Found) → FoundAs (setOfNumber (p .users) (x .user)) f → (x .live ≡ 0 → ⊥)
       → (t : Bool) → t ≡ (f .registered && within (x .held) (reachIn side (f .set))) → t ≡ fitsIn p x
-  fits-live side es f q l t e = rw l (e ∙ covers-user p side es (x .user) f q (x .held))
+  fits-live side es f q l t e = rw (ne-eqb (x .live) 0 l) (e ∙ covers-user p side es (x .user) f q (x .held))
 
 -- ---- the entries from place i on
 

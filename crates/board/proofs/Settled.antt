@@ -5,6 +5,7 @@ use mathlib.Core.Bool.{Bool, true, false, not, cond}
 use mathlib.Core.Option.{Option, none, some}
 use native.Mathlib.Omega.{arith}
 use borrow.Author.Tests.{not-true, not-false}
+use lib.Dec.{eqb}
 use lib.ListN.{getD, set}
 use Rattle.basis.specs.Choice.{given, there, lowest}
 use Rattle.basis.proofs.Choice.{unbroken}
@@ -58,12 +59,12 @@ module _ (v : PolicyValue) (c : Call) (b : Board) (r : Option ℕ) (h : r ≡ lo
 
 -- ---- the session's next entry
 
-pub live-of : (x : Session) → there (entryOf x) ≡ true → x .live ≡ true
-live-of x e = go (x .live) e
+pub live-of : (x : Session) → there (entryOf x) ≡ true → eqb (x .live) 0 ≡ false
+live-of x e = go (eqb (x .live) 0) e
   where
-    go : (t : Bool) → there (cond {A = Option Entry} t (some (record { user = x .user; held = x .held })) none) ≡ true → t ≡ true
-    go true f = refl
-    go false f = cc
+    go : (t : Bool) → there (cond {A = Option Entry} t none (some (record { user = x .user; held = x .held }))) ≡ true → t ≡ false
+    go true f = cc
+    go false f = refl
 
 -- add or drop: the session is open, or the call is refused
 module _ (v : PolicyValue) (b : Board) (u s set : ℕ) (x : Session) (hx : x ≡ getD (b .sessions) s closed) where
@@ -71,13 +72,13 @@ module _ (v : PolicyValue) (b : Board) (u s set : ℕ) (x : Session) (hx : x ≡
   unfolding entryAt
   at-entry = ap entryOf hx
 
-  live-add : lower v (adds u s set) b ≡ none → x .live ≡ true
+  live-add : lower v (adds u s set) b ≡ none → eqb (x .live) 0 ≡ false
   unfolding checks
   live-add e =
       live-of x
       (rw at-entry (not-false (there (entryAt b s)) (unbroken (checks (policyOf v) (adds u s set) (entryAt b s)) (lower-none v (adds u s set) b e) .1 .1 .0)))
 
-  live-drop : lower v (drops u s set) b ≡ none → x .live ≡ true
+  live-drop : lower v (drops u s set) b ≡ none → eqb (x .live) 0 ≡ false
   unfolding checks
   live-drop e =
       live-of x
@@ -85,7 +86,7 @@ module _ (v : PolicyValue) (b : Board) (u s set : ℕ) (x : Session) (hx : x ≡
 
 module _ (l : Labels) (v : PolicyValue) (b : Board) (u s : ℕ) (r : Option ℕ) where
   pub opened : (set : ℕ) → r ≡ lower v (opens u s set) b
-      → settled b s r (record { live = true; user = u; held = set }) ≡ boardStep v l (opens u s set) b
+      → settled b s r (record { live = 1; user = u; held = set }) ≡ boardStep v l (opens u s set) b
   unfolding allowed lookUp boardReply boardAfter entryAfter lowest
   opened set h = settled-step v (opens u s set) b r h l refl _ (λ e. refl)
 
@@ -95,14 +96,14 @@ module _ (l : Labels) (v : PolicyValue) (b : Board) (u s : ℕ) (r : Option ℕ)
 
   module _ (set : ℕ) (x : Session) (hx : x ≡ getD (b .sessions) s closed) (held : ℕ) where
     pub added : r ≡ lower v (adds u s set) b → held ≡ union (x .held) set
-        → settled b s r (record { live = true; user = x .user; held = held }) ≡ boardStep v l (adds u s set) b
+        → settled b s r (record { live = 1; user = x .user; held = held }) ≡ boardStep v l (adds u s set) b
     unfolding allowed lookUp boardReply boardAfter entryAfter lowest
     added h e =
         settled-step v (adds u s set) b r h l refl _
         (λ q. rw (← at-entry v b u s set x hx, live-add v b u s set x hx (sym h ∙ q), e))
 
     pub dropped : r ≡ lower v (drops u s set) b → held ≡ minus (x .held) set
-        → settled b s r (record { live = true; user = x .user; held = held }) ≡ boardStep v l (drops u s set) b
+        → settled b s r (record { live = 1; user = x .user; held = held }) ≡ boardStep v l (drops u s set) b
     unfolding allowed lookUp boardReply boardAfter entryAfter lowest
     dropped h e =
         settled-step v (drops u s set) b r h l refl _

@@ -34,18 +34,18 @@ module _ (p : Policy) (u s : ℕ) (x : Session) where
     close-unregistered r = rw (lt-leb sessionNumbers s n, sym h ∙ not-true g r)
 
     module _ (r : not g ≡ false) where
-      pub close-closed : not (x .live) ≡ true → some 17 ≡ lowest (checks p (closes u s) (entryOf x))
+      pub close-closed : x .live ≡ 0 → some 17 ≡ lowest (checks p (closes u s) (entryOf x))
       unfolding checks lowest
-      close-closed l = rw (lt-leb sessionNumbers s n, sym h ∙ not-false g r, not-true (x .live) l)
+      close-closed l = rw (lt-leb sessionNumbers s n, sym h ∙ not-false g r, eq-eqb (x .live) 0 l)
 
-      module _ (l : not (x .live) ≡ false) where
+      module _ (l : x .live ≡ 0 → ⊥) where
         pub close-other : (x .user ≡ u → ⊥) → some 18 ≡ lowest (checks p (closes u s) (entryOf x))
         unfolding checks lowest
-        close-other o = rw (lt-leb sessionNumbers s n, sym h ∙ not-false g r, not-false (x .live) l, ne-eqb (x .user) u o)
+        close-other o = rw (lt-leb sessionNumbers s n, sym h ∙ not-false g r, ne-eqb (x .live) 0 l, ne-eqb (x .user) u o)
 
         pub close-allowed : x .user ≡ u → none ≡ lowest (checks p (closes u s) (entryOf x))
         unfolding checks lowest
-        close-allowed o = rw (lt-leb sessionNumbers s n, sym h ∙ not-false g r, not-false (x .live) l, eq-eqb (x .user) u o)
+        close-allowed o = rw (lt-leb sessionNumbers s n, sym h ∙ not-false g r, ne-eqb (x .live) 0 l, eq-eqb (x .user) u o)
 
 -- ---- open
 
@@ -60,20 +60,20 @@ module _ (p : Policy) (u s set : ℕ) (x : Session) where
     open-unregistered r = rw (lt-leb sessionNumbers s n, sym (h .registered) ∙ not-true (f .registered) r)
 
     module _ (r : not (f .registered) ≡ false) where
-      pub open-open : x .live ≡ true → some 16 ≡ lowest (checks p (opens u s set) (entryOf x))
+      pub open-open : (x .live ≡ 0 → ⊥) → some 16 ≡ lowest (checks p (opens u s set) (entryOf x))
       unfolding checks lowest
-      open-open l = rw (lt-leb sessionNumbers s n, sym (h .registered) ∙ not-false (f .registered) r, l)
+      open-open l = rw (lt-leb sessionNumbers s n, sym (h .registered) ∙ not-false (f .registered) r, ne-eqb (x .live) 0 l)
 
-      module _ (l : x .live ≡ false) (t : Bool) (w : t ≡ within set (f .set)) where
+      module _ (l : x .live ≡ 0) (t : Bool) (w : t ≡ within set (f .set)) where
         pub open-allowed : t ≡ true → none ≡ lowest (checks p (opens u s set) (entryOf x))
         unfolding checks lowest
         open-allowed e =
-            rw (lt-leb sessionNumbers s n, sym (h .registered) ∙ not-false (f .registered) r, l, ← h .set, sym w ∙ e)
+            rw (lt-leb sessionNumbers s n, sym (h .registered) ∙ not-false (f .registered) r, eq-eqb (x .live) 0 l, ← h .set, sym w ∙ e)
 
         pub open-outside : t ≡ false → some 19 ≡ lowest (checks p (opens u s set) (entryOf x))
         unfolding checks lowest
         open-outside e =
-            rw (lt-leb sessionNumbers s n, sym (h .registered) ∙ not-false (f .registered) r, l, ← h .set, sym w ∙ e)
+            rw (lt-leb sessionNumbers s n, sym (h .registered) ∙ not-false (f .registered) r, eq-eqb (x .live) 0 l, ← h .set, sym w ∙ e)
 
 -- ---- add and drop: the checks of close, then 19
 
@@ -117,10 +117,10 @@ module _ (p : Policy) (s a n : ℕ) (x : Session) (k : ℕ) (hk : k ≡ actions 
       request-unregistered r = rw (known, lt-leb sessionNumbers s m, sym (hf .registered) ∙ not-true (f .registered) r)
 
       module _ (r : not (f .registered) ≡ false) where
-        pub request-open : x .live ≡ true → gives (at (x .held) (f .set)) ≡ asked p s a n (entryOf x)
+        pub request-open : (x .live ≡ 0 → ⊥) → gives (at (x .held) (f .set)) ≡ asked p s a n (entryOf x)
         unfolding asked checks lowest objectSet
-        request-open l = rw (known, lt-leb sessionNumbers s m, sym (hf .registered) ∙ not-false (f .registered) r, l, hf .set)
+        request-open l = rw (known, lt-leb sessionNumbers s m, sym (hf .registered) ∙ not-false (f .registered) r, ne-eqb (x .live) 0 l, hf .set)
 
-        pub request-closed : x .live ≡ false → refuses 17 ≡ asked p s a n (entryOf x)
+        pub request-closed : x .live ≡ 0 → refuses 17 ≡ asked p s a n (entryOf x)
         unfolding asked checks lowest
-        request-closed l = rw (known, lt-leb sessionNumbers s m, sym (hf .registered) ∙ not-false (f .registered) r, l)
+        request-closed l = rw (known, lt-leb sessionNumbers s m, sym (hf .registered) ∙ not-false (f .registered) r, eq-eqb (x .live) 0 l)

@@ -3,7 +3,7 @@ use Prim.Native.Nat.{ℕ, _+_, _*_}
 use mathlib.Core.Bool.{Bool, true, false, cond, not, _&&_, _||_}
 use mathlib.Core.List.{List, [], _∷_, _++_}
 use mathlib.Core.Option.{Option, none, some}
-use lib.Dec.{leb}
+use lib.Dec.{eqb, leb}
 use lib.ListN.{length, getD, set, replicate}
 use Rattle.basis.specs.Choice.{given, there, Check, check, lowest}
 use Rattle.basis.specs.Lists.{all}
@@ -46,14 +46,16 @@ outOf r = record { reply = replyOf (r .answer); state = r .board }
 -- ---- the sessions that a board holds
 
 abbrev pub closed : Session
-closed = record { live = false; user = 0; held = 0 }
+closed = record { live = 0; user = 0; held = 0 }
 
+-- document 01 calls a live session open: 0 is closed, any other number open
 abbrev pub entryOf : Session → Option Entry
-entryOf x = cond (x .live) (some (entry (x .user) (x .held))) none
+entryOf x = cond (eqb (x .live) 0) none (some (entry (x .user) (x .held)))
 
+-- what a call stores
 abbrev pub sessionFor : Option Entry → Session
 sessionFor none = closed
-sessionFor (some e) = record { live = true; user = e .user; held = e .held }
+sessionFor (some e) = record { live = 1; user = e .user; held = e .held }
 
 unfoldable pub entryAt : Board → ℕ → Option Entry
 entryAt b s = entryOf (getD (b .sessions) s closed)

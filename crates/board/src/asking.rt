@@ -35,7 +35,7 @@ fn judge(actions: u32, entry: Session, found: Found, session: u32, action: u32) 
     if !found.registered {
         return Asked::Refused(Refusal::UnregisteredObject);
     }
-    if entry.live {
+    if entry.live != 0 {
         Asked::Of(entry.held, found.set)
     } else {
         Asked::Refused(Refusal::SessionNotOpen)

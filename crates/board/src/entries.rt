@@ -11,7 +11,7 @@ pub fn closed() -> Session
     ensures { λ r. ⌜ r ≡ closed ⌝ }
 {
     Session {
-        live: false,
+        live: 0,
         user: 0,
         held: 0,
     }

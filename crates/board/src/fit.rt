@@ -22,7 +22,7 @@ fn entry_fits(found: Found, side: SideValue, entry: Session) -> bool
     requires { ⌜ Rising side × (found .set < policy.sets (sideOf side)) ⌝ }
     ensures { λ r. ⌜ ((p : policy.Policy) → p .user ≡ sideOf side → FoundAs (policy.setOfNumber (p .users) (entry .user)) found → r ≡ given (entryOf entry) true (entryFits p)) ⌝ }
 {
-    if entry.live {
+    if entry.live != 0 {
         reach::covers(found, side, entry.held)
     } else {
         true

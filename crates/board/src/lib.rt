@@ -24,10 +24,11 @@ use policy::value::PolicyValue;
 // A board has a place for each session number.
 const SESSION_PLACES: usize = SESSION_NUMBERS as usize;
 
-// The entry of a session number: while it is live, which document 01 calls open, its user and the set it holds.
+// The entry of a session number: while it is live, which document 01 calls open, its user and the set it holds. It is
+// live at every number but 0; the calls store 1.
 #[repr(C)]
 pub struct Session {
-    pub live: bool,
+    pub live: u32,
     pub user: u32,
     pub held: u32,
 }
@@ -96,7 +97,7 @@ pub fn open(board: Board, policy: PolicyValue, user: u32, session: u32, set: u32
     let reach = reach::of(users, side, user);
     let ruling = rulings::of_open(entry, reach, session, set);
     let next = Session {
-        live: true,
+        live: 1,
         user: user,
         held: set,
     };
@@ -118,7 +119,7 @@ pub fn add(board: Board, policy: PolicyValue, user: u32, session: u32, set: u32)
     let ruling = rulings::of_add(entry, reach, user, session, set);
     let held = sets::union(entry.held, set);
     let next = Session {
-        live: true,
+        live: 1,
         user: entry.user,
         held: held,
     };
@@ -140,7 +141,7 @@ pub fn drop(board: Board, policy: PolicyValue, user: u32, session: u32, set: u32
     let ruling = rulings::of_drop(entry, reach, user, session, set);
     let held = sets::minus(entry.held, set);
     let next = Session {
-        live: true,
+        live: 1,
         user: entry.user,
         held: held,
     };

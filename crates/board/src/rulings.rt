@@ -27,7 +27,7 @@ pub fn of_open(entry: Session, reach: Found, session: u32, set: u32) -> Ruling
     if !reach.registered {
         return Ruling::Refused(Refusal::UnregisteredUser);
     }
-    if entry.live {
+    if entry.live != 0 {
         return Ruling::Refused(Refusal::SessionOpen);
     }
     if sets::within(set, reach.set) {
@@ -47,7 +47,7 @@ pub fn of_close(entry: Session, registered: bool, user: u32, session: u32) -> Ru
     if !registered {
         return Ruling::Refused(Refusal::UnregisteredUser);
     }
-    if !entry.live {
+    if entry.live == 0 {
         return Ruling::Refused(Refusal::SessionNotOpen);
     }
     if entry.user == user {

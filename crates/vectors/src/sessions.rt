@@ -44,7 +44,7 @@ fn unlike(board: Board, due: &[u32]) -> usize {
     let mut i = 0;
     while i < SESSIONS {
         let session = sessions[i];
-        if session.live {
+        if session.live != 0 {
             if !stands(due, k, i, session) {
                 return i + 1;
             }

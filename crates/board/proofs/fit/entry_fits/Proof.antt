@@ -8,12 +8,10 @@ covers-requires : tie.Need-covers-requires
 covers-requires c κs = search needs
 
 returns : tie.Need-returns
-returns c p es q =
-    let a = c .before .before .args in
-    fits-live p (a .entry) (a .side) es (a .found) q (c .before .if1 .taken) (c .covers .result) (c .covers .ensures)
+returns c = search fits-live
 
 returns-2 : tie.Need-returns-2
-returns-2 c p es q = fits-closed p (c .before .args .entry) (c .if1 .left)
+returns-2 c = search fits-closed
 
 pub entry-fits-spec : {M : Type 1} → statement M
 entry-fits-spec = tie.close (tie.spec covers-requires returns returns-2)
