@@ -1,7 +1,7 @@
--- Laws of `first`, `count`, `select` and `upTo`, and the number at which `every` fails, by induction on the bound.
+-- Laws of `first`, `count`, `select` and `upTo`, by induction on the bound.
 use Prim.Native.Nat.{ℕ, zero, suc, _+_, _≤_, _<_, zero-le}
 use mathlib.Core.Path.{_≡_, refl, sym, ap, _∙_}
-use mathlib.Core.Bool.{Bool, true, false, cond, _&&_, true≢false}
+use mathlib.Core.Bool.{Bool, true, false, cond, true≢false}
 use mathlib.Core.Logic.{_↔_, ⊎-elim}
 use mathlib.Core.List.{[], _∷_, _++_, append-nil, List·Memᴰ, List·Memᴰ·head, List·Memᴰ·not-nil, List·Memᴰ·append-cases, List·Memᴰ·eq-of-singleton, Memᴰ·append-left, Memᴰ·append-right}
 use native.Mathlib.Nat.{le-refl, le-of-suc-le-suc, not-suc-le-zero, eq-or-lt-of-le, add-zero, add-suc}
@@ -10,7 +10,7 @@ use native.Mathlib.Decide.{le-ind}
 use native.Mathlib.Omega.{arith}
 use lib.ListN.{length, getD, length-append, List·getD-append}
 use lib.Seq.{getD-at}
-use Rattle.basis.specs.Numbers.{every, first, count, select, upTo}
+use Rattle.basis.specs.Numbers.{first, count, select, upTo}
 use Rattle.basis.proofs.Bools.{never}
 
 -- ---- first
@@ -170,20 +170,6 @@ unfolding upTo
 getD-upTo f zero i d h = absurd (not-suc-le-zero h)
 getD-upTo f (suc n) zero d h = refl
 getD-upTo f (suc n) (suc i) d h = getD-upTo (λ k. f (suc k)) n i d (le-of-suc-le-suc h)
-
--- ---- every
-
-every-fails-at : (f : ℕ → Bool) (n : ℕ) (a b : Bool) → f n ≡ b → (a ≡ false → (k : ℕ) × (k < n) × (f k ≡ false)) → (a && b) ≡ false
-    → (k : ℕ) × (k < suc n) × (f k ≡ false)
-every-fails-at f n a false e ih h = (n, omega arith, e)
-every-fails-at f n true true e ih h = absurd (true≢false h)
-every-fails-at f n false true e ih h = let t = ih refl in (t .0, omega (arith, t .1), t .2)
-
--- a test that does not pass everywhere fails somewhere
-pub every-fails : (f : ℕ → Bool) (n : ℕ) → every f n ≡ false → (k : ℕ) × (k < n) × (f k ≡ false)
-unfolding every
-every-fails f zero h = absurd (true≢false h)
-every-fails f (suc n) h = every-fails-at f n (every f n) (f n) refl (every-fails f n) h
 
 -- ---- tests that agree, and blocks of numbers
 

@@ -1,19 +1,13 @@
 -- Demand 1, call by call: each goes by the lowest broken check of its list.
 use Prim.Native.Nat.{ℕ}
 use mathlib.Core.Path.{_≡_, refl, ap}
-use mathlib.Core.Bool.{false, false≢true}
 use mathlib.Core.List.{[], _∷_, map}
 use mathlib.Core.Option.{Option, none, some}
 use native.Mathlib.Omega.{arith}
-use Rattle.basis.proofs.Bools.{fails}
-use Rattle.policy.specs.Policy.{blank}
-use Rattle.policy.specs.Value.{valueOf}
-use Rattle.policy.specs.Valid.{valid}
 use Rattle.policy.specs.Write.{write, writeBuffer, writeChecks}
 use Rattle.policy.specs.Answers.{numberOf, valueIn}
 use Rattle.policy.specs.declared.value.PolicyValue.{PolicyValue}
-use Rattle.policy.proofs.Values.{policy-value}
-use Rattle.policy.proofs.Valid.{valid-whole}
+use Rattle.policy.proofs.Valid.{blank-refused}
 use Rattle.formula.specs.Decide as byFormula
 use Rattle.tuples.specs.Tuples as byTuples
 use Rattle.labels.specs.Compile.{compile, compileBuffers, compileChecks}
@@ -28,16 +22,6 @@ use Rattle.claims.specs.Answers.{Answers}
 use Rattle.claims.specs.Demand1.{ApartResult, ApartRefuses, refusalsOf, Calls, Claim}
 use Rattle.claims.proofs.Answers.{answers, none-given, some-given}
 use Rattle.claims.proofs.Reading.{because}
-
--- ---- "A refused read yields no policy"
-
--- the blank policy is of no form
-pub blank-refused : valid (valueOf blank) ≡ false
-unfolding blank
-blank-refused =
-    fails (valid (valueOf blank)) (λ e.
-    let w = valid-whole (valueOf blank) e .form in
-    false≢true (rw (policy-value blank) at w))
 
 -- ---- Apart
 

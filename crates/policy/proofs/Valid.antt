@@ -2,11 +2,11 @@
 -- policy.
 use Prim.Native.Nat.{ℕ}
 use mathlib.Core.Path.{_≡_, refl, sym, ap, _∙_}
-use mathlib.Core.Bool.{true, _&&_, false≢true}
+use mathlib.Core.Bool.{true, false, _&&_, false≢true}
 use mathlib.Core.List.{List}
 use mathlib.Core.Logic.{_↔_}
-use Rattle.basis.proofs.Bools.{and-left, and-right, and-both, both-ways}
-use Rattle.policy.specs.Policy.{Policy}
+use Rattle.basis.proofs.Bools.{fails, and-left, and-right, and-both, both-ways}
+use Rattle.policy.specs.Policy.{Policy, blank}
 use Rattle.policy.specs.Read.{Outcome, Accepted, Refused, readText}
 use Rattle.policy.specs.Text.{textOf}
 use Rattle.policy.specs.Value.{valueOf, policyOf}
@@ -50,6 +50,11 @@ valid-whole v e = whole (policyOf v) (valid-stored v e .1)
 
 pub valid-parts : (v : PolicyValue) → valid v ≡ true → Parts (policyOf v)
 valid-parts v e = parts (policyOf v) (valid-whole v e .lists)
+
+-- the blank value, which stands beside a refused text, is none: it has no form
+pub blank-refused : valid (valueOf blank) ≡ false
+unfolding blank
+blank-refused = fails (valid (valueOf blank)) (λ e. false≢true (rw (policy-value blank) at (valid-whole (valueOf blank) e .form)))
 
 pub sound-valid : (p : Policy) → sound p ≡ true → valid (valueOf p) ≡ true
 sound-valid p e = yielded-valid (textOf p) p (sound-read p e)
