@@ -1,14 +1,15 @@
 /*
  * Helvemoik: label policies on a comment screen, for C.
  *
- * Link libembed.a, which `rt staticlib embed` writes to target/staticlib. See docs/EMBEDDING.md for what a caller must
- * keep to: nothing checks this header against the library's source.
+ * Link libembed.a, which `rt staticlib embed` writes to target/staticlib. layout.c and limits.c hold this header
+ * against it. docs/EMBEDDING.md has the rest.
  *
- * Everything goes by value or in lent buffers. There is no heap and no global state. No call has a precondition on its
- * numbers: whatever is handed in gets its result or one refusal.
+ * Everything goes by value or in lent buffers. There is no heap and no global state. A lent buffer is a pointer, which
+ * is not NULL even where the length is 0, and then a length, counted in elements. No call has a precondition but that
+ * these are true and that a buffer which the call writes overlaps no other of its buffers: every value of every number
+ * and field gets its result or one refusal.
  *
- * A lent buffer is a pointer, which is not NULL even where the length is 0, and then a length, counted in elements. The
- * buffers of one call do not overlap.
+ * Structs have padding, which is not read: compare policies field by field, or by what helvemoik_write writes for them.
  */
 #ifndef HELVEMOIK_H
 #define HELVEMOIK_H
@@ -29,6 +30,7 @@ enum {
     HELVEMOIK_MOST_VALUES = 7,    /* values of a side */
     HELVEMOIK_MOST_ACTIONS = 8,
     HELVEMOIK_MOST_WORDS = 32,    /* words of a formula */
+    HELVEMOIK_USER_NUMBERS = 32,
     HELVEMOIK_OBJECT_NUMBERS = 64,
     HELVEMOIK_SESSIONS = 32       /* session numbers */
 };
@@ -192,9 +194,10 @@ struct helvemoik_step {
     struct helvemoik_board board;
 };
 
-/* The library is for x86-64. A compiler that lays the structs out otherwise refuses this line. */
+/* The library is for x86-64. A compiler that lays out otherwise what a call takes or gives refuses this line. */
 typedef char helvemoik_layout[sizeof(struct helvemoik_policy) == 2640 && sizeof(struct helvemoik_board) == 384
-                              && sizeof(struct helvemoik_reading) == 2656
+                              && sizeof(struct helvemoik_reading) == 2656 && sizeof(struct helvemoik_counted) == 16
+                              && sizeof(struct helvemoik_counts) == 12 && sizeof(struct helvemoik_separation) == 12
                               && sizeof(struct helvemoik_step) == 388 ? 1 : -1];
 
 /* ---- calls on a policy */

@@ -1,0 +1,136 @@
+/*
+ * Holds the names of helvemoik.h for numbers against the archive: each limit is met and then passed by one, and each
+ * refusal and answer is got by a call of its own. Prints faults, and fails if there are any.
+ */
+#include <string.h>
+
+#include "expect.h"
+#include "helvemoik.h"
+
+static uint8_t text[HELVEMOIK_TEXT_BYTES + 2];
+static uint8_t users[HELVEMOIK_MOST_LABELS], objects[HELVEMOIK_MOST_LABELS], table[HELVEMOIK_MOST_TABLE];
+static uint16_t tuples[HELVEMOIK_MOST_TUPLES];
+
+static uint32_t refusal_of(const char *bytes) {
+    return helvemoik_read((const uint8_t *)bytes, strlen(bytes)).refusal;
+}
+
+static struct helvemoik_policy policy_of(const char *bytes) {
+    struct helvemoik_reading reading = helvemoik_read((const uint8_t *)bytes, strlen(bytes));
+    expect(reading.refusal == 0, "a text is refused", reading.refusal);
+    return reading.policy;
+}
+
+/* ---- limits of a text */
+
+/* The number is read in this text, and the next one is out of range. */
+static void hold_greatest(const char *format, int greatest) {
+    char bytes[128];
+    snprintf(bytes, sizeof bytes, format, greatest);
+    expect(refusal_of(bytes) == 0, "a limit is not met", (size_t)greatest);
+    snprintf(bytes, sizeof bytes, format, greatest + 1);
+    expect(refusal_of(bytes) == HELVEMOIK_OUT_OF_RANGE, "a limit is passed", (size_t)greatest);
+}
+
+static void hold_text_bytes(void) {
+    memset(text, 'p', sizeof text);
+    expect(helvemoik_read(text, HELVEMOIK_TEXT_BYTES).refusal == HELVEMOIK_LINE_FEED_MISSING, "text bytes", 0);
+    expect(helvemoik_read(text, HELVEMOIK_TEXT_BYTES + 1).refusal == HELVEMOIK_TEXT_TOO_LONG, "text bytes", 1);
+}
+
+/* A truth value, negated until there are so many words. */
+static void hold_words(void) {
+    char bytes[256] = "policy,1\nuattr,1\noattr,1\nrule,0,t";
+    for (int i = 1; i < HELVEMOIK_MOST_WORDS; i++)
+        strcat(bytes, ",n");
+    char *last = bytes + strlen(bytes);
+    strcpy(last, "\nend\n");
+    expect(refusal_of(bytes) == 0, "words", HELVEMOIK_MOST_WORDS);
+    strcpy(last, ",n\nend\n");
+    expect(refusal_of(bytes) == HELVEMOIK_WRONG_FIELD_COUNT, "words", HELVEMOIK_MOST_WORDS + 1);
+}
+
+/* ---- limits of a result */
+
+static uint32_t compiled(struct helvemoik_policy policy, size_t u, size_t o, size_t t) {
+    return helvemoik_compile(policy, users, u, objects, o, table, t).refusal;
+}
+
+/* No two sets alike, and an action that is granted always: no policy has more labels or tuples. */
+static void hold_results(void) {
+    struct helvemoik_policy policy = policy_of(
+        "policy,1\nuattr,7\noattr,7\nrule,0,u0,o0,a\nrule,1,u1,o1,a\nrule,2,u2,o2,a\nrule,3,u3,o3,a\n"
+        "rule,4,u4,o4,a\nrule,5,u5,o5,a\nrule,6,u6,o6,a\nrule,7,t\nend\n");
+    const size_t labels = HELVEMOIK_MOST_LABELS, places = HELVEMOIK_MOST_TABLE, most = HELVEMOIK_MOST_TUPLES;
+    expect(compiled(policy, labels, labels, places) == 0, "labels", labels);
+    expect(compiled(policy, labels - 1, labels, places) == HELVEMOIK_BUFFER_TOO_SHORT, "user labels", labels - 1);
+    expect(compiled(policy, labels, labels - 1, places) == HELVEMOIK_BUFFER_TOO_SHORT, "object labels", labels - 1);
+    expect(compiled(policy, labels, labels, places - 1) == HELVEMOIK_BUFFER_TOO_SHORT, "table", places - 1);
+    expect(helvemoik_list(policy, 7, tuples, most).count == most, "tuples", most);
+    expect(helvemoik_list(policy, 7, tuples, most - 1).refusal == HELVEMOIK_BUFFER_TOO_SHORT, "tuples", most - 1);
+}
+
+/* ---- refusals and answers, by the smallest text or call that gets each */
+
+static void hold_reading_refusals(void) {
+    static const struct { const char *text; uint32_t refusal; } cases[] = {
+        { "policy,1", HELVEMOIK_LINE_FEED_MISSING },
+        { "end\n", HELVEMOIK_KIND_NOT_ALLOWED },
+        { "policy,1,1\n", HELVEMOIK_WRONG_FIELD_COUNT },
+        { "policy,01\n", HELVEMOIK_MALFORMED_FIELD },
+        { "policy,1\nuattr,0\n", HELVEMOIK_OUT_OF_RANGE },
+        { "policy,1\nuattr,1\noattr,1\nuser,1,0\nuser,1,0\n", HELVEMOIK_NOT_RISING },
+        { "policy,1\nuattr,1\noattr,2\nrule,0,d00\n", HELVEMOIK_UNEQUAL_WIDTHS },
+        { "policy,1\nuattr,1\noattr,2\nrule,0,n\n", HELVEMOIK_UNBALANCED_FORMULA },
+        { "", HELVEMOIK_END_MISSING },
+    };
+    for (size_t i = 0; i < sizeof cases / sizeof *cases; i++)
+        expect(refusal_of(cases[i].text) == cases[i].refusal, "refusal of reading", cases[i].refusal);
+}
+
+static void answers(uint32_t answer, uint32_t due) {
+    expect(answer == due, "answer", due);
+}
+
+static void hold_answers(void) {
+    struct helvemoik_policy policy = policy_of(
+        "policy,1\nuattr,2\noattr,1\nuser,0,1\nuser,1,1\nobject,0,1\nrule,0,u0\nend\n");
+    struct helvemoik_policy invalid = policy;
+    struct helvemoik_board none = helvemoik_fresh();
+    struct helvemoik_step opened = helvemoik_open(none, policy, 0, HELVEMOIK_SESSIONS - 1, 1);
+    struct helvemoik_board one = opened.board;
+    const uint32_t last = HELVEMOIK_SESSIONS - 1;
+    invalid.form = 0;
+    answers(opened.answer, HELVEMOIK_DONE);
+    answers(helvemoik_decide(policy, 0, 0, 0), HELVEMOIK_DENIED);
+    answers(helvemoik_decide(policy, 0, 1, 0), HELVEMOIK_GRANTED);
+    answers(helvemoik_apart(policy, 1, 3).answer, HELVEMOIK_ALIKE);
+    answers(helvemoik_apart(policy, 0, 1).answer, HELVEMOIK_APART);
+    answers(helvemoik_decide(invalid, 0, 0, 0), HELVEMOIK_INVALID_STATE);
+    answers(helvemoik_decide(policy, HELVEMOIK_MOST_ACTIONS - 1, 0, 0), HELVEMOIK_DENIED);
+    answers(helvemoik_decide(policy, HELVEMOIK_MOST_ACTIONS, 0, 0), HELVEMOIK_UNKNOWN_ACTION);
+    answers(helvemoik_open(none, policy, 0, HELVEMOIK_SESSIONS, 1).answer, HELVEMOIK_UNKNOWN_SESSION);
+    answers(helvemoik_open(none, policy, 2, 0, 1).answer, HELVEMOIK_UNREGISTERED_USER);
+    answers(helvemoik_request(one, policy, 1, 1, users, 0, objects, 0, table, 0, last, 0, 1).answer,
+            HELVEMOIK_UNREGISTERED_OBJECT);
+    answers(helvemoik_open(one, policy, 1, last, 1).answer, HELVEMOIK_SESSION_OPEN);
+    answers(helvemoik_close(none, policy, 0, last).answer, HELVEMOIK_SESSION_NOT_OPEN);
+    answers(helvemoik_close(one, policy, 1, last).answer, HELVEMOIK_SESSION_OF_ANOTHER);
+    answers(helvemoik_open(none, policy, 0, 0, 2).answer, HELVEMOIK_SET_OUT_OF_REACH);
+    answers(helvemoik_request(one, policy, 1, 1, users, 0, objects, 0, table, 0, last, 0, 0).answer,
+            HELVEMOIK_BUFFER_TOO_SHORT);
+}
+
+int main(void) {
+    hold_text_bytes();
+    hold_greatest("policy,1\nuattr,%d\noattr,1\nend\n", HELVEMOIK_MOST_VALUES);
+    hold_greatest("policy,1\nuattr,1\noattr,%d\nend\n", HELVEMOIK_MOST_VALUES);
+    hold_greatest("policy,1\nuattr,1\noattr,1\nuser,%d,0\nend\n", HELVEMOIK_USER_NUMBERS - 1);
+    hold_greatest("policy,1\nuattr,1\noattr,1\nobject,%d,0\nend\n", HELVEMOIK_OBJECT_NUMBERS - 1);
+    hold_greatest("policy,1\nuattr,1\noattr,1\nrule,%d,t\nend\n", HELVEMOIK_MOST_ACTIONS - 1);
+    hold_words();
+    hold_results();
+    hold_reading_refusals();
+    hold_answers();
+    return verdict("limits");
+}

@@ -1,0 +1,62 @@
+#!/bin/sh
+# Shows that layout.c and limits.c find a wrong header: every two fields of a struct in each other's place, every number
+# field of the other width, and every named number one higher. Each time the header's own line on sizes stops the
+# compiler, or the program finds faults. One wrong width cannot be told: counted.refusal comes back in a register whose
+# other half is padding.
+set -eu
+cd "$(dirname "$0")/.."
+header=embedding/helvemoik.h
+wrong=target/embedding/wrong
+mkdir -p "$wrong"
+cp embedding/layout.c embedding/limits.c embedding/expect.h "$wrong"
+stopped=0
+found=0
+
+# must_find PROGRAM.. WHAT: the wrong header that is in place does not pass one of the programs.
+must_find() {
+  if cmp -s "$header" "$wrong/helvemoik.h"; then
+    echo "the header is as it was" >&2
+    exit 1
+  fi
+  while [ $# -gt 1 ]; do
+    if ! gcc -std=c99 -O0 -w "$wrong/$1.c" target/staticlib/libembed.a -o "$wrong/$1" 2>"$wrong/errors"; then
+      grep -q helvemoik_layout "$wrong/errors" && stopped=$((stopped + 1)) && return
+      cat "$wrong/errors" >&2
+      exit 1
+    fi
+    "$wrong/$1" >"$wrong/faults" || { found=$((found + 1)) && return; }
+    shift
+  done
+  echo "not found: $1" >&2
+  exit 1
+}
+
+# The fields of all structs and the named numbers: each one's line, and its struct or "enum".
+awk '/^(struct helvemoik_[a-z]*|enum) \{$/ { name = $1 == "enum" ? "enum" : $2; next } /^};/ { name = "" }
+  name == "enum" && / = / { print NR, name } name && name != "enum" && /;$/ { print NR, name }' \
+  "$header" >"$wrong/lines"
+
+while read -r one struct; do
+  if [ "$struct" = enum ]; then
+    sed "${one}s/ = \([^,]*[^, ]\)/ = (\1) + 1/" "$header" >"$wrong/helvemoik.h"
+    must_find limits layout "line $one is one higher"
+    continue
+  fi
+  while read -r other same; do
+    if [ "$same" = "$struct" ] && [ "$one" -lt "$other" ]; then
+      sed -n "${other}p" "$header" >"$wrong/line"
+      sed -e "${one}{r $wrong/line
+d}" "$header" | sed -e "${other}s/.*/$(sed -n "${one}p" "$header")/" >"$wrong/helvemoik.h"
+      must_find layout "lines $one and $other are swapped"
+    fi
+  done <"$wrong/lines"
+  field=$(sed -n "${one}p" "$header")
+  case "$struct $field" in
+    *" struct "* | "helvemoik_counted     uint32_t refusal;") ;;
+    *)
+      sed "${one}s/uint32_t/uint64_t/;${one}s/size_t/uint32_t/" "$header" >"$wrong/helvemoik.h"
+      must_find layout "line $one is of the other width"
+      ;;
+  esac
+done <"$wrong/lines"
+echo "wrong headers: $stopped stopped by the line on sizes, $found found"
