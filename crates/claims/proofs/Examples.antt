@@ -14,7 +14,7 @@ use Rattle.policy.specs.Checks.{widthFits, pairFits, entryFits, inRange, pairRi
 use Rattle.policy.specs.Limits.{values, actions}
 use Rattle.policy.specs.Line.{allowed, countFits, formFits, numbersOf, wordsOf}
 use Rattle.policy.specs.Policy.{blank, total, start, attributeOf, setOfNumber, formulaIn}
-use Rattle.policy.specs.Read.{checksOf, refusalOf, after, ending, readLines, readText}
+use Rattle.policy.specs.Read.{checksOf, checksFor, refusalOf, after, ending, readLines, readText}
 use Rattle.policy.specs.Text.{linesOf as linesOf-text, laterFields, lineText, textOf as textOf-text}
 use Rattle.policy.specs.Valid.{sameSide, sameRegister, sameRule, sameRules, sameValue, valid}
 use Rattle.policy.specs.Value.{sideValue, register, noRule, ruleValue, rulesValue, valueOf, sideOf, entriesOf, ruleOf, rulesOf, policyOf}
@@ -29,5 +29,5 @@ use Rattle.board.specs.Machine.{empty, put, reachOf, objectSet, checks, entryAf
 use Rattle.claims.specs.Examples.{table, holds}
 
 pub examples-hold : all holds table ≡ true
-unfolding lowest all any same last sum padded over every first count select upTo setOf chain senior heldOrSenior heldOrJunior reach values actions namedIn follows valueFrom isNumber numeral digitsBefore decimal split join linesOf textOf letter holding comparison parsed written widthFits pairFits entryFits inRange pairRises entryRises ruleRises rises balanced balances extended allowed countFits formFits numbersOf wordsOf blank total start attributeOf setOfNumber formulaIn checksOf refusalOf after ending readLines readText linesOf-text laterFields lineText textOf-text sameSide sameRegister sameRule sameRules sameValue valid sideValue register noRule ruleValue rulesValue valueOf sideOf entriesOf ruleOf rulesOf policyOf step run truth grants tuples decideByTuples likeUsers likeObjects NU NO entryOf entry userResult objectResult tableResult usersAlike objectsAlike lowestLike leads labelCount label leader rulesLines report entryAt store fresh boardFits fits pastEnd grantsByLabels lookUp boardReply boardChecks boardAfter boardStep empty put reachOf objectSet checks entryAfter reply step-machine run-machine machine
+unfolding lowest all any same last sum padded over every first count select upTo setOf chain senior heldOrSenior heldOrJunior reach values actions namedIn follows valueFrom isNumber numeral digitsBefore decimal split join linesOf textOf letter holding comparison parsed written widthFits pairFits entryFits inRange pairRises entryRises ruleRises rises balanced balances extended allowed countFits formFits numbersOf wordsOf blank total start attributeOf setOfNumber formulaIn checksOf checksFor refusalOf after ending readLines readText linesOf-text laterFields lineText textOf-text sameSide sameRegister sameRule sameRules sameValue valid sideValue register noRule ruleValue rulesValue valueOf sideOf entriesOf ruleOf rulesOf policyOf step run truth grants tuples decideByTuples likeUsers likeObjects NU NO entryOf entry userResult objectResult tableResult usersAlike objectsAlike lowestLike leads labelCount label leader rulesLines report entryAt store fresh boardFits fits pastEnd grantsByLabels lookUp boardReply boardChecks boardAfter boardStep empty put reachOf objectSet checks entryAfter reply step-machine run-machine machine
 examples-hold = refl

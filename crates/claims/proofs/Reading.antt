@@ -1,6 +1,6 @@
 -- Why a text is accepted or refused, by induction over its lines.
 use Prim.Native.Nat.{ℕ, suc, _+_, _≤_}
-use mathlib.Core.Path.{_≡_, refl, sym, _∙_}
+use mathlib.Core.Path.{_≡_, refl}
 use mathlib.Core.Bool.{Bool, true, false, cond, _&&_}
 use mathlib.Core.List.{List, [], _∷_, _++_}
 use mathlib.Core.Logic.{_⊎_, inl, inr}
@@ -12,36 +12,31 @@ use lib.ListN.{length}
 use Rattle.basis.specs.Choice.{given, Check, lowest}
 use Rattle.basis.specs.Lists.{all}
 use Rattle.basis.proofs.Bools.{and-left, and-right}
-use Rattle.text.specs.Parts.{TextLine, fields, lines}
+use Rattle.text.specs.Parts.{TextLine, lines}
+use Rattle.text.specs.declared.kind.Kind.{Kind}
 use Rattle.text.specs.declared.kind.Named.{Named}
 use Rattle.text.specs.declared.kind.Named.the-variants.{Is, Unknown}
 use Rattle.policy.specs.Limits.{textBytes}
 use Rattle.policy.specs.Policy.{Policy}
-use Rattle.policy.specs.Read.{Outcome, Accepted, Refused, State, start, kindOf, checksOf, refusalOf, lineRefusal, lineAfter, ending, readLines, readText}
+use Rattle.policy.specs.Read.{Outcome, Accepted, Refused, State, start, kindOf, checksOf, checksFor, refusalOf, lineChecks, lineRefusal, lineAfter, ending, readLines, readText}
 use Rattle.claims.specs.Answers.{Met}
-use Rattle.claims.specs.Reading.{checksFor, afterLines, passes, ends, Because}
+use Rattle.claims.specs.Reading.{afterLines, passes, ends, Because}
 use Rattle.claims.proofs.Answers.{met, met-all}
 
 -- ---- a line
-
-by-checks : (s : State) (l : TextLine) (k : Named)
-    → refusalOf (s .before) (s .policy) (l .ended) k (fields (l .bytes)) ≡ lowest (checksFor s l k)
-unfolding refusalOf checksFor
-by-checks s l Unknown = refl
-by-checks s l (Is k) = refl
 
 -- the numbers of a line's checks
 abbrev ofLine : Check → Bool
 ofLine c = leb 2 (c .number) && leb (c .number) 9
 
-numbers : (s : State) (l : TextLine) (k : Named) → all ofLine (checksFor s l k) ≡ true
+numbers : (before : Option Kind) (p : Policy) (ended : Bool) (k : Named) (fs : List (List ℕ)) → all ofLine (checksFor before p ended k fs) ≡ true
 unfolding all checksFor checksOf
-numbers s l Unknown = refl
-numbers s l (Is k) = refl
+numbers before p ended Unknown fs = refl
+numbers before p ended (Is k) fs = refl
 
-line-number : (s : State) (l : TextLine) (n : ℕ) → Met (checksFor s l (kindOf (l .bytes))) n → (2 ≤ n) × (n ≤ 9)
+line-number : (s : State) (l : TextLine) (n : ℕ) → Met (lineChecks s l) n → (2 ≤ n) × (n ≤ 9)
 line-number s l n w =
-    let h = met-all ofLine _ n (numbers s l (kindOf (l .bytes))) w in
+    let h = met-all ofLine (lineChecks s l) n (numbers _ _ _ (kindOf (l .bytes)) _) w in
     (leb-true 2 n (and-left _ _ h), leb-true n 9 (and-right (leb 2 n) _ h))
 
 -- ---- the lines from a state on, of which the first is line m
@@ -53,7 +48,7 @@ record FaultyFrom (s : State) (m : ℕ) (ls : List TextLine) (n line : ℕ) : Ty
   parted : ls ≡ before ++ (at ∷ behind)
   place : m + length before ≡ line
   sound : passes s before ≡ true
-  lowest : Met (checksFor (afterLines s before) at (kindOf (at .bytes))) n
+  lowest : Met (lineChecks (afterLines s before) at) n
 
 record EndlessFrom (s : State) (m : ℕ) (ls : List TextLine) (n line : ℕ) : Type 0 where
   number : n ≡ 10
@@ -97,7 +92,7 @@ behind-line s m l ls (Refused n line) e (inr w) =
     inr (record { number = w .number; count = omega (arith, w .count); sound = rw e (w .sound); unended = w .unended })
 
 from : (ls : List TextLine) (s : State) (m : ℕ) → From s m ls (readLines s m ls)
-unfolding readLines passes afterLines
+unfolding readLines refusalOf passes afterLines
 from [] s m = at-end s m
 from (l ∷ ls) s m = go (lineRefusal s l) refl (from ls (lineAfter s l) (suc m))
   where
@@ -112,7 +107,7 @@ from (l ∷ ls) s m = go (lineRefusal s l) refl (from ls (lineAfter s l) (suc m)
           parted = refl;
           place = omega arith;
           sound = refl;
-          lowest = met _ n (sym (by-checks s l (kindOf (l .bytes))) ∙ e);
+          lowest = met (lineChecks s l) n e;
         })
 
 -- ---- a text

@@ -6,21 +6,14 @@ use mathlib.Core.Bool.{Bool, true, false, not, _&&_}
 use mathlib.Core.List.{List, [], _∷_, _++_}
 use mathlib.Core.Logic.{_⊎_}
 use lib.ListN.{length}
-use Rattle.basis.specs.Choice.{given, there, Check, check}
+use Rattle.basis.specs.Choice.{given, there}
 use Rattle.text.specs.Kind.{isKind}
-use Rattle.text.specs.Parts.{TextLine, fields, lines}
+use Rattle.text.specs.Parts.{TextLine, lines}
 use Rattle.text.specs.declared.kind.Kind.the-variants.{End}
-use Rattle.text.specs.declared.kind.Named.{Named}
-use Rattle.text.specs.declared.kind.Named.the-variants.{Is, Unknown}
 use Rattle.policy.specs.Limits.{textBytes}
 use Rattle.policy.specs.Policy.{Policy}
-use Rattle.policy.specs.Read.{Outcome, Accepted, Refused, State, start, kindOf, checksOf, lineRefusal, lineAfter}
+use Rattle.policy.specs.Read.{Outcome, Accepted, Refused, State, start, lineChecks, lineRefusal, lineAfter}
 use Rattle.claims.specs.Answers.{Met}
-
--- the checks of a line whose first field names this kind, after the lines that left this state
-unfoldable pub checksFor : State → TextLine → Named → List Check
-checksFor s l Unknown = check 2 (not (l .ended)) ∷ check 3 true ∷ []
-checksFor s l (Is k) = checksOf (s .before) (s .policy) (l .ended) k (fields (l .bytes))
 
 -- what some lines leave, and whether none of them is refused
 unfoldable pub afterLines : State → List TextLine → State
@@ -50,7 +43,7 @@ pub record Faulty (t : List ℕ) (n line : ℕ) : Type 0 where
   pub parted : lines t ≡ before ++ (at ∷ behind)
   pub place : length before ≡ line
   pub sound : passes start before ≡ true
-  pub lowest : Met (checksFor (afterLines start before) at (kindOf (at .bytes))) n
+  pub lowest : Met (lineChecks (afterLines start before) at) n
   pub number : (2 ≤ n) × (n ≤ 9)
 
 -- 10: "The text ends without an end line", with "the count of lines"

@@ -18,7 +18,7 @@ use Rattle.text.specs.declared.number.Numbers.{Numbers}
 use Rattle.policy.specs.Answers.{numberOf}
 use Rattle.policy.specs.Line.{noNumbers, allowed, countFits, formFits, numbersOf}
 use Rattle.policy.specs.Policy.{Policy}
-use Rattle.policy.specs.Read.{checksOf, refusalOf}
+use Rattle.policy.specs.Read.{checksOf, checksFor, refusalOf}
 use Rattle.policy.specs.declared.refusal.Refusal.{Refusal}
 use Rattle.policy.specs.declared.refusal.Refusal.the-variants.{KindNotAllowed}
 use Rattle.line.specs.Inner.Head.{numbersFit, formed, headAs, parsedAs}
@@ -89,7 +89,7 @@ pub record Known (before : Option Kind) (named : Named) (fs : List (List ℕ)) (
 
 module _ (before : Option Kind) (fs : List (List ℕ)) where
   pub head-fault : (named : Named) (p : Policy) (r : Refusal) → parsedAs before named fs ≡ Fault r → refusalOf before p true named fs ≡ some (numberOf r)
-  unfolding parsedAs headAs refusalOf checksOf lowest
+  unfolding parsedAs headAs refusalOf checksFor checksOf lowest
   head-fault Unknown p r e = ap numberIn e
   head-fault (Is k) p r e =
       fault-lowest k (numbersOf (layoutOf k) fs) (allowed before k) (countFits (layoutOf k) (length fs)) (numbersFit (layoutOf k) fs) (formFits (layoutOf k) fs)

@@ -15,7 +15,7 @@ use Rattle.text.specs.declared.kind.Named.the-variants.{Is, Unknown}
 use Rattle.policy.specs.Policy.{Policy}
 use Rattle.policy.specs.Line.{allowed, countFits, formFits, lineOf}
 use Rattle.policy.specs.Checks.{lineInRange, lineRises, lineWidthsEqual, lineBalances}
-use Rattle.policy.specs.Read.{checksOf, refusalOf, State, kindOf, lineRefusal}
+use Rattle.policy.specs.Read.{checksOf, checksFor, refusalOf, State, kindOf, lineRefusal}
 
 -- the first of some checks passes, and no other is broken
 pub lowest-next : (n : ℕ) (b : Bool) (cs : List Check) → lowest (check n (not b) ∷ cs) ≡ none → (b ≡ true) × (lowest cs ≡ none)
@@ -36,7 +36,7 @@ pub record Passed (before : Option Kind) (p : Policy) (ended : Bool) (k : Kind) 
 
 module _ (before : Option Kind) (p : Policy) (ended : Bool) where
   pub passed : (k : Kind) (fs : List (List ℕ)) → refusalOf before p ended (Is k) fs ≡ none → Passed before p ended k fs
-  unfolding refusalOf checksOf
+  unfolding refusalOf checksFor checksOf
   passed k fs e =
       let l = lineOf k fs in
       let e₂ = lowest-next 2 ended _ e in
@@ -50,12 +50,12 @@ module _ (before : Option Kind) (p : Policy) (ended : Bool) where
       record { ends = e₂ .0; order = e₃ .0; count = e₄ .0; form = e₅ .0; range = e₆ .0; rise = e₇ .0; equal = e₈ .0; balance = e₉ .0 }
 
   pub not-refused : (k : Kind) (fs : List (List ℕ)) → Passed before p ended k fs → refusalOf before p ended (Is k) fs ≡ none
-  unfolding refusalOf checksOf lowest
+  unfolding refusalOf checksFor checksOf lowest
   not-refused k fs c = rw (c .ends, c .order, c .count, c .form, c .range, c .rise, c .equal, c .balance)
 
   -- a line of no known kind is refused
   pub unknown-refused : (fs : List (List ℕ)) → refusalOf before p ended Unknown fs ≡ none → ⊥
-  unfolding refusalOf lowest
+  unfolding refusalOf checksFor lowest
   unknown-refused fs e = let r = lowest-next 2 ended (check 3 true ∷ []) e .1 in let z : _≡_ {A = ℕ} 0 1 = cc r in omega arith
 
 -- the kind of a line that is not refused, and its checks

@@ -39,10 +39,14 @@ checksOf before p ended k fs =
     ∷ check 9 (not (lineBalances (lineOf k fs)))
     ∷ []
 
--- the refusal of a line whose first field names this kind, or none
+-- those of a line whose first field names this kind, or none
+unfoldable pub checksFor : Option Kind → Policy → Bool → Named → List (List ℕ) → List Check
+checksFor before p ended Unknown fs = check 2 (not ended) ∷ check 3 true ∷ []
+checksFor before p ended (Is k) fs = checksOf before p ended k fs
+
+-- its refusal, or none
 unfoldable pub refusalOf : Option Kind → Policy → Bool → Named → List (List ℕ) → Option ℕ
-refusalOf before p ended Unknown fs = lowest (check 2 (not ended) ∷ check 3 true ∷ [])
-refusalOf before p ended (Is k) fs = lowest (checksOf before p ended k fs)
+refusalOf before p ended k fs = lowest (checksFor before p ended k fs)
 
 -- what the lines before a line leave: the kind of the last one, and the policy of them all
 pub record State : Type 0 where
@@ -56,6 +60,9 @@ start = record { before = none; policy = blank }
 unfoldable pub after : Named → List (List ℕ) → State → State
 after Unknown fs s = s
 after (Is k) fs s = record { before = some k; policy = withLineOf (lineOf k fs) (s .policy) }
+
+abbrev pub lineChecks : State → TextLine → List Check
+lineChecks s l = checksFor (s .before) (s .policy) (l .ended) (kindOf (l .bytes)) (fields (l .bytes))
 
 abbrev pub lineRefusal : State → TextLine → Option ℕ
 lineRefusal s l = refusalOf (s .before) (s .policy) (l .ended) (kindOf (l .bytes)) (fields (l .bytes))

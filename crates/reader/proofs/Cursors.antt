@@ -23,7 +23,7 @@ use Rattle.policy.specs.Answers.{numberOf}
 use Rattle.policy.specs.Checks.{inRange, rises, balances, withLineOf, extended}
 use Rattle.policy.specs.Line.{allowed, countFits, formFits, wordsOf, lineOf}
 use Rattle.policy.specs.Policy.{Policy}
-use Rattle.policy.specs.Read.{Outcome, kindOf, checksOf, refusalOf, after, ending, readLines}
+use Rattle.policy.specs.Read.{Outcome, kindOf, checksOf, checksFor, refusalOf, after, ending, readLines}
 use Rattle.policy.specs.declared.refusal.Refusal.{Refusal}
 use Rattle.policy.specs.declared.refusal.Refusal.the-variants.{LineFeedMissing, EndMissing}
 use Rattle.policy.proofs.Order.{allowed-order}
@@ -105,7 +105,7 @@ module _ (t : List ℕ) (at n : ℕ) (b : Before) (c : Cursor) where
       ends-early g q = bare-looked (Fault EndMissing) q (fault-bare EndMissing) (λ p. rw (no-line t at h, e, sym f ∙ g))
 
 open-refusal : (b : Option Kind) (p : Policy) (k : Named) (fs : List (List ℕ)) → refusalOf b p false k fs ≡ some 2
-unfolding refusalOf checksOf lowest
+unfolding refusalOf checksFor checksOf lowest
 open-refusal b p Unknown fs = refl
 open-refusal b p (Is k) fs = refl
 
@@ -114,7 +114,7 @@ open-refusal b p (Is k) fs = refl
 -- one that breaks none of 2 to 4
 taken-refusal : (b : Option Kind) (p : Policy) (k : Kind) (fs : List (List ℕ)) → allowed b k ≡ true → countFits (layoutOf k) (length fs) ≡ true
     → refusalOf b p true (Is k) fs ≡ refusalAt p k fs
-unfolding refusalOf checksOf refusalAt lowest
+unfolding refusalOf checksFor checksOf refusalAt lowest
 taken-refusal b p k fs a c = rw (a, c)
 
 module _ (t : List ℕ) (at n : ℕ) (b : Before) (e : ℕ) (f : Found t at lineFeed e) where
