@@ -44,10 +44,7 @@ loop-less : tie.Need-loop-less Inv-loop μ-loop
 loop-less c = let s = c .before .before .before .before .before .before .loop .inv .lines .stands in search next-less
 
 loop-again : tie.Need-loop-again Inv-loop μ-loop
-loop-again c =
-    let f = c .before .before .before in
-    let l = f .before .before .before in
-    entry-more (l .loop .inv) _ (f .before .before .is-at .ensures) (f .before .if1 .taken) _ (f .entry-fits .ensures) _ (c .before .before .if2 .taken) (c .before .if3 .taken) (l .before .before .pre .1) (c .next .ensures)
+loop-again c = search (entry-more (c .before .before .before .before .before .before .loop .inv))
 
 stop-requires : tie.Need-stop-requires Inv-loop μ-loop
 stop-requires c κs = search needs

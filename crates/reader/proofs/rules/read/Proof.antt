@@ -68,10 +68,7 @@ loop-less-2 : tie.Need-loop-less-2 Inv-loop μ-loop
 loop-less-2 c = let s = c .before .before .before .before .before .before .before .before .loop .inv .lines .stands in search next-less
 
 loop-again-2 : tie.Need-loop-again-2 Inv-loop μ-loop
-loop-again-2 c =
-    let f = c .before .before .before .before in
-    let l = f .before .before .before .before in
-    rule-more (l .loop .inv) _ (f .admit .ensures) _ (f .before .before .before .is-at .ensures) (f .before .before .if1 .taken) _ (c .before .before .enum-told .given .1) (c .next .ensures)
+loop-again-2 c = search (rule-more (c .before .before .before .before .before .before .before .before .loop .inv))
 
 returns : tie.Need-returns Inv-loop μ-loop
 returns c = search rules-read
