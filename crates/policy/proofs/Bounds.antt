@@ -26,11 +26,11 @@ use Rattle.policy.specs.Limits.{values, actions, mostValues, userNumbers
 use Rattle.policy.specs.Policy.{Side, Rule, Policy, total, sets, attributeOf}
 use Rattle.policy.specs.Checks.{SideSizes, sideSizes, sizes, widthFits, pairFits, entryFits, bothThere, wordFits}
 use Rattle.policy.specs.Value.{widthPlaces, entryPlaces, rulePlaces, linePlaces}
-use Rattle.policy.specs.Inner.Sound.{widthsSound, ruleSound, listsSound}
+use Rattle.policy.specs.Inner.Sound.{widthsSound, listsSound}
 use Rattle.policy.specs.declared.value.Entry.{Entry}
 use Rattle.policy.proofs.Forms.{values-most, actions-most}
 use Rattle.policy.proofs.Rising.{rising, head, rising-at, rising-few}
-use Rattle.policy.proofs.Parts.{lineFits, lineAbove, numberFits, numberAbove, actionAbove, SideParts, RuleParts, rule-parts, Parts, parts}
+use Rattle.policy.proofs.Parts.{lineFits, lineAbove, numberFits, numberAbove, actionAbove, SideParts, RuleParts, rule-parts, Parts, parts, ruleFits}
 
 -- ---- widths
 
@@ -208,13 +208,13 @@ module _ (most : ℕ) (s : Side) where
 
 -- ---- rules
 
-module _ (p : Policy) (rs : List Rule) (h : rising (ruleSound p) actionAbove none rs ≡ true) where
+module _ (p : Policy) (rs : List Rule) (h : rising (ruleFits p) actionAbove none rs ≡ true) where
   pub rule-bounds : (r : Rule) → List·Memᴰ r rs → RuleParts p r
-  rule-bounds r m = rule-parts p r (rising-at (ruleSound p) actionAbove none rs h r m)
+  rule-bounds r m = rule-parts p r (rising-at (ruleFits p) actionAbove none rs h r m)
 
   pub rules-few : length rs ≤ actions (p .form)
   rules-few =
-      rising-few (ruleSound p) actionAbove (λ r. r .action) (actions (p .form)) (λ r f. rule-parts p r f .action)
+      rising-few (ruleFits p) actionAbove (λ r. r .action) (actions (p .form)) (λ r f. rule-parts p r f .action)
       (λ b r f a. ltb-true (b .action) (r .action) a) rs h
 
 -- the numbers of a word of a rule are digits

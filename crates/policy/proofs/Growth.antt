@@ -22,7 +22,7 @@ use Rattle.policy.specs.Checks.{sideSizes, sizes, widthFits, pairFits, e
 use Rattle.policy.specs.Inner.Sound.{widthsSound, ruleSound}
 use Rattle.policy.specs.declared.value.Entry.{Entry}
 use Rattle.policy.proofs.Rising.{rising, rising-more, rising-same}
-use Rattle.policy.proofs.Parts.{lineFits, lineAbove, numberFits, numberAbove, actionAbove, SideParts, Parts}
+use Rattle.policy.proofs.Parts.{lineFits, lineAbove, numberFits, numberAbove, actionAbove, SideParts, Parts, ruleFits}
 use Rattle.policy.proofs.Bounds.{widths-more}
 use Rattle.policy.proofs.Order.{cut}
 
@@ -45,7 +45,7 @@ more-entries most s es n x h f a = rising-more (numberFits most s) numberAbove e
 
 -- ---- rules: a rule's tests look at the form and the sides alone
 
-rule-same : (p : Policy) (rs : List Rule) (r : Rule) → ruleSound (withRules rs p) r ≡ ruleSound p r
+rule-same : (p : Policy) (rs : List Rule) (r : Rule) → ruleFits (withRules rs p) r ≡ ruleFits p r
 unfolding ruleSound
 rule-same p rs r = refl
 
@@ -65,16 +65,16 @@ unfolding all
 plain-fits k p n f a b = record { range = f; rise = a; equal = refl; balance = b; few = omega arith }
 
 pub more-rules : (p : Policy) (n : Numbers) (ws : List Word) → let r : Rule = record { action = n .first; words = ws } in
-    rising (ruleSound p) actionAbove none (p .rules) ≡ true → Fits RuleKind p n ws
-    → rising (ruleSound (withRules (p .rules ++ (r ∷ [])) p)) actionAbove none (p .rules ++ (r ∷ [])) ≡ true
+    rising (ruleFits p) actionAbove none (p .rules) ≡ true → Fits RuleKind p n ws
+    → rising (ruleFits (withRules (p .rules ++ (r ∷ [])) p)) actionAbove none (p .rules ++ (r ∷ [])) ≡ true
 unfolding ruleSound inRange rises ruleRises balances
 more-rules p n ws h f =
     let a = n .first in
     let r : Rule = record { action = a; words = ws } in
     let rs = p .rules ++ (r ∷ []) in
-    let c : ruleSound p r ≡ true = rw (le-leb (length ws) mostWords (f .few), and-left (ltb a (actions (p .form))) _ (f .range), and-right (ltb a (actions (p .form))) _ (f .range), f .equal, f .balance) in
-    rw (rising-same (ruleSound (withRules rs p)) (ruleSound p) actionAbove (rule-same p rs) none rs)
-    (rising-more (ruleSound p) actionAbove (p .rules) r h c (f .rise))
+    let c : ruleFits p r ≡ true = rw (le-leb (length ws) mostWords (f .few), and-left (ltb a (actions (p .form))) _ (f .range), and-right (ltb a (actions (p .form))) _ (f .range), f .equal, f .balance) in
+    rw (rising-same (ruleFits (withRules rs p)) (ruleFits p) actionAbove (rule-same p rs) none rs)
+    (rising-more (ruleFits p) actionAbove (p .rules) r h c (f .rise))
 
 pub parts-more : (k : Kind) (n : Numbers) (ws : List Word) (p : Policy) → let q = cut (suc (placeOf k)) p in
     Parts q → Fits k q n ws → Parts (extended k n ws q)

@@ -12,21 +12,27 @@ use Rattle.basis.proofs.Bools.{and-left, and-right}
 use Rattle.seniority.specs.declared.Direct.{Direct}
 use Rattle.policy.specs.Limits.{isForm, values, actions, userNumbers, objectNumbers, mostWords}
 use Rattle.policy.specs.Policy.{Side, Rule, Policy, total}
-use Rattle.policy.specs.Checks.{sideSizes, sizes, pairFits, pairAbove, entryFits, wordFits, widthsEqual, balanced}
+use Rattle.policy.specs.Checks.{SideSizes, Sizes, sideSizes, sizes, pairFits, pairAbove, entryFits, wordFits, widthsEqual, balanced}
 use Rattle.policy.specs.Inner.Sound.{widthsSound, linesSound, entriesSound, ruleSound, rulesSound, sideSound, listsSound, sound}
 use Rattle.policy.specs.declared.value.Entry.{Entry}
 use Rattle.policy.proofs.Rising.{rising}
 
 -- ---- lists that rise
 
+abbrev pub lineIn : SideSizes → Direct → Bool
+lineIn s l = pairFits s (l .senior) (l .junior)
+
 abbrev pub lineFits : Side → Direct → Bool
-lineFits s l = pairFits (sideSizes s) (l .senior) (l .junior)
+lineFits s = lineIn (sideSizes s)
 
 abbrev pub lineAbove : Direct → Direct → Bool
 lineAbove b l = pairAbove (l .senior) (l .junior) b
 
+abbrev pub numberIn : ℕ → ℕ → Entry → Bool
+numberIn most n e = entryFits most n (e .number) (e .set)
+
 abbrev pub numberFits : ℕ → Side → Entry → Bool
-numberFits most s e = entryFits most (total s) (e .number) (e .set)
+numberFits most s = numberIn most (total s)
 
 abbrev pub numberAbove : Entry → Entry → Bool
 numberAbove b e = ltb (b .number) (e .number)
@@ -34,20 +40,23 @@ numberAbove b e = ltb (b .number) (e .number)
 abbrev pub actionAbove : Rule → Rule → Bool
 actionAbove b r = ltb (b .action) (r .action)
 
-pub lines-rising : (s : Side) (b : Option Direct) (ls : List Direct) → linesSound s b ls ≡ rising (lineFits s) lineAbove b ls
+abbrev pub ruleFits : Policy → Rule → Bool
+ruleFits p = ruleSound (actions (p .form)) (sizes p)
+
+pub lines-rising : (s : SideSizes) (b : Option Direct) (ls : List Direct) → linesSound s b ls ≡ rising (lineIn s) lineAbove b ls
 unfolding linesSound rising
 lines-rising s b [] = refl
 lines-rising s b (l ∷ ls) = rw (lines-rising s (some l) ls)
 
-pub entries-rising : (most : ℕ) (s : Side) (b : Option Entry) (es : List Entry) → entriesSound most s b es ≡ rising (numberFits most s) numberAbove b es
+pub entries-rising : (most n : ℕ) (b : Option Entry) (es : List Entry) → entriesSound most n b es ≡ rising (numberIn most n) numberAbove b es
 unfolding entriesSound rising
-entries-rising most s b [] = refl
-entries-rising most s b (e ∷ es) = rw (entries-rising most s (some e) es)
+entries-rising most n b [] = refl
+entries-rising most n b (e ∷ es) = rw (entries-rising most n (some e) es)
 
-pub rules-rising : (p : Policy) (b : Option Rule) (rs : List Rule) → rulesSound p b rs ≡ rising (ruleSound p) actionAbove b rs
+pub rules-rising : (n : ℕ) (s : Sizes) (b : Option Rule) (rs : List Rule) → rulesSound n s b rs ≡ rising (ruleSound n s) actionAbove b rs
 unfolding rulesSound rising
-rules-rising p b [] = refl
-rules-rising p b (r ∷ rs) = rw (rules-rising p (some r) rs)
+rules-rising n s b [] = refl
+rules-rising n s b (r ∷ rs) = rw (rules-rising n s (some r) rs)
 
 -- ---- the parts of a sound side, rule and policy
 
@@ -58,11 +67,11 @@ pub record SideParts (most : ℕ) (s : Side) : Type 0 where
 pub side-parts : (most : ℕ) (s : Side) → sideSound most s ≡ true → SideParts most s
 unfolding sideSound
 side-parts most s e =
-    record { widths = and-left _ _ e; lines = rw (lines-rising s none (s .lines)) at (and-right (widthsSound most 0 (s .widths)) _ e) }
+    record { widths = and-left _ _ e; lines = rw (lines-rising (sideSizes s) none (s .lines)) at (and-right (widthsSound most 0 (s .widths)) _ e) }
 
 pub side-sound : (most : ℕ) (s : Side) → SideParts most s → sideSound most s ≡ true
 unfolding sideSound
-side-sound most s p = rw (p .widths, lines-rising s none (s .lines), p .lines)
+side-sound most s p = rw (p .widths, lines-rising (sideSizes s) none (s .lines), p .lines)
 
 pub record RuleParts (p : Policy) (r : Rule) : Type 0 where
   pub few : length (r .words) ≤ mostWords
@@ -71,7 +80,7 @@ pub record RuleParts (p : Policy) (r : Rule) : Type 0 where
   pub equal : all (widthsEqual (sizes p)) (r .words) ≡ true
   pub balance : balanced 0 (r .words) ≡ true
 
-pub rule-parts : (p : Policy) (r : Rule) → ruleSound p r ≡ true → RuleParts p r
+pub rule-parts : (p : Policy) (r : Rule) → ruleFits p r ≡ true → RuleParts p r
 unfolding ruleSound
 rule-parts p r e =
     let e₁ = and-right (leb (length (r .words)) mostWords) _ e in
@@ -90,20 +99,20 @@ pub record Parts (p : Policy) : Type 0 where
   pub object : SideParts (values (p .form)) (p .object)
   pub users : rising (numberFits userNumbers (p .user)) numberAbove none (p .users) ≡ true
   pub objects : rising (numberFits objectNumbers (p .object)) numberAbove none (p .objects) ≡ true
-  pub rules : rising (ruleSound p) actionAbove none (p .rules) ≡ true
+  pub rules : rising (ruleFits p) actionAbove none (p .rules) ≡ true
 
 pub parts : (p : Policy) → listsSound p ≡ true → Parts p
 unfolding listsSound
 parts p e =
     let e₁ = and-right (sideSound (values (p .form)) (p .user)) _ e in
     let e₂ = and-right (sideSound (values (p .form)) (p .object)) _ e₁ in
-    let e₃ = and-right (entriesSound userNumbers (p .user) none (p .users)) _ e₂ in
+    let e₃ = and-right (entriesSound userNumbers (total (p .user)) none (p .users)) _ e₂ in
     record {
       user = side-parts (values (p .form)) (p .user) (and-left _ _ e);
       object = side-parts (values (p .form)) (p .object) (and-left _ _ e₁);
-      users = rw (entries-rising userNumbers (p .user) none (p .users)) at (and-left (entriesSound userNumbers (p .user) none (p .users)) _ e₂);
-      objects = rw (entries-rising objectNumbers (p .object) none (p .objects)) at (and-left (entriesSound objectNumbers (p .object) none (p .objects)) _ e₃);
-      rules = rw (rules-rising p none (p .rules)) at (and-right (entriesSound objectNumbers (p .object) none (p .objects)) _ e₃);
+      users = rw (entries-rising userNumbers (total (p .user)) none (p .users)) at (and-left (entriesSound userNumbers (total (p .user)) none (p .users)) _ e₂);
+      objects = rw (entries-rising objectNumbers (total (p .object)) none (p .objects)) at (and-left (entriesSound objectNumbers (total (p .object)) none (p .objects)) _ e₃);
+      rules = rw (rules-rising (actions (p .form)) (sizes p) none (p .rules)) at (and-right (entriesSound objectNumbers (total (p .object)) none (p .objects)) _ e₃);
     }
 
 pub lists-sound : (p : Policy) → Parts p → listsSound p ≡ true
@@ -112,11 +121,11 @@ lists-sound p t =
     rw (
       side-sound (values (p .form)) (p .user) (t .user),
       side-sound (values (p .form)) (p .object) (t .object),
-      entries-rising userNumbers (p .user) none (p .users),
+      entries-rising userNumbers (total (p .user)) none (p .users),
       t .users,
-      entries-rising objectNumbers (p .object) none (p .objects),
+      entries-rising objectNumbers (total (p .object)) none (p .objects),
       t .objects,
-      rules-rising p none (p .rules),
+      rules-rising (actions (p .form)) (sizes p) none (p .rules),
       t .rules,
     )
 

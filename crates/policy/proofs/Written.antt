@@ -24,10 +24,10 @@ use Rattle.policy.specs.Line.{Line, noNumbers, oneNumber, twoNumbers, pl
 use Rattle.policy.specs.Text.{linesOf}
 use Rattle.policy.specs.Checks.{widthFits, pairFits, inRange, pairRises, entryRises, ruleRises, rises, balanced, balances, extended, withUser, withObject, withUsers, withObjects, withRules, withLineOf}
 use Rattle.policy.specs.Read.{start, ending, readLines}
-use Rattle.policy.specs.Inner.Sound.{widthsSound, ruleSound}
+use Rattle.policy.specs.Inner.Sound.{widthsSound}
 use Rattle.policy.specs.declared.value.Entry.{Entry}
 use Rattle.policy.proofs.Forms.{form-few}
-use Rattle.policy.proofs.Parts.{lineFits, lineAbove, numberFits, numberAbove, actionAbove, rule-parts, Parts, parts, Whole}
+use Rattle.policy.proofs.Parts.{lineFits, lineAbove, numberFits, numberAbove, actionAbove, rule-parts, Parts, parts, Whole, ruleFits}
 use Rattle.policy.proofs.Bounds.{width-head, width-tail, rule-digits}
 use Rattle.policy.proofs.Shorts.{no-short, one-short, width-short, action-short, pair-short, entry-short}
 use Rattle.policy.proofs.Order.{reached, May, order-allowed, cut}
@@ -121,7 +121,7 @@ module _ (p : Policy) (t : Parts p) where
   some-words [] e = absurd (false≢true e)
   some-words (w ∷ ws) e = omega arith
 
-  rule-good : (rs : List Rule) (r : Rule) → ruleSound p r ≡ true → given (last rs) true (λ b. actionAbove b r) ≡ true
+  rule-good : (rs : List Rule) (r : Rule) → ruleFits p r ≡ true → given (last rs) true (λ b. actionAbove b r) ≡ true
       → Good (withRules rs p) (ruleLine (r .action) (r .words))
   unfolding inRange rises ruleRises balances
   rule-good rs r f a =
@@ -148,7 +148,7 @@ module _ (p : Policy) (t : Parts p) where
   unfolding linesFrom groups cut extended
   rule-lines =
       rising-lines RuleKind (lit≤ tt) (lit< tt) (λ (r : Rule). ruleLine (r .action) (r .words)) (λ r. refl)
-      (λ rs. withRules rs p) (λ rs r. refl) (ruleSound p) actionAbove rule-good (p .rules) (t .rules) (linesFrom End p) p
+      (λ rs. withRules rs p) (λ rs r. refl) (ruleFits p) actionAbove rule-good (p .rules) (t .rules) (linesFrom End p) p
 
   -- ---- the first line and the last
 

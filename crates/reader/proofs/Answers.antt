@@ -1,4 +1,4 @@
--- What is said of a text, once the cursor is behind its lists.
+-- What is said of a text where no line of it is ahead.
 use mathlib.Core.Path.{_≡_}
 use mathlib.Core.List.{List}
 use Prim.Native.Nat.{ℕ}
@@ -11,14 +11,14 @@ use Rattle.reader.specs.Inner.Cursor.{left, Bare, outcomeOf}
 use Rattle.reader.specs.declared.cursor.Ahead.the-variants.{Line, Over, Fault}
 use Rattle.reader.specs.declared.cursor.Cursor.{Cursor}
 
-module _ (t : List ℕ) (c d : Cursor) (e : ((p : Policy) → left t c p ≡ left t d p) × Bare d) (p : Policy) where
-  pub said-over : d .ahead ≡ Over → left t c p ≡ outcomeOf AcceptedText p
+module _ (c : Cursor) (t : List ℕ) (p : Policy) where
+  pub said-over : c .ahead ≡ Over → left t c p ≡ outcomeOf AcceptedText p
   unfolding left
-  said-over q = rw (e .0 p, q)
+  said-over q = rw q
 
-  pub said-fault : (r : Refusal) → d .ahead ≡ Fault r → left t c p ≡ outcomeOf (RefusedText r (d .line)) p
+  pub said-fault : (r : Refusal) → c .ahead ≡ Fault r → left t c p ≡ outcomeOf (RefusedText r (c .line)) p
   unfolding left
-  said-fault r q = rw (e .0 p, q)
+  said-fault r q = rw q
 
-  pub said-line : (k : Kind) → d .ahead ≡ Line k → (v : Verdict) → left t c p ≡ outcomeOf v p
-  said-line k q v = absurd (e .1 k q)
+  pub said-line : Bare c → (k : Kind) → c .ahead ≡ Line k → (v : Verdict) → left t c p ≡ outcomeOf v p
+  said-line b k q v = absurd (b k q)

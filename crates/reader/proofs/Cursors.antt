@@ -6,7 +6,7 @@ use mathlib.Core.List.{List, [], _∷_}
 use mathlib.Core.Option.{Option, none, some}
 use native.Mathlib.Numerals.{add-one}
 use native.Mathlib.Omega.{arith}
-use borrow.Author.Tests.{eqb-true, eqb-false}
+use borrow.Author.Tests.{eqb-true, eqb-false, lt-ltb, le-ltb}
 use lib.ListN.{length, drop}
 use Rattle.basis.specs.Choice.{lowest}
 use Rattle.basis.specs.Lists.{all}
@@ -22,10 +22,11 @@ use Rattle.text.proofs.Naming.{place-lt, kindAt, kind-at}
 use Rattle.policy.specs.Answers.{numberOf}
 use Rattle.policy.specs.Checks.{inRange, rises, balances, withLineOf, extended}
 use Rattle.policy.specs.Line.{allowed, countFits, formFits, wordsOf, lineOf}
-use Rattle.policy.specs.Policy.{Policy}
-use Rattle.policy.specs.Read.{Outcome, kindOf, checksOf, checksFor, refusalOf, after, ending, readLines}
+use Rattle.policy.specs.Limits.{textBytes}
+use Rattle.policy.specs.Policy.{Policy, blank}
+use Rattle.policy.specs.Read.{Outcome, kindOf, checksOf, checksFor, refusalOf, after, ending, readLines, readText}
 use Rattle.policy.specs.declared.refusal.Refusal.{Refusal}
-use Rattle.policy.specs.declared.refusal.Refusal.the-variants.{LineFeedMissing, EndMissing}
+use Rattle.policy.specs.declared.refusal.Refusal.the-variants.{TextTooLong, LineFeedMissing, EndMissing}
 use Rattle.policy.proofs.Order.{allowed-order}
 use Rattle.line.specs.Inner.Head.{beforeOf, between, numbersFit, parsedAs}
 use Rattle.line.specs.declared.head.Before.{Before}
@@ -33,7 +34,7 @@ use Rattle.line.specs.declared.head.Before.the-variants.{Start, After}
 use Rattle.line.specs.declared.head.Head.{Head}
 use Rattle.line.specs.declared.head.Head.the-variants.{Line as LineHead, Fault as FaultHead}
 use Rattle.line.proofs.Heads.{head-fault, head-known}
-use Rattle.reader.specs.Inner.Cursor.{fieldsAt, refusalAt, leftBy, left, bareAt, LineAt, Stands, Past, Bare, LookedAt, NextOf, aheadIs}
+use Rattle.reader.specs.Inner.Cursor.{fieldsAt, refusalAt, leftBy, left, bareAt, LineAt, Stands, Past, Bare, Leads, LookedAt, FirstOf, NextOf, aheadIs}
 use Rattle.reader.specs.declared.cursor.Ahead.{Ahead}
 use Rattle.reader.specs.declared.cursor.Ahead.the-variants.{Line, Over, Fault}
 use Rattle.reader.specs.declared.cursor.Cursor.{Cursor}
@@ -152,6 +153,17 @@ module _ (t : List ℕ) (at n : ℕ) (b : Before) (e : ℕ) (f : Found t at line
           order = λ o q. rw (← line-kind k o q) (z .order);
         }
 
+-- ---- the start of a text
+
+module _ (t : List ℕ) (c : Cursor) where
+  pub first-long : textBytes < length t → c ≡ bareAt 0 0 (Fault TextTooLong) → FirstOf t c
+  unfolding readText left
+  first-long h q = rw q (record { left = rw (lt-ltb textBytes (length t) h); stands = λ k z. absurd (fault-bare TextTooLong k z) })
+
+  pub first-looked : length t ≤ textBytes → LookedAt t 0 0 Start c → FirstOf t c
+  unfolding readText
+  first-looked h l = record { left = rw (le-ltb textBytes (length t) h) (l .left blank); stands = l .stands }
+
 -- ---- the next line
 
 pub next-looked : (t : List ℕ) (c : Cursor) (k : Kind) (d : Cursor) → LookedAt t (c .end + 1) (c .line + 1) (After k) d → NextOf t c k d
@@ -187,6 +199,22 @@ module _ (t : List ℕ) (c : Cursor) (k : Kind) (a : Bool) (o : a ≡ aheadIs (c
 
   pub stop-less : (r : Refusal) → d ≡ bareAt (c .at) (c .line) (Fault r) → toRead t d < toRead t c
   stop-less r q = rw (e, q) (omega arith)
+
+-- ---- from cursor to cursor
+
+module _ (t : List ℕ) where
+  -- nothing is read
+  pub stays : (c : Cursor) (p q : Policy) → p ≡ q → Leads t c p c q
+  stays c p q e = record { left = ap (left t c) e; none = λ b. (e, b) }
+
+  -- a line is
+  pub moves : {c : Cursor} {k : Kind} → c .ahead ≡ Line k → {p : Policy} {d : Cursor} {q : Policy} → left t c p ≡ left t d q → Leads t c p d q
+  moves {k = k} e f = record { left = f; none = λ b. absurd (b k e) }
+
+  -- one behind the other
+  pub leads-on : {c d e : Cursor} {p q r : Policy} → Leads t c p d q → Leads t d q e r → Leads t c p e r
+  leads-on f g =
+      record { left = f .left ∙ g .left; none = λ b. let x = f .none b in let y = g .none (x .1) in (x .0 ∙ y .0, y .1) }
 
 -- ---- the line at the cursor
 

@@ -1,23 +1,18 @@
 -- The lists of a text, one behind the other, make its policy.
-use Prim.Native.Nat.{ℕ, _≤_, _<_}
+use Prim.Native.Nat.{ℕ, _≤_}
 use mathlib.Core.Path.{_≡_, refl, sym, ap, _∙_}
 use mathlib.Core.List.{List, []}
 use native.Mathlib.Omega.{arith}
-use borrow.Author.Tests.{lt-ltb, le-ltb}
-use lib.ListN.{length}
 use Rattle.basis.proofs.Padded.{take-padded}
-use Rattle.text.specs.Kind.{placeOf}
-use Rattle.text.specs.Parts.{lines}
 use Rattle.text.specs.declared.kind.Kind.{Kind}
-use Rattle.text.specs.declared.kind.Kind.the-variants.{Uattr, Oattr, Usen, Osen, User, Object, End}
-use Rattle.policy.specs.Answers.{numberOf, ReadAs, valueIn}
+use Rattle.text.specs.declared.kind.Kind.the-variants.{Uattr, Oattr, Usen, Osen, User, Object}
+use Rattle.policy.specs.Answers.{ReadAs, valueIn}
 use Rattle.policy.specs.Checks.{sideSizes}
-use Rattle.policy.specs.Limits.{textBytes, mostValues, values, userNumbers, objectNumbers}
+use Rattle.policy.specs.Limits.{mostValues, values, userNumbers, objectNumbers}
 use Rattle.policy.specs.Policy.{Side, Policy, blank, total}
-use Rattle.policy.specs.Read.{Refused, start, readLines, readText}
+use Rattle.policy.specs.Read.{readText}
 use Rattle.policy.specs.Value.{widthPlaces, sideValue, register, rulesValue, valueOf}
 use Rattle.policy.specs.declared.refusal.Refusal.{Refusal}
-use Rattle.policy.specs.declared.value.Reading.{Reading}
 use Rattle.policy.specs.declared.value.Verdict.{Verdict}
 use Rattle.policy.specs.declared.value.Verdict.the-variants.{Accepted as AcceptedText, Refused as RefusedText}
 use Rattle.policy.specs.declared.value.Register.{Register}
@@ -26,16 +21,17 @@ use Rattle.policy.specs.declared.value.SideValue.{SideValue}
 use Rattle.policy.proofs.Forms.{values-most}
 use Rattle.checks.specs.Inner.{sizesIn}
 use Rattle.checks.specs.declared.side.Shape.{Shape}
-use Rattle.line.specs.declared.head.Before.the-variants.{Start}
-use Rattle.reader.specs.Inner.Cursor.{left, outcomeOf, Past, LookedAt}
-use Rattle.reader.specs.Inner.Lists.{shapeWith, withSides, Sized, WidthsFrom, SenioritiesFrom, EntriesFrom, RulesFrom, FormFrom, SidesFrom}
+use Rattle.reader.specs.Inner.Cursor.{left, outcomeOf, Bare, Leads, FirstOf}
+use Rattle.reader.specs.Inner.Lists.{shapeWith, withSides, Sized, WidthsFrom, SenioritiesFrom, EntriesFrom, RulesFrom, FormFrom, SidesFrom, ListsFrom}
 use Rattle.reader.specs.declared.cursor.Cursor.{Cursor}
 use Rattle.reader.specs.declared.entries.EntriesRead.{EntriesRead}
 use Rattle.reader.specs.declared.form.FormRead.{FormRead}
+use Rattle.reader.specs.declared.lists.ListsRead.{ListsRead}
 use Rattle.reader.specs.declared.rules.RulesRead.{RulesRead}
 use Rattle.reader.specs.declared.seniorities.SenioritiesRead.{SenioritiesRead}
 use Rattle.reader.specs.declared.sides.SidesRead.{SidesRead}
 use Rattle.reader.specs.declared.widths.WidthsRead.{WidthsRead}
+use Rattle.reader.proofs.Cursors.{leads-on}
 use Rattle.reader.proofs.Sections.{user-widths, object-widths, uattr, oattr, user-pairs, object-pairs, usen, osen, users, objects, user, object, rules, rule}
 
 -- ---- a side
@@ -70,7 +66,7 @@ module _ {t : List ℕ} {k : Kind} {c : Cursor} {x : Shape} {r : SenioritiesRead
 
 -- ---- both sides
 
-module _ {t : List ℕ} {c : Cursor} (l : LookedAt t 0 0 Start c) {f : FormRead} (g : FormFrom t c f) {most : ℕ} (m : most ≡ values (f .form)) (h : most ≤ mostValues)
+module _ {t : List ℕ} {c : Cursor} {f : FormRead} (g : FormFrom t c f) {most : ℕ} (m : most ≡ values (f .form)) (h : most ≤ mostValues)
     {u : WidthsRead} (w : WidthsFrom t Uattr most (f .cursor) u) {o : WidthsRead} (v : WidthsFrom t Oattr most (u .cursor) o)
     {a : SenioritiesRead} (p : SenioritiesFrom t Usen (u .shape) (o .cursor) a) {b : SenioritiesRead} (q : SenioritiesFrom t Osen (o .shape) (a .cursor) b) where
   abbrev userSide : Side
@@ -79,21 +75,20 @@ module _ {t : List ℕ} {c : Cursor} (l : LookedAt t 0 0 Start c) {f : FormRead}
   abbrev objectSide : Side
   objectSide = record { widths = v .widths; lines = q .pairs }
 
-  sides-left : readLines start 0 (lines t) ≡ left t (b .cursor) (withSides (f .form) userSide objectSide)
+  sides-lead : Leads t c blank (b .cursor) (withSides (f .form) userSide objectSide)
   unfolding blank user-widths object-widths user-pairs object-pairs usen osen
-  sides-left =
+  sides-lead =
       let form = f .form in
       let us : Side = record { widths = w .widths; lines = [] } in
       let os : Side = record { widths = v .widths; lines = [] } in
       let none : Side = record { widths = []; lines = [] } in
-      l .left blank
-      ∙ g .left blank refl
-      ∙ w .lines .left user-widths (withSides form none none) (record { kind = uattr; most = sym m }) refl
-      ∙ v .lines .left object-widths (withSides form us none) (record { kind = oattr; most = sym m }) refl
-      ∙ p .lines .left user-pairs (withSides form us os) (record { kind = usen; side = shape-sizes us (u .shape) (w .shape) }) refl
-      ∙ q .lines .left object-pairs (withSides form userSide os) (record { kind = osen; side = shape-sizes os (o .shape) (v .shape) }) refl
+      leads-on t (g .leads blank refl)
+      (leads-on t (w .lines .leads user-widths (withSides form none none) (record { kind = uattr; most = sym m }) refl)
+      (leads-on t (v .lines .leads object-widths (withSides form us none) (record { kind = oattr; most = sym m }) refl)
+      (leads-on t (p .lines .leads user-pairs (withSides form us os) (record { kind = usen; side = shape-sizes us (u .shape) (w .shape) }) refl)
+      (q .lines .leads object-pairs (withSides form userSide os) (record { kind = osen; side = shape-sizes os (o .shape) (v .shape) }) refl))))
 
-  pub sides-read : SidesFrom t (record { form = f .form; user = a .side; ushape = u .shape; object = b .side; oshape = o .shape; cursor = b .cursor })
+  pub sides-read : SidesFrom t c (record { form = f .form; user = a .side; ushape = u .shape; object = b .side; oshape = o .shape; cursor = b .cursor })
   sides-read =
       record {
         user = userSide;
@@ -106,7 +101,7 @@ module _ {t : List ℕ} {c : Cursor} (l : LookedAt t 0 0 Start c) {f : FormRead}
         object-sized = widths-sized v h;
         stands = q .lines .stands;
         past = q .lines .past (p .lines .past (v .lines .past (w .lines .past (g .past))));
-        left = sides-left;
+        leads = sides-lead;
       }
 
 -- ---- all lists
@@ -117,51 +112,49 @@ value-made : (p : Policy) (a b : SideValue) (c d : Register) (e : Rules) → a �
 unfolding valueOf
 value-made p a b c d e f g h i j = rw (f, g, h, i, j)
 
-module _ {t : List ℕ} {s : SidesRead} (h : SidesFrom t s)
+module _ {t : List ℕ} {c : Cursor} {s : SidesRead} (h : SidesFrom t c s)
     {e : EntriesRead} (u : EntriesFrom t User userNumbers (s .ushape .total) (s .cursor) e)
     {f : EntriesRead} (o : EntriesFrom t Object objectNumbers (s .oshape .total) (e .cursor) f)
     {r : RulesRead} (l : RulesFrom t (s .form) (s .ushape) (s .oshape) (f .cursor) r) where
-  -- behind the rules only the end line may stand
-  pub lists-past : Past (placeOf End) (r .cursor)
-  lists-past = l .lines .past (o .lines .past (u .lines .past (h .past)))
+  abbrev policyRead : Policy
+  policyRead = record { form = s .form; user = h .user; object = h .object; users = u .entries; objects = o .entries; rules = l .list }
 
-  abbrev policy : Policy
-  policy = record { form = s .form; user = h .user; object = h .object; users = u .entries; objects = o .entries; rules = l .list }
-
-  lists-left : readLines start 0 (lines t) ≡ left t (r .cursor) policy
+  lists-lead : Leads t c blank (r .cursor) policyRead
   unfolding users objects rules user object
-  lists-left =
+  lists-lead =
       let p = withSides (s .form) (h .user) (h .object) in
       let q : Policy = record { form = s .form; user = h .user; object = h .object; users = u .entries; objects = []; rules = [] } in
       let v : Policy = record { form = s .form; user = h .user; object = h .object; users = u .entries; objects = o .entries; rules = [] } in
-      h .left
-      ∙ u .lines .left users p (record { kind = user; total = shape-total (h .user) (s .ushape) (h .user-shape) }) refl
-      ∙ o .lines .left objects q (record { kind = object; total = shape-total (h .object) (s .oshape) (h .object-shape) }) refl
-      ∙ l .lines .left rules v
-      (record { kind = rule; form = refl; sizes = rw (shape-sizes (h .user) (s .ushape) (h .user-shape), shape-sizes (h .object) (s .oshape) (h .object-shape)) }) refl
+      leads-on t (h .leads)
+      (leads-on t (u .lines .leads users p (record { kind = user; total = shape-total (h .user) (s .ushape) (h .user-shape) }) refl)
+      (leads-on t (o .lines .leads objects q (record { kind = object; total = shape-total (h .object) (s .oshape) (h .object-shape) }) refl)
+      (l .lines .leads rules v
+      (record { kind = rule; form = refl; sizes = rw (shape-sizes (h .user) (s .ushape) (h .user-shape), shape-sizes (h .object) (s .oshape) (h .object-shape)) }) refl)))
 
-  -- the answer by what is said behind the lists
-  module _ (y : Verdict) (z : (p : Policy) → left t (r .cursor) p ≡ outcomeOf y p) where
-    pub lists-refused : (w : Refusal) (n : ℕ) → y ≡ RefusedText w n → (x : Reading) → ReadAs (Refused (numberOf w) n) x → ReadAs (readLines start 0 (lines t)) x
-    lists-refused w n q x g = rw (lists-left, z policy, q) g
-
-    pub lists-read : y ≡ AcceptedText
-        → ReadAs (readLines start 0 (lines t)) (record { verdict = AcceptedText; policy = record { form = s .form; user = s .user; object = s .object; users = e .register; objects = f .register; rules = r .rules } })
-    unfolding valueIn
-    lists-read q =
-        rw (lists-left, z policy, q)
-        (record {
-          verdict = refl;
-          value = value-made policy (s .user) (s .object) (e .register) (f .register) (r .rules) (h .user-value) (h .object-value) (u .register) (o .register) (l .rules);
-        })
+  pub lists-read : ListsFrom t c
+      (record { policy = record { form = s .form; user = s .user; object = s .object; users = e .register; objects = f .register; rules = r .rules }; cursor = r .cursor })
+  lists-read =
+      record {
+        policy = policyRead;
+        value = value-made policyRead (s .user) (s .object) (e .register) (f .register) (r .rules) (h .user-value) (h .object-value) (u .register) (o .register) (l .rules);
+        stands = l .lines .stands;
+        -- behind the rules only the end line may stand
+        past = l .lines .past (o .lines .past (u .lines .past (h .past)));
+        leads = lists-lead;
+      }
 
 -- ---- the text
 
-module _ (t : List ℕ) (x : Reading) where
-  pub text-long : textBytes < length t → ReadAs (Refused 1 0) x → ReadAs (readText t) x
-  unfolding readText
-  text-long h a = rw (lt-ltb textBytes (length t) h) a
+module _ {t : List ℕ} {c : Cursor} (f : FirstOf t c) {r : ListsRead} (l : ListsFrom t c r) (d : Cursor) (e : ((p : Policy) → left t (r .cursor) p ≡ left t d p) × Bare d)
+    (v : Verdict) (s : (t : List ℕ) (p : Policy) → left t d p ≡ outcomeOf v p) where
+  outcome : readText t ≡ outcomeOf v (l .policy)
+  outcome = f .left ∙ l .leads .left ∙ e .0 (l .policy) ∙ s t (l .policy)
 
-  pub text-read : length t ≤ textBytes → ReadAs (readLines start 0 (lines t)) x → ReadAs (readText t) x
-  unfolding readText
-  text-read h a = rw (le-ltb textBytes (length t) h) a
+  pub text-read : v ≡ AcceptedText → ReadAs (readText t) (record { verdict = v; policy = r .policy })
+  unfolding valueIn
+  text-read q = rw (outcome, q) (record { verdict = refl; value = l .value })
+
+  -- the lists behind a refusal are blank
+  pub text-refused : (w : Refusal) (n : ℕ) → v ≡ RefusedText w n → {o : ListsRead} → ListsFrom t d o → ReadAs (readText t) (record { verdict = v; policy = o .policy })
+  unfolding valueIn
+  text-refused w n q m = rw (outcome, q) (record { verdict = refl; value = m .value ∙ ap valueOf (sym (m .leads .none (e .1) .0)) })

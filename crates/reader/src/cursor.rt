@@ -2,10 +2,11 @@
 ghost use mathlib.Core.Path.{_≡_};
 ghost use Prim.Native.Nat.{_≤_};
 ghost use lib.ListN.{length};
-ghost use Rattle.reader.specs.Inner.Cursor.{Stands, LookedAt, NextOf, bareAt, aheadIs};
+ghost use Rattle.reader.specs.Inner.Cursor.{Stands, LookedAt, FirstOf, NextOf, bareAt, aheadIs};
 ghost use Rattle.reader.specs.declared.cursor.Ahead.the-variants as ahead;
 use line::head::Before;
 use line::head::Head;
+use policy::limits::TEXT_BYTES;
 use policy::refusal::Refusal;
 use text::kind::Kind;
 use text::number::Numbers;
@@ -59,7 +60,7 @@ fn end_of(text: &[u8], at: usize, n: usize, before: Before) -> Cursor
 }
 
 // The cursor at a place where line n starts.
-pub fn look(text: &[u8], at: usize, n: usize, before: Before) -> Cursor
+fn look(text: &[u8], at: usize, n: usize, before: Before) -> Cursor
     requires { ⌜ (at ≤ length (now text)) × (n ≤ at) ⌝ }
     ensures { λ r. ⌜ LookedAt (now (text .entry)) at n before r ⌝ }
 {
@@ -81,6 +82,16 @@ pub fn look(text: &[u8], at: usize, n: usize, before: Before) -> Cursor
         },
         Head::Fault(r) => bare(at, n, Ahead::Fault(r)),
     }
+}
+
+// The cursor at the start of a text, which is refused where it is too long.
+pub fn first(text: &[u8]) -> Cursor
+    ensures { λ r. ⌜ FirstOf (now (text .entry)) r ⌝ }
+{
+    if TEXT_BYTES < text.len() {
+        return bare(0, 0, Ahead::Fault(Refusal::TextTooLong));
+    }
+    look(text, 0, 0, Before::Start)
 }
 
 // The cursor behind the line of kind k at c.

@@ -6,6 +6,7 @@ ghost use Rattle.reader.specs.Inner.Cursor.{Stands};
 ghost use Rattle.reader.specs.Inner.Lists.{EntriesFrom};
 use crate::cursor::Cursor;
 use policy::refusal::Refusal;
+use policy::value::ENTRY_PLACES;
 use policy::value::Entry;
 use policy::value::Register;
 use text::kind::Kind;
@@ -20,7 +21,8 @@ pub fn read(text: &[u8], cursor: Cursor, kind: Kind, most: u32, total: u32) -> E
     requires { ⌜ Stands (now text) cursor × (most ≤ entryPlaces) × (total ≤ mostValues) ⌝ }
     ensures { λ r. ⌜ EntriesFrom (now (text .entry)) kind most total cursor r ⌝ }
 {
-    let mut register = crate::value::no_entries();
+    let mut entries = [Entry { number: 0, set: 0 }; ENTRY_PLACES];
+    let mut count: usize = 0;
     // The least number that rises above the last.
     let mut least = 0;
     let mut c = cursor;
@@ -29,9 +31,8 @@ pub fn read(text: &[u8], cursor: Cursor, kind: Kind, most: u32, total: u32) -> E
         let set = c.numbers.second;
         if checks::side::entry_fits(most, total, number, set) {
             if least <= number {
-                let i = register.count;
-                register.entries[i] = Entry { number, set };
-                register.count = i + 1;
+                entries[count] = Entry { number, set };
+                count += 1;
                 least = number + 1;
                 c = crate::cursor::next(text, c, kind);
             } else {
@@ -41,6 +42,7 @@ pub fn read(text: &[u8], cursor: Cursor, kind: Kind, most: u32, total: u32) -> E
             c = crate::cursor::stop(c, Refusal::OutOfRange);
         }
     }
+    let register = Register { count, entries };
     EntriesRead {
         register,
         cursor: c,

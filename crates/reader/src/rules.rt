@@ -6,8 +6,13 @@ ghost use Rattle.reader.specs.Inner.Lists.{RulesFrom};
 use crate::cursor::Cursor;
 use checks::side::Shape;
 use line::rule::Fault;
+use policy::value::RULE_PLACES;
+use policy::value::RuleValue;
 use policy::value::Rules;
+use policy::value::Slot;
+use policy::value::WORD_PLACES;
 use text::kind::Kind;
+use words::Word;
 
 pub struct RulesRead {
     pub rules: Rules,
@@ -19,7 +24,13 @@ pub fn read(text: &[u8], cursor: Cursor, form: u32, user: Shape, object: Shape) 
     requires { ⌜ Stands (now text) cursor × (user .attributes ≤ widthPlaces) × (object .attributes ≤ widthPlaces) ⌝ }
     ensures { λ r. ⌜ RulesFrom (now (text .entry)) form user object cursor r ⌝ }
 {
-    let mut rules = crate::value::no_rules();
+    let words = [Slot { word: Word::True }; WORD_PLACES];
+    let mut entries = [RuleValue {
+        action: 0,
+        count: 0,
+        words,
+    }; RULE_PLACES];
+    let mut count: usize = 0;
     // The least action that rises above the last.
     let mut least = 0;
     let mut c = cursor;
@@ -33,12 +44,12 @@ pub fn read(text: &[u8], cursor: Cursor, form: u32, user: Shape, object: Shape) 
             c = crate::cursor::stop(c, r);
         } else {
             let rule = x.rule;
-            let i = rules.count;
-            rules.entries[i] = rule;
-            rules.count = i + 1;
+            entries[count] = rule;
+            count += 1;
             least = action + 1;
             c = crate::cursor::next(text, c, Kind::Rule);
         }
     }
+    let rules = Rules { count, entries };
     RulesRead { rules, cursor: c }
 }

@@ -1,8 +1,8 @@
 // The form of a text, and the user side and the object side.
+ghost use Rattle.reader.specs.Inner.Cursor.{Stands};
 ghost use Rattle.reader.specs.Inner.Lists.{SidesFrom};
 use crate::cursor::Cursor;
 use checks::side::Shape;
-use line::head::Before;
 use policy::value::SideValue;
 use text::kind::Kind;
 
@@ -17,11 +17,11 @@ pub struct SidesRead {
 }
 
 // The lines of the form, the attributes and the seniorities, which a text starts with.
-pub fn read(text: &[u8]) -> SidesRead
-    ensures { λ r. ⌜ SidesFrom (now (text .entry)) r ⌝ }
+pub fn read(text: &[u8], cursor: Cursor) -> SidesRead
+    requires { ⌜ Stands (now text) cursor ⌝ }
+    ensures { λ r. ⌜ SidesFrom (now (text .entry)) cursor r ⌝ }
 {
-    let c = crate::cursor::look(text, 0, 0, Before::Start);
-    let f = crate::form::read(text, c);
+    let f = crate::form::read(text, cursor);
     let c = f.cursor;
     let most = policy::limits::values(f.form);
     let u = crate::widths::read(text, c, Kind::Uattr, most);

@@ -1,7 +1,7 @@
 -- A list stored in an array, blank behind it: what each test of the code says of it. One law for each answer of the
 -- tests of a whole list.
 use Prim.Native.Nat.{ℕ, _≤_, _<_}
-use mathlib.Core.Path.{_≡_, refl, sym, ap, _∙_}
+use mathlib.Core.Path.{_≡_, refl, sym, _∙_}
 use mathlib.Core.Bool.{Bool, true, false, _&&_, and-false}
 use mathlib.Core.List.{List, [], map-map, map-id}
 use mathlib.Core.Option.{none}
@@ -22,15 +22,14 @@ use Rattle.words.specs.declared.Holding.{Holding}
 use Rattle.words.specs.declared.Holding.the-variants.{User, Object}
 use Rattle.words.specs.declared.Comparison.{Comparison}
 use Rattle.words.specs.declared.Comparison.the-variants.{Dominates, Equals}
-use Rattle.policy.specs.Policy.{Side, total}
-use Rattle.policy.specs.Checks.{SideSizes, sideSizes, pairFits, entryFits}
+use Rattle.policy.specs.Checks.{SideSizes}
 use Rattle.policy.specs.Value.{widthPlaces, entryPlaces, wordPlaces, slot, noEntry, noRule, entriesOf, register, ruleValue, ruleOf, linePlaces}
 use Rattle.policy.specs.Valid.{sameLine, sameEntry, sameSlot, sameRegister, sameRule}
 use Rattle.policy.specs.Inner.Sound.{widthsSound}
 use Rattle.policy.specs.declared.value.Entry.{Entry}
 use Rattle.policy.specs.declared.value.RuleValue.{RuleValue}
 use Rattle.policy.proofs.Same.{exact-number, exact-line, exact-entry, exact-slot}
-use Rattle.policy.proofs.Parts.{lineFits, lineAbove, numberFits, numberAbove, lines-rising, entries-rising}
+use Rattle.policy.proofs.Parts.{lineIn, lineAbove, numberIn, numberAbove, lines-rising, entries-rising}
 use Rattle.policy.proofs.Rising.{rising}
 use Rattle.validity.specs.Inner.{holds, widthsValid, linesValid, registerValid}
 
@@ -86,32 +85,25 @@ module _ (most : ℕ) (ws : List ℕ) (n : ℕ) (k : length ws ≡ widthPlaces) 
   unfolding widthsValid
   widths-in h g = rw (le-leb 1 (length (take n ws)) (omega (arith, length-take n ws)), holds-in eqb 0 ws n widthPlaces k (exact-number .self) g)
 
-module _ (s : Side) (ls : List Direct) (n : ℕ) (k : length ls ≡ linePlaces) where
+module _ (s : SideSizes) (ls : List Direct) (n : ℕ) (k : length ls ≡ linePlaces) where
   pub lines-out : linePlaces < n → false ≡ linesValid s ls n
   unfolding linesValid
   lines-out h = rw (holds-out sameLine (direct 0 0) ls n linePlaces k h)
 
-  pub lines-in : n ≤ linePlaces → linesValid s ls n ≡ (all (sameLine (direct 0 0)) (drop n ls) && rising (lineFits s) lineAbove none (take n ls))
+  pub lines-in : n ≤ linePlaces → linesValid s ls n ≡ (all (sameLine (direct 0 0)) (drop n ls) && rising (lineIn s) lineAbove none (take n ls))
   unfolding linesValid
   lines-in h = rw (holds-in sameLine (direct 0 0) ls n linePlaces k (exact-line .self) h, lines-rising s none (take n ls))
 
--- what the code says of a side's sizes holds of each side that has them
-pub pair-for : (z : SideSizes) (v j : ℕ) {b : Bool} → b ≡ pairFits z v j → (s : Side) → z ≡ sideSizes s → b ≡ pairFits (sideSizes s) v j
-pair-for z v j e s p = e ∙ ap (λ (x : SideSizes). pairFits x v j) p
-
-pub entry-for : (most t n set : ℕ) {b : Bool} → b ≡ entryFits most t n set → (s : Side) → t ≡ total s → b ≡ entryFits most (total s) n set
-entry-for most t n set e s p = e ∙ ap (λ (x : ℕ). entryFits most x n set) p
-
-module _ (most : ℕ) (s : Side) (es : List Entry) (n : ℕ) (k : length es ≡ entryPlaces) where
-  pub entries-out : entryPlaces < n → false ≡ registerValid most s (record { count = n; entries = es })
+module _ (most total : ℕ) (es : List Entry) (n : ℕ) (k : length es ≡ entryPlaces) where
+  pub entries-out : entryPlaces < n → false ≡ registerValid most total (record { count = n; entries = es })
   unfolding registerValid sameRegister register entriesOf holds
   entries-out h = rw (holds-out sameEntry noEntry es n entryPlaces k h)
 
   pub entries-in : n ≤ entryPlaces
-      → registerValid most s (record { count = n; entries = es })
-      ≡ (all (sameEntry noEntry) (drop n es) && rising (numberFits most s) numberAbove none (take n es))
+      → registerValid most total (record { count = n; entries = es })
+      ≡ (all (sameEntry noEntry) (drop n es) && rising (numberIn most total) numberAbove none (take n es))
   unfolding registerValid sameRegister register entriesOf holds
-  entries-in h = rw (holds-in sameEntry noEntry es n entryPlaces k (exact-entry .self) h, entries-rising most s none (take n es))
+  entries-in h = rw (holds-in sameEntry noEntry es n entryPlaces k (exact-entry .self) h, entries-rising most total none (take n es))
 
 module _ (x : RuleValue) (k : length (x .words) ≡ wordPlaces) where
   rule-holds : sameRule (ruleValue (ruleOf x)) x ≡ holds sameSlot wordPlaces (slot True) (x .words) (x .count)

@@ -15,8 +15,8 @@ use Rattle.basis.specs.Lists.{all, sum}
 use Rattle.basis.proofs.Bools.{and-left, and-right}
 use Rattle.basis.proofs.Padded.{same-padded, same-map}
 use Rattle.policy.specs.Limits.{isForm, values, actions, userNumbers, objectNumbers, mostWords, mostValues}
-use Rattle.policy.specs.Policy.{Side, Policy, total}
-use Rattle.policy.specs.Checks.{SideSizes, sideSizes, sizes, wordFits, widthsEqual, balanced}
+use Rattle.policy.specs.Policy.{Side, total}
+use Rattle.policy.specs.Checks.{SideSizes, Sizes, sideSizes, sizes, wordFits, widthsEqual, balanced}
 use Rattle.policy.specs.Value.{widthPlaces, wordPlaces, wordsIn, rulePlaces, noRule, register, sideOf, sideValue, entriesOf, ruleOf, ruleValue, rulesOf, rulesValue, policyOf, valueOf}
 use Rattle.policy.specs.Valid.{sameSide, sameRegister, sameRule, sameRules, sameValue, valid}
 use Rattle.policy.specs.Inner.Sound.{widthsSound, sideSound, entriesSound, ruleSound, listsSound, sound}
@@ -30,7 +30,7 @@ use Rattle.policy.proofs.Valid.{valid-sound}
 use Rattle.checks.specs.Inner.{sizesIn, bothIn, shapeOf}
 use Rattle.checks.specs.declared.side.Shape.{Shape}
 use Rattle.checks.proofs.Laws.{shape-sizes}
-use Rattle.validity.specs.Inner.{holds, widthsValid, linesValid, sideValid, registerValid, ShapedBy, ruleValid, rulesValid, SidesValid, listsValid}
+use Rattle.validity.specs.Inner.{holds, widthsValid, linesValid, sideValid, registerValid, ruleValid, rulesValid, SidesValid, listsValid}
 use Rattle.validity.proofs.Rising.{rising-map, rising-all}
 use Rattle.validity.proofs.Widths.{sound-sum}
 
@@ -44,7 +44,7 @@ side-order true true c d true false s = and-false (c && d)
 side-order true true c d true true s = refl
 
 pub side-parts : (most : ℕ) (x : SideValue)
-    → sideValid most x ≡ (widthsValid most (x .widths) (x .attributes) && linesValid (sideOf x) (x .seniority) (x .lines))
+    → sideValid most x ≡ (widthsValid most (x .widths) (x .attributes) && linesValid (sideSizes (sideOf x)) (x .seniority) (x .lines))
 unfolding sideValid sameSide sideValue sideOf sideSound widthsValid linesValid holds
 side-parts most x =
     side-order
@@ -72,13 +72,13 @@ side-small most x k e =
 
 -- ---- a rule
 
-pub rule-is : (p : Policy) (x : RuleValue) → x .count ≤ wordPlaces
-    → ruleSound p (ruleOf x)
-    ≡ (ltb (x .action) (actions (p .form))
-    && (all (wordFits (sizes p)) (wordsIn (x .count) (x .words))
-    && (all (widthsEqual (sizes p)) (wordsIn (x .count) (x .words)) && balanced 0 (wordsIn (x .count) (x .words)))))
+pub rule-is : (n : ℕ) (s : Sizes) (x : RuleValue) → x .count ≤ wordPlaces
+    → ruleSound n s (ruleOf x)
+    ≡ (ltb (x .action) n
+    && (all (wordFits s) (wordsIn (x .count) (x .words))
+    && (all (widthsEqual s) (wordsIn (x .count) (x .words)) && balanced 0 (wordsIn (x .count) (x .words)))))
 unfolding ruleSound ruleOf
-rule-is p x h = rw (le-leb (length (wordsIn (x .count) (x .words))) mostWords (rw length-map (omega (arith, length-take (x .count) (x .words)))))
+rule-is n s x h = rw (le-leb (length (wordsIn (x .count) (x .words))) mostWords (rw length-map (omega (arith, length-take (x .count) (x .words)))))
 
 -- ---- the rules
 
@@ -86,8 +86,8 @@ rules-order : (a b r : Bool) → ((a && b) && r) ≡ (b && (a && r))
 rules-order true b r = refl
 rules-order false b r = sym (and-false b)
 
-module _ (p : Policy) (x : Rules) (k : length (x .entries) ≡ rulePlaces) where
-  pub rules-out : rulePlaces < x .count → false ≡ rulesValid p x
+module _ (n : ℕ) (s : Sizes) (x : Rules) (k : length (x .entries) ≡ rulePlaces) where
+  pub rules-out : rulePlaces < x .count → false ≡ rulesValid n s x
   unfolding rulesValid sameRules rulesValue rulesOf
   rules-out h = rw (length-map, ne-eqb (length (take (x .count) (x .entries))) (x .count) (λ q. omega (arith, length-take (x .count) (x .entries))))
 
@@ -110,15 +110,15 @@ module _ (p : Policy) (x : Rules) (k : length (x .entries) ≡ rulePlaces) where
       )
 
   pub rules-in : x .count ≤ rulePlaces
-      → rulesValid p x ≡ (all (sameRule noRule) (drop (x .count) (x .entries)) && rising (ruleValid p) (λ (b y : RuleValue). ltb (b .action) (y .action)) none (take (x .count) (x .entries)))
+      → rulesValid n s x ≡ (all (sameRule noRule) (drop (x .count) (x .entries)) && rising (ruleValid n s) (λ (b y : RuleValue). ltb (b .action) (y .action)) none (take (x .count) (x .entries)))
   unfolding rulesValid rulesOf ruleOf ruleValid
   rules-in h =
       let zs = take (x .count) (x .entries) in
       rw (
         rules-stored h,
         rules-order (all (λ y. sameRule (ruleValue (ruleOf y)) y) zs),
-        rules-rising p none (map ruleOf zs),
-        rising-map (ruleSound p) actionAbove ruleOf none,
+        rules-rising n s none (map ruleOf zs),
+        rising-map (ruleSound n s) actionAbove ruleOf none,
         rising-all,
       )
 
@@ -137,18 +137,18 @@ module _ {most n : ℕ} {ws : List ℕ} (h : Small most ws n) {u : Shape} (q : u
 
 -- the answers about the lists
 module _ (v : PolicyValue) (u : Shape) (x : sizesIn u ≡ sideSizes (sideOf (v .user)))
-    {a : Bool} (f : (s : Side) → u .total ≡ total s → a ≡ registerValid userNumbers s (v .users)) where
-  users-are : a ≡ registerValid userNumbers (sideOf (v .user)) (v .users)
-  users-are = f (sideOf (v .user)) (ap (λ (z : SideSizes). z .values) x)
+    {a : Bool} (f : a ≡ registerValid userNumbers (u .total) (v .users)) where
+  users-are : a ≡ registerValid userNumbers (total (sideOf (v .user))) (v .users)
+  users-are = f ∙ ap (λ (z : SideSizes). registerValid userNumbers (z .values) (v .users)) x
 
   pub users-not : not a ≡ true → false ≡ listsValid v
   unfolding listsValid
   users-not e = rw (← users-are, not-true a e)
 
   module _ (e : not a ≡ false) (o : Shape) (y : sizesIn o ≡ sideSizes (sideOf (v .object)))
-      {b : Bool} (g : (s : Side) → o .total ≡ total s → b ≡ registerValid objectNumbers s (v .objects)) where
-    objects-are : b ≡ registerValid objectNumbers (sideOf (v .object)) (v .objects)
-    objects-are = g (sideOf (v .object)) (ap (λ (z : SideSizes). z .values) y)
+      {b : Bool} (g : b ≡ registerValid objectNumbers (o .total) (v .objects)) where
+    objects-are : b ≡ registerValid objectNumbers (total (sideOf (v .object))) (v .objects)
+    objects-are = g ∙ ap (λ (z : SideSizes). registerValid objectNumbers (z .values) (v .objects)) y
 
     pub objects-not : not b ≡ true → false ≡ listsValid v
     unfolding listsValid
@@ -159,10 +159,9 @@ module _ (v : PolicyValue) (u : Shape) (x : sizesIn u ≡ sideSizes (sideOf (v .
     both-are = ap (λ (z : SideSizes). record { user = z; object = sizesIn o }) x ∙ ap (λ (z : SideSizes). record { user = sideSizes (sideOf (v .user)); object = z }) y
 
     pub rules-left : not b ≡ false → {n : ℕ} {r : Bool} → n ≡ actions (v .form)
-        → ((p : Policy) → ShapedBy n u o p → r ≡ rulesValid p (v .rules)) → r ≡ listsValid v
-    unfolding listsValid policyOf
-    rules-left h q t =
-        rw (← users-are, not-false a e, ← objects-are, not-false b h) (t (policyOf v) (record { actions = q; sizes = both-are }))
+        → r ≡ rulesValid n (bothIn u o) (v .rules) → r ≡ listsValid v
+    unfolding listsValid
+    rules-left h q t = rw (← users-are, not-false a e, ← objects-are, not-false b h, ← q, ← both-are) t
 
 value-order : (su so ru ro rr f lu lo ku ko eu eo er : Bool)
     → ((su && (so && (ru && (ro && rr)))) && (f && (lu && (lo && (ku && (ko && (eu && (eo && er))))))))
@@ -193,8 +192,8 @@ value-parts v =
     (leb 1 (length (sideOf (v .object) .widths)))
     (sideSound (values (v .form)) (sideOf (v .user)))
     (sideSound (values (v .form)) (sideOf (v .object)))
-    (entriesSound userNumbers (sideOf (v .user)) none (entriesOf (v .users)))
-    (entriesSound objectNumbers (sideOf (v .object)) none (entriesOf (v .objects)))
+    (entriesSound userNumbers (total (sideOf (v .user))) none (entriesOf (v .users)))
+    (entriesSound objectNumbers (total (sideOf (v .object))) none (entriesOf (v .objects)))
     _)
 
 valid-parts : (v : PolicyValue)

@@ -11,8 +11,8 @@ use Rattle.basis.specs.Lists.{same, padded}
 use Rattle.seniority.specs.Seniority.{direct}
 use Rattle.seniority.specs.declared.Direct.{Direct}
 use Rattle.policy.specs.Limits.{values, actions, userNumbers, objectNumbers}
-use Rattle.policy.specs.Policy.{Side, Policy}
-use Rattle.policy.specs.Checks.{sizes}
+use Rattle.policy.specs.Policy.{total}
+use Rattle.policy.specs.Checks.{SideSizes, Sizes, sizes}
 use Rattle.policy.specs.Value.{widthPlaces, sideValue, register, ruleValue, rulesValue, sideOf, entriesOf, ruleOf, rulesOf, policyOf, linePlaces}
 use Rattle.policy.specs.Valid.{sameLine, sameSide, sameRegister, sameRule, sameRules}
 use Rattle.policy.specs.Inner.Sound.{widthsSound, linesSound, sideSound, entriesSound, ruleSound, rulesSound}
@@ -21,8 +21,6 @@ use Rattle.policy.specs.declared.value.Register.{Register}
 use Rattle.policy.specs.declared.value.RuleValue.{RuleValue}
 use Rattle.policy.specs.declared.value.Rules.{Rules}
 use Rattle.policy.specs.declared.value.PolicyValue.{PolicyValue}
-use Rattle.checks.specs.Inner.{bothIn}
-use Rattle.checks.specs.declared.side.Shape.{Shape}
 
 -- an array of m places holds n elements and is blank behind them
 unfoldable pub holds : {A : Type 0} → (A → A → Bool) → ℕ → A → List A → ℕ → Bool
@@ -33,7 +31,7 @@ holds e m blank xs n = eqb (length (take n xs)) n && same e (padded m blank (tak
 unfoldable pub widthsValid : ℕ → List ℕ → ℕ → Bool
 widthsValid most ws n = holds eqb widthPlaces 0 ws n && (leb 1 (length (take n ws)) && widthsSound most 0 (take n ws))
 
-unfoldable pub linesValid : Side → List Direct → ℕ → Bool
+unfoldable pub linesValid : SideSizes → List Direct → ℕ → Bool
 linesValid s ls n = holds sameLine linePlaces (direct 0 0) ls n && linesSound s none (take n ls)
 
 unfoldable pub sideValid : ℕ → SideValue → Bool
@@ -41,21 +39,18 @@ sideValid most x = sameSide (sideValue (sideOf x)) x && (leb 1 (length (sideOf x
 
 -- ---- users or objects
 
-unfoldable pub registerValid : ℕ → Side → Register → Bool
-registerValid most s x = sameRegister (register (entriesOf x)) x && entriesSound most s none (entriesOf x)
+-- of a side of so many values
+unfoldable pub registerValid : ℕ → ℕ → Register → Bool
+registerValid most total x = sameRegister (register (entriesOf x)) x && entriesSound most total none (entriesOf x)
 
 -- ---- rules
 
--- a policy of so many actions whose sides have these shapes
-pub record ShapedBy (n : ℕ) (u o : Shape) (p : Policy) : Type 0 where
-  pub actions : n ≡ actions (p .form)
-  pub sizes : bothIn u o ≡ sizes p
+-- of n actions and sides of these sizes
+unfoldable pub ruleValid : ℕ → Sizes → RuleValue → Bool
+ruleValid n s x = sameRule (ruleValue (ruleOf x)) x && ruleSound n s (ruleOf x)
 
-unfoldable pub ruleValid : Policy → RuleValue → Bool
-ruleValid p x = sameRule (ruleValue (ruleOf x)) x && ruleSound p (ruleOf x)
-
-unfoldable pub rulesValid : Policy → Rules → Bool
-rulesValid p x = sameRules (rulesValue (rulesOf x)) x && rulesSound p none (rulesOf x)
+unfoldable pub rulesValid : ℕ → Sizes → Rules → Bool
+rulesValid n s x = sameRules (rulesValue (rulesOf x)) x && rulesSound n s none (rulesOf x)
 
 -- ---- the value
 
@@ -65,5 +60,5 @@ pub record SidesValid (v : PolicyValue) : Type 0 where
 
 unfoldable pub listsValid : PolicyValue → Bool
 listsValid v =
-    registerValid userNumbers (sideOf (v .user)) (v .users)
-    && (registerValid objectNumbers (sideOf (v .object)) (v .objects) && rulesValid (policyOf v) (v .rules))
+    registerValid userNumbers (total (sideOf (v .user))) (v .users)
+    && (registerValid objectNumbers (total (sideOf (v .object))) (v .objects) && rulesValid (actions (v .form)) (sizes (policyOf v)) (v .rules))

@@ -2,7 +2,6 @@
 ghost use mathlib.Core.Path.{_≡_};
 ghost use Prim.Native.Nat.{_≤_};
 ghost use Rattle.policy.specs.Limits.{mostValues};
-ghost use Rattle.policy.specs.Policy as policy;
 ghost use Rattle.policy.specs.Value.{noEntry};
 ghost use Rattle.policy.specs.Valid.{sameEntry};
 ghost use Rattle.validity.specs.Inner.{registerValid};
@@ -22,7 +21,7 @@ fn no_entry(e: Entry) -> bool
 // Check 11 of the users or objects: no more than there are places, each sound, and nothing behind the last.
 pub fn register_valid(most: u32, total: u32, x: Register) -> bool
     requires { ⌜ total ≤ mostValues ⌝ }
-    ensures { λ r. ⌜ ((s : policy.Side) → total ≡ policy.total s → r ≡ registerValid most s x) ⌝ }
+    ensures { λ r. ⌜ r ≡ registerValid most total x ⌝ }
 {
     let n = x.count;
     if ENTRY_PLACES < n {

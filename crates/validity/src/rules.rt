@@ -4,11 +4,11 @@ ghost use Prim.Native.Nat.{_≤_};
 ghost use lib.ListN.{drop};
 ghost use Rattle.basis.specs.Lists.{all};
 ghost use Rattle.words.specs.declared.Word.the-variants as word;
-ghost use Rattle.policy.specs.Policy.{Policy};
 ghost use Rattle.policy.specs.Value.{widthPlaces, wordPlaces, slot, noRule, ruleOf};
 ghost use Rattle.policy.specs.Valid.{sameSlot, sameRule};
 ghost use Rattle.policy.specs.Inner.Sound.{ruleSound};
-ghost use Rattle.validity.specs.Inner.{ShapedBy, ruleValid, rulesValid};
+ghost use Rattle.checks.specs.Inner.{bothIn};
+ghost use Rattle.validity.specs.Inner.{ruleValid, rulesValid};
 use checks::side::Shape;
 use policy::value::RULE_PLACES;
 use policy::value::RuleValue;
@@ -50,7 +50,7 @@ fn words_blank(slots: [Slot; WORD_PLACES], n: usize) -> bool
 // A rule's checks, but that it rises.
 fn rule_sound(actions: u32, user: Shape, object: Shape, x: RuleValue) -> bool
     requires { ⌜ (x .count ≤ wordPlaces) × (user .attributes ≤ widthPlaces) × (object .attributes ≤ widthPlaces) ⌝ }
-    ensures { λ r. ⌜ ((p : Policy) → ShapedBy actions user object p → r ≡ ruleSound p (ruleOf x)) ⌝ }
+    ensures { λ r. ⌜ r ≡ ruleSound actions (bothIn user object) (ruleOf x) ⌝ }
 {
     if actions <= x.action {
         return false;
@@ -69,7 +69,7 @@ fn rule_sound(actions: u32, user: Shape, object: Shape, x: RuleValue) -> bool
 // No more words than there are places, a sound rule, and nothing behind the last word.
 fn rule_valid(actions: u32, user: Shape, object: Shape, x: RuleValue) -> bool
     requires { ⌜ (user .attributes ≤ widthPlaces) × (object .attributes ≤ widthPlaces) ⌝ }
-    ensures { λ r. ⌜ ((p : Policy) → ShapedBy actions user object p → r ≡ ruleValid p x) ⌝ }
+    ensures { λ r. ⌜ r ≡ ruleValid actions (bothIn user object) x ⌝ }
 {
     let n = x.count;
     if WORD_PLACES < n {
@@ -98,7 +98,7 @@ fn no_rule(x: RuleValue) -> bool
 // Check 11 of the rules: no more than there are places, each sound, and nothing behind the last.
 pub fn rules_valid(actions: u32, user: Shape, object: Shape, x: Rules) -> bool
     requires { ⌜ (user .attributes ≤ widthPlaces) × (object .attributes ≤ widthPlaces) ⌝ }
-    ensures { λ r. ⌜ ((p : Policy) → ShapedBy actions user object p → r ≡ rulesValid p x) ⌝ }
+    ensures { λ r. ⌜ r ≡ rulesValid actions (bothIn user object) x ⌝ }
 {
     let n = x.count;
     if RULE_PLACES < n {

@@ -2,8 +2,6 @@
 ghost use mathlib.Core.Path.{_≡_};
 ghost use Prim.Native.Nat.{_≤_};
 ghost use Rattle.seniority.specs.Seniority.{direct};
-ghost use Rattle.policy.specs.Policy as policy;
-ghost use Rattle.policy.specs.Checks.{sideSizes};
 ghost use Rattle.policy.specs.Value.{widthPlaces};
 ghost use Rattle.policy.specs.Valid.{sameLine};
 ghost use Rattle.checks.specs.Inner.{sizesIn};
@@ -54,7 +52,7 @@ fn no_line(l: Direct) -> bool
 // No more lines than there are places, each sound, and nothing behind the last.
 fn lines_valid(side: Shape, lines: [Direct; LINE_PLACES], n: usize) -> bool
     requires { ⌜ side .attributes ≤ widthPlaces ⌝ }
-    ensures { λ r. ⌜ ((s : policy.Side) → sizesIn side ≡ sideSizes s → r ≡ linesValid s lines n) ⌝ }
+    ensures { λ r. ⌜ r ≡ linesValid (sizesIn side) lines n ⌝ }
 {
     if LINE_PLACES < n {
         return false;

@@ -11,7 +11,7 @@ use Rattle.basis.specs.Lists.{all}
 use Rattle.seniority.specs.declared.Direct.{Direct}
 use Rattle.policy.specs.Limits.{isForm, values, actions, userNumbers, objectNumbers, mostWords}
 use Rattle.policy.specs.Policy.{Side, Rule, Policy, total}
-use Rattle.policy.specs.Checks.{sideSizes, sizes, widthFits, pairFits, pairAbove, entryFits, wordFits, widthsEqual, balanced}
+use Rattle.policy.specs.Checks.{SideSizes, Sizes, sideSizes, sizes, widthFits, pairFits, pairAbove, entryFits, wordFits, widthsEqual, balanced}
 use Rattle.policy.specs.declared.value.Entry.{Entry}
 
 -- widths after others that sum to n
@@ -20,38 +20,37 @@ widthsSound most n [] = true
 widthsSound most n (w ∷ ws) = widthFits most n w && widthsSound most (n + w) ws
 
 -- lines of a side after another
-unfoldable pub linesSound : Side → Option Direct → List Direct → Bool
+unfoldable pub linesSound : SideSizes → Option Direct → List Direct → Bool
 linesSound s before [] = true
 linesSound s before (l ∷ ls) =
-    pairFits (sideSizes s) (l .senior) (l .junior) && (given before true (pairAbove (l .senior) (l .junior)) && linesSound s (some l) ls)
+    pairFits s (l .senior) (l .junior) && (given before true (pairAbove (l .senior) (l .junior)) && linesSound s (some l) ls)
 
--- users or objects after another
-unfoldable pub entriesSound : ℕ → Side → Option Entry → List Entry → Bool
-entriesSound most s before [] = true
-entriesSound most s before (e ∷ es) =
-    entryFits most (total s) (e .number) (e .set) && (given before true (λ b. ltb (b .number) (e .number)) && entriesSound most s (some e) es)
+-- users or objects of a side of n values after another
+unfoldable pub entriesSound : ℕ → ℕ → Option Entry → List Entry → Bool
+entriesSound most n before [] = true
+entriesSound most n before (e ∷ es) =
+    entryFits most n (e .number) (e .set) && (given before true (λ b. ltb (b .number) (e .number)) && entriesSound most n (some e) es)
 
--- a rule, and rules after another
-unfoldable pub ruleSound : Policy → Rule → Bool
-ruleSound p r =
+-- a rule where there are n actions, and rules after another
+unfoldable pub ruleSound : ℕ → Sizes → Rule → Bool
+ruleSound n s r =
     leb (length (r .words)) mostWords
-    && (ltb (r .action) (actions (p .form))
-    && (all (wordFits (sizes p)) (r .words) && (all (widthsEqual (sizes p)) (r .words) && balanced 0 (r .words))))
+    && (ltb (r .action) n && (all (wordFits s) (r .words) && (all (widthsEqual s) (r .words) && balanced 0 (r .words))))
 
-unfoldable pub rulesSound : Policy → Option Rule → List Rule → Bool
-rulesSound p before [] = true
-rulesSound p before (r ∷ rs) = ruleSound p r && (given before true (λ b. ltb (b .action) (r .action)) && rulesSound p (some r) rs)
+unfoldable pub rulesSound : ℕ → Sizes → Option Rule → List Rule → Bool
+rulesSound n s before [] = true
+rulesSound n s before (r ∷ rs) = ruleSound n s r && (given before true (λ b. ltb (b .action) (r .action)) && rulesSound n s (some r) rs)
 
 unfoldable pub sideSound : ℕ → Side → Bool
-sideSound most s = widthsSound most 0 (s .widths) && linesSound s none (s .lines)
+sideSound most s = widthsSound most 0 (s .widths) && linesSound (sideSizes s) none (s .lines)
 
 -- every list is sound: what holds while a text is read, from the first line on
 unfoldable pub listsSound : Policy → Bool
 listsSound p =
     sideSound (values (p .form)) (p .user)
     && (sideSound (values (p .form)) (p .object)
-    && (entriesSound userNumbers (p .user) none (p .users)
-    && (entriesSound objectNumbers (p .object) none (p .objects) && rulesSound p none (p .rules))))
+    && (entriesSound userNumbers (total (p .user)) none (p .users)
+    && (entriesSound objectNumbers (total (p .object)) none (p .objects) && rulesSound (actions (p .form)) (sizes p) none (p .rules))))
 
 -- and the form and both sides are there: what holds of an accepted text's policy
 unfoldable pub sound : Policy → Bool

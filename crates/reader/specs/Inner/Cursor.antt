@@ -12,8 +12,8 @@ use Rattle.text.specs.declared.kind.Kind.{Kind}
 use Rattle.policy.specs.Answers.{numberOf}
 use Rattle.policy.specs.Checks.{lineInRange, lineRises, lineWidthsEqual, lineBalances, withLineOf}
 use Rattle.policy.specs.Line.{noNumbers, allowed, countFits, formFits, numbersOf, lineOf}
-use Rattle.policy.specs.Policy.{Policy}
-use Rattle.policy.specs.Read.{Outcome, Accepted, Refused, readLines}
+use Rattle.policy.specs.Policy.{Policy, blank}
+use Rattle.policy.specs.Read.{Outcome, Accepted, Refused, readLines, readText}
 use Rattle.policy.specs.declared.value.Verdict.{Verdict}
 use Rattle.policy.specs.declared.value.Verdict.the-variants.{Accepted as AcceptedText, Refused as RefusedText}
 use Rattle.line.specs.Inner.Head.{beforeOf, between, numbersFit}
@@ -78,12 +78,22 @@ Past i c = (k : Kind) → c .ahead ≡ Line k → i ≤ placeOf k
 abbrev pub Bare : Cursor → Type 0
 Bare c = (k : Kind) → c .ahead ≡ Line k → ⊥
 
+-- from c, behind lines that say p, to d, behind lines that say q; where no line is ahead, nothing is read
+pub record Leads (t : List ℕ) (c : Cursor) (p : Policy) (d : Cursor) (q : Policy) : Type 0 where
+  pub left : left t c p ≡ left t d q
+  pub none : Bare c → (p ≡ q) × Bare d
+
 -- the cursor at a place where line n starts
 pub record LookedAt (t : List ℕ) (at n : ℕ) (before : Before) (c : Cursor) : Type 0 where
   pub place : c .at ≡ at
   pub left : (p : Policy) → readLines (record { before = beforeOf before; policy = p }) n (lines (drop at t)) ≡ left t c p
   pub stands : Stands t c
   pub order : (k : Kind) → c .ahead ≡ Line k → allowed (beforeOf before) k ≡ true
+
+-- the cursor at the start of a text
+pub record FirstOf (t : List ℕ) (c : Cursor) : Type 0 where
+  pub left : readText t ≡ left t c blank
+  pub stands : Stands t c
 
 -- the cursor behind a line of kind k
 pub record NextOf (t : List ℕ) (c : Cursor) (k : Kind) (d : Cursor) : Type 0 where

@@ -10,24 +10,23 @@ use Rattle.basis.specs.Lists.{last, sum, padded}
 use Rattle.seniority.specs.Seniority.{direct}
 use Rattle.seniority.specs.declared.Direct.{Direct}
 use Rattle.text.specs.Kind.{layoutOf, placeOf}
-use Rattle.text.specs.Parts.{lines}
 use Rattle.text.specs.declared.kind.Kind.{Kind}
-use Rattle.text.specs.declared.kind.Kind.the-variants.{Policy as PolicyKind, Osen, Rule as RuleKind}
+use Rattle.text.specs.declared.kind.Kind.the-variants.{Policy as PolicyKind, Osen, Rule as RuleKind, End}
 use Rattle.text.specs.declared.kind.Layout.the-variants.{One, Two}
 use Rattle.text.specs.declared.number.Numbers.{Numbers}
 use Rattle.words.specs.declared.Word.{Word}
 use Rattle.policy.specs.Checks.{SideSizes, Sizes, sizes, widthFits, pairFits, pairAbove, entryFits, inRange, rises, withForm, extended}
 use Rattle.policy.specs.Limits.{mostValues, values}
-use Rattle.policy.specs.Policy.{Side, Rule, Policy}
-use Rattle.policy.specs.Read.{start, readLines}
-use Rattle.policy.specs.Value.{widthPlaces, linePlaces, sideValue, register, rulesValue}
+use Rattle.policy.specs.Policy.{Side, Rule, Policy, blank}
+use Rattle.policy.specs.Value.{widthPlaces, linePlaces, sideValue, register, rulesValue, valueOf}
 use Rattle.policy.specs.declared.value.Entry.{Entry}
 use Rattle.checks.specs.Inner.{sizesIn, bothIn}
 use Rattle.checks.specs.declared.side.Shape.{Shape}
-use Rattle.reader.specs.Inner.Cursor.{Stands, Past, left}
+use Rattle.reader.specs.Inner.Cursor.{Stands, Past, Leads}
 use Rattle.reader.specs.declared.cursor.Cursor.{Cursor}
 use Rattle.reader.specs.declared.entries.EntriesRead.{EntriesRead}
 use Rattle.reader.specs.declared.form.FormRead.{FormRead}
+use Rattle.reader.specs.declared.lists.ListsRead.{ListsRead}
 use Rattle.reader.specs.declared.rules.RulesRead.{RulesRead}
 use Rattle.reader.specs.declared.seniorities.SenioritiesRead.{SenioritiesRead}
 use Rattle.reader.specs.declared.sides.SidesRead.{SidesRead}
@@ -49,7 +48,7 @@ pub record Listed (k : Kind) (A : Type 0) : Type 0 where
 pub record ReadBy (t : List ℕ) (k : Kind) {A : Type 0} (Fits : Listed k A → Policy → Type 0) (i : ℕ) (c d : Cursor) (xs : List A) : Type 0 where
   pub stands : Stands t d
   pub past : Past (placeOf k) c → Past i d
-  pub left : (x : Listed k A) (p : Policy) → Fits x p → x .items p ≡ [] → left t c p ≡ left t d (x .with xs p)
+  pub leads : (x : Listed k A) (p : Policy) → Fits x p → x .items p ≡ [] → Leads t c p d (x .with xs p)
 
 -- ---- widths
 
@@ -140,14 +139,14 @@ pub record RulesFrom (t : List ℕ) (form : ℕ) (user object : Shape) (c : Curs
 pub record FormFrom (t : List ℕ) (c : Cursor) (r : FormRead) : Type 0 where
   pub stands : Stands t (r .cursor)
   pub past : Past (suc (placeOf PolicyKind)) (r .cursor)
-  pub left : (p : Policy) → p .form ≡ 0 → left t c p ≡ left t (r .cursor) (withForm (r .form) p)
+  pub leads : (p : Policy) → p .form ≡ 0 → Leads t c p (r .cursor) (withForm (r .form) p)
 
 -- ---- the form and both sides
 
 abbrev pub withSides : ℕ → Side → Side → Policy
 withSides form user object = record { form = form; user = user; object = object; users = []; objects = []; rules = [] }
 
-pub record SidesFrom (t : List ℕ) (r : SidesRead) : Type 0 where
+pub record SidesFrom (t : List ℕ) (c : Cursor) (r : SidesRead) : Type 0 where
   pub user : Side
   pub object : Side
   pub user-value : r .user ≡ sideValue user
@@ -158,4 +157,13 @@ pub record SidesFrom (t : List ℕ) (r : SidesRead) : Type 0 where
   pub object-sized : Sized (r .oshape)
   pub stands : Stands t (r .cursor)
   pub past : Past (suc (placeOf Osen)) (r .cursor)
-  pub left : readLines start 0 (lines t) ≡ left t (r .cursor) (withSides (r .form) user object)
+  pub leads : Leads t c blank (r .cursor) (withSides (r .form) user object)
+
+-- ---- all lists
+
+pub record ListsFrom (t : List ℕ) (c : Cursor) (r : ListsRead) : Type 0 where
+  pub policy : Policy
+  pub value : r .policy ≡ valueOf policy
+  pub stands : Stands t (r .cursor)
+  pub past : Past (placeOf End) (r .cursor)
+  pub leads : Leads t c blank (r .cursor) policy

@@ -1,5 +1,8 @@
 -- `reader::entries::read` meets its contract: what is held stands for the entries read, and each line leaves less.
+use mathlib.Core.Path.{refl}
 use native.Mathlib.Omega.{arith}
+use Rattle.basis.specs.Lists.{padded}
+use Rattle.policy.specs.Value.{register}
 use Rattle.reader.proofs.Cursors.{ahead-there, toRead, next-less, stop-less}
 use Rattle.reader.proofs.EntryLines.{EntriesHeld, no-entries-held, entries-read, entry-small, entry-room, entry-more, entry-level, entry-out}
 use borrow.Author.Needs.{needs}
@@ -7,34 +10,32 @@ use Rattle.reader.proofs.entries.read.Statement.{statement}
 use Rattle.reader.proofs.entries.read.Tie as tie
 
 abbrev Inv-loop : tie.InvT-loop
-Inv-loop text kind most total register₀ least₀ c₀ register least c = EntriesHeld text kind most total c₀ register least c
+Inv-loop text kind most total entries₀ count₀ least₀ c₀ entries count least c = EntriesHeld text kind most total c₀ (record { count = count; entries = entries }) least c
 
 abbrev μ-loop : tie.MeasureT-loop
-μ-loop text kind most total register₀ least₀ c₀ register least c = toRead text c
-
-no-entries-requires : tie.Need-no-entries-requires Inv-loop μ-loop
-no-entries-requires c κs = search needs
+μ-loop text kind most total entries₀ count₀ least₀ c₀ entries count least c = toRead text c
 
 loop-holds : tie.Need-loop-holds Inv-loop μ-loop
-loop-holds c = no-entries-held _ _ _ _ _ _ (c .no-entries .ensures) (c .before .before .pre .0)
+unfolding register padded
+loop-holds c = no-entries-held _ _ _ _ _ _ refl (c .before .pre .0)
 
 is-at-requires : tie.Need-is-at-requires Inv-loop μ-loop
 is-at-requires c κs = search needs
 
 entry-fits-requires : tie.Need-entry-fits-requires Inv-loop μ-loop
-entry-fits-requires c κs = c .before .before .before .before .before .pre .2
+entry-fits-requires c κs = c .before .before .before .before .pre .2
 
-mul-t17 : tie.Need-mul-t17 Inv-loop μ-loop
-mul-t17 c = let h = entry-room (c .before .before .before .before .before .loop .inv) _ _ _ (c .before .before .entry-fits .ensures) (c .before .if2 .taken) (c .if3 .taken) (c .before .before .before .before .before .before .before .before .pre .1) in search needs
+mul-entries : tie.Need-mul-entries Inv-loop μ-loop
+mul-entries c = let h = entry-room (c .before .before .before .before .before .loop .inv) _ _ _ (c .before .before .entry-fits .ensures) (c .before .if2 .taken) (c .if3 .taken) (c .before .before .before .before .before .before .before .pre .1) in search needs
 
-element-set-from-register : tie.Need-element-set-from-register Inv-loop μ-loop
-element-set-from-register c = entry-room (c .before .before .before .before .before .loop .inv) _ _ _ (c .before .before .entry-fits .ensures) (c .before .if2 .taken) (c .if3 .taken) (c .before .before .before .before .before .before .before .before .pre .1)
+array-set-from-entries : tie.Need-array-set-from-entries Inv-loop μ-loop
+array-set-from-entries c = entry-room (c .before .before .before .before .before .loop .inv) _ _ _ (c .before .before .entry-fits .ensures) (c .before .if2 .taken) (c .if3 .taken) (c .before .before .before .before .before .before .before .pre .1)
 
-add-register : tie.Need-add-register Inv-loop μ-loop
-add-register c = let h = entry-room (c .before .before .before .before .before .loop .inv) _ _ _ (c .before .before .entry-fits .ensures) (c .before .if2 .taken) (c .if3 .taken) (c .before .before .before .before .before .before .before .before .pre .1) in search needs
+add-count : tie.Need-add-count Inv-loop μ-loop
+add-count c = let h = entry-room (c .before .before .before .before .before .loop .inv) _ _ _ (c .before .before .entry-fits .ensures) (c .before .if2 .taken) (c .if3 .taken) (c .before .before .before .before .before .before .before .pre .1) in search needs
 
 add-least : tie.Need-add-least Inv-loop μ-loop
-add-least c = let h = entry-small (c .before .before .before .before .before .loop .inv) _ _ _ (c .before .before .entry-fits .ensures) (c .before .if2 .taken) in omega (arith, h, c .before .before .before .before .before .before .before .before .pre .1)
+add-least c = let h = entry-small (c .before .before .before .before .before .loop .inv) _ _ _ (c .before .before .entry-fits .ensures) (c .before .if2 .taken) in omega (arith, h, c .before .before .before .before .before .before .before .pre .1)
 
 next-requires : tie.Need-next-requires Inv-loop μ-loop
 next-requires c κs = (c .before .before .before .before .before .loop .inv .lines .stands, search ahead-there)
@@ -43,7 +44,7 @@ loop-less : tie.Need-loop-less Inv-loop μ-loop
 loop-less c = let s = c .before .before .before .before .before .before .loop .inv .lines .stands in search next-less
 
 loop-again : tie.Need-loop-again Inv-loop μ-loop
-loop-again c = search entry-more
+loop-again c = search (entry-more (c .before .before .before .before .before .before .loop .inv))
 
 stop-requires : tie.Need-stop-requires Inv-loop μ-loop
 stop-requires c κs = search needs
@@ -72,13 +73,12 @@ read-spec =
     (tie.spec
     Inv-loop
     μ-loop
-    no-entries-requires
     loop-holds
     is-at-requires
     entry-fits-requires
-    mul-t17
-    element-set-from-register
-    add-register
+    mul-entries
+    array-set-from-entries
+    add-count
     add-least
     next-requires
     loop-less

@@ -4,9 +4,6 @@ use borrow.Author.Needs.{needs}
 use Rattle.reader.proofs.sides.read.Statement.{statement}
 use Rattle.reader.proofs.sides.read.Tie as tie
 
-look-requires : tie.Need-look-requires
-look-requires c κs = search needs
-
 read-requires : tie.Need-read-requires
 read-requires c κs = search needs
 
@@ -26,13 +23,12 @@ read-requires-5 : tie.Need-read-requires-5
 read-requires-5 c κs = let z = widths-sized (c .before .before .before .before .before .read3 .ensures) (most-small _ _ (c .before .before .before .before .before .before .before .before .before .values .ensures)) in (c .before .before .read4 .ensures .lines .stands, z .attributes, z .total)
 
 returns : tie.Need-returns
-returns c = let a = c .before .before in let b = a .before .before .before .before .before .before in sides-read (b .before .before .before .before .before .before .before .look .ensures) (b .before .before .before .before .before .before .read .ensures) (b .before .before .before .before .values .ensures) (most-small _ _ (b .before .before .before .before .values .ensures)) (b .before .before .before .read2 .ensures) (b .read3 .ensures) (a .before .before .before .read4 .ensures) (a .read5 .ensures)
+returns c = let a = c .before .before in let b = a .before .before .before .before .before .before in sides-read (b .before .before .before .before .before .before .read .ensures) (b .before .before .before .before .values .ensures) (most-small _ _ (b .before .before .before .before .values .ensures)) (b .before .before .before .read2 .ensures) (b .read3 .ensures) (a .before .before .before .read4 .ensures) (a .read5 .ensures)
 
 pub read-spec : {M : Type 1} → statement M
 read-spec =
     tie.close
     (tie.spec
-    look-requires
     read-requires
     values-requires
     read-requires-2

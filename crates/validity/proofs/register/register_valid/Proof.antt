@@ -1,28 +1,26 @@
 -- `validity::register::register_valid` meets its contract: the entries before place i pass and rise, and `blank` says
 -- whether those from place n to i are.
 use Prim.Native.Nat.{_-_}
-use mathlib.Core.Path.{_≡_}
 use borrow.Author.Tests.{not-true, not-false}
 use borrow.Author.Needs.{needs}
 use lib.Dec.{ltb}
 use lib.ListN.{drop}
 use Rattle.basis.specs.Lists.{all}
 use Rattle.basis.proofs.Lists.{long}
-use Rattle.policy.specs.Policy as policy
 use Rattle.policy.specs.Value.{entryPlaces, noEntry}
 use Rattle.policy.specs.Valid.{sameEntry}
 use Rattle.policy.specs.declared.value.Entry.{Entry}
-use Rattle.policy.proofs.Parts.{numberFits}
+use Rattle.policy.proofs.Parts.{numberIn}
 use Rattle.validity.specs.Inner.{registerValid}
 use Rattle.validity.proofs.Blank.{BlankTo, blank-all, blank-more}
 use Rattle.validity.proofs.Rising.{Risen, risen-none, risen-blank, risen-all, risen-unfit, risen-falls, risen-more}
-use Rattle.validity.proofs.Stored.{entries-out, entries-in, entry-for}
+use Rattle.validity.proofs.Stored.{entries-out, entries-in}
 use Rattle.validity.proofs.register.register_valid.Statement.{statement}
 use Rattle.validity.proofs.register.register_valid.Tie as tie
 
 abbrev Inv-loop : tie.InvT-loop
 Inv-loop most total n entries last₀ i₀ last i =
-    Risen (λ s. total ≡ policy.total s) (λ s. registerValid most s (record { count = n; entries = entries })) (sameEntry noEntry) (numberFits most)
+    Risen (registerValid most total (record { count = n; entries = entries })) (sameEntry noEntry) (numberIn most total)
     (λ (e : Entry). e .number) (λ k (e : Entry). ltb k (e .number)) entries entryPlaces n i last
 
 abbrev μ-loop : tie.MeasureT-loop
@@ -35,10 +33,10 @@ abbrev μ-loop2 : tie.MeasureT-loop2
 μ-loop2 most total n entries last i₀ blank₀ i blank = entryPlaces - i
 
 returns : tie.Need-returns Inv-loop μ-loop Inv-loop2 μ-loop2
-returns c = λ s p. entries-out _ s _ _ (search (needs, long)) (c .if1 .taken)
+returns c = entries-out _ _ _ _ (search (needs, long)) (c .if1 .taken)
 
 loop-holds : tie.Need-loop-holds Inv-loop μ-loop Inv-loop2 μ-loop2
-loop-holds c = risen-none (search (needs, long)) (search needs) (λ s. entries-in _ s _ _ (search (needs, long)) (search needs))
+loop-holds c = risen-none (search (needs, long)) (search needs) (entries-in _ _ _ _ (search (needs, long)) (search needs))
 
 mul-e : tie.Need-mul-e Inv-loop μ-loop Inv-loop2 μ-loop2
 mul-e c = search needs
@@ -50,7 +48,7 @@ entry-fits-requires : tie.Need-entry-fits-requires Inv-loop μ-loop Inv-loop2 μ
 entry-fits-requires c κs = search needs
 
 returns-2 : tie.Need-returns-2 Inv-loop μ-loop Inv-loop2 μ-loop2
-returns-2 c = risen-unfit (c .before .before .before .before .loop .inv) noEntry (search needs) (entry-for _ _ _ _ (c .before .entry-fits .ensures)) (not-true _ (c .if2 .taken))
+returns-2 c = risen-unfit (c .before .before .before .before .loop .inv) noEntry (search needs) (c .before .entry-fits .ensures) (not-true _ (c .if2 .taken))
 
 number-rises-requires : tie.Need-number-rises-requires Inv-loop μ-loop Inv-loop2 μ-loop2
 number-rises-requires c κs = search needs
@@ -58,7 +56,7 @@ number-rises-requires c κs = search needs
 returns-3 : tie.Need-returns-3 Inv-loop μ-loop Inv-loop2 μ-loop2
 returns-3 c =
     risen-falls (c .before .before .before .before .before .before .loop .inv) noEntry (search needs)
-    (entry-for _ _ _ _ (c .before .before .before .entry-fits .ensures)) (not-false _ (c .before .before .if2 .left)) (c .before .number-rises .ensures) (not-true _ (c .if3 .taken))
+    (c .before .before .before .entry-fits .ensures) (not-false _ (c .before .before .if2 .left)) (c .before .number-rises .ensures) (not-true _ (c .if3 .taken))
 
 add-i : tie.Need-add-i Inv-loop μ-loop Inv-loop2 μ-loop2
 add-i c = search needs
@@ -69,7 +67,7 @@ loop-less c = search needs
 loop-again : tie.Need-loop-again Inv-loop μ-loop Inv-loop2 μ-loop2
 loop-again c =
     risen-more (c .before .before .before .before .before .before .loop .inv) noEntry (search needs)
-    (entry-for _ _ _ _ (c .before .before .before .entry-fits .ensures)) (not-false _ (c .before .before .if2 .left)) (c .before .number-rises .ensures) (not-false _ (c .if3 .left))
+    (c .before .before .before .entry-fits .ensures) (not-false _ (c .before .before .if2 .left)) (c .before .number-rises .ensures) (not-false _ (c .if3 .left))
 
 loop2-holds : tie.Need-loop2-holds Inv-loop μ-loop Inv-loop2 μ-loop2
 loop2-holds c = risen-blank (c .before .loop .inv) (c .loop-test .left)

@@ -10,7 +10,8 @@ use Rattle.basis.proofs.Lists.{long}
 use Rattle.policy.specs.Value.{rulePlaces, noRule}
 use Rattle.policy.specs.Valid.{sameRule}
 use Rattle.policy.specs.declared.value.RuleValue.{RuleValue}
-use Rattle.validity.specs.Inner.{ShapedBy, ruleValid, rulesValid}
+use Rattle.checks.specs.Inner.{bothIn}
+use Rattle.validity.specs.Inner.{ruleValid, rulesValid}
 use Rattle.validity.proofs.Blank.{BlankTo, blank-all, blank-more, emptyRule}
 use Rattle.validity.proofs.Rising.{Risen, risen-none, risen-blank, risen-all, risen-unfit, risen-falls, risen-more}
 use Rattle.validity.proofs.Whole.{rules-out, rules-in}
@@ -19,7 +20,7 @@ use Rattle.validity.proofs.rules.rules_valid.Tie as tie
 
 abbrev Inv-loop : tie.InvT-loop
 Inv-loop actions user object n rules last₀ i₀ last i =
-    Risen (ShapedBy actions user object) (λ p. rulesValid p (record { count = n; entries = rules })) (sameRule noRule) ruleValid
+    Risen (rulesValid actions (bothIn user object) (record { count = n; entries = rules })) (sameRule noRule) (ruleValid actions (bothIn user object))
     (λ (x : RuleValue). x .action) (λ a (x : RuleValue). ltb a (x .action)) rules rulePlaces n i last
 
 abbrev μ-loop : tie.MeasureT-loop
@@ -32,10 +33,10 @@ abbrev μ-loop2 : tie.MeasureT-loop2
 μ-loop2 actions n rules last i₀ blank₀ i blank = rulePlaces - i
 
 returns : tie.Need-returns Inv-loop μ-loop Inv-loop2 μ-loop2
-returns c = λ s p. rules-out s _ (search (needs, long)) (c .if1 .taken)
+returns c = rules-out _ _ _ (search (needs, long)) (c .if1 .taken)
 
 loop-holds : tie.Need-loop-holds Inv-loop μ-loop Inv-loop2 μ-loop2
-loop-holds c = risen-none (search (needs, long)) (search needs) (λ s. rules-in s _ (search (needs, long)) (search needs))
+loop-holds c = risen-none (search (needs, long)) (search needs) (rules-in _ _ _ (search (needs, long)) (search needs))
 
 mul-y : tie.Need-mul-y Inv-loop μ-loop Inv-loop2 μ-loop2
 mul-y c = search needs

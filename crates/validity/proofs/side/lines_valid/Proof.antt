@@ -6,23 +6,21 @@ use borrow.Author.Needs.{needs}
 use lib.ListN.{drop}
 use Rattle.basis.specs.Lists.{all}
 use Rattle.basis.proofs.Lists.{long}
-use mathlib.Core.Path.{_≡_}
-use Rattle.policy.specs.Checks.{sideSizes}
 use Rattle.policy.specs.Value.{linePlaces}
 use Rattle.seniority.specs.Seniority.{direct}
 use Rattle.policy.specs.Valid.{sameLine}
-use Rattle.policy.proofs.Parts.{lineFits, lineAbove}
+use Rattle.policy.proofs.Parts.{lineIn, lineAbove}
 use Rattle.checks.specs.Inner.{sizesIn}
 use Rattle.validity.specs.Inner.{linesValid}
 use Rattle.validity.proofs.Blank.{BlankTo, blank-all, blank-more}
 use Rattle.validity.proofs.Rising.{Risen, risen-none, risen-blank, risen-all, risen-unfit, risen-falls, risen-more}
-use Rattle.validity.proofs.Stored.{lines-out, lines-in, pair-for}
+use Rattle.validity.proofs.Stored.{lines-out, lines-in}
 use Rattle.validity.proofs.side.lines_valid.Statement.{statement}
 use Rattle.validity.proofs.side.lines_valid.Tie as tie
 
 abbrev Inv-loop : tie.InvT-loop
 Inv-loop side n lines last₀ i₀ last i =
-    Risen (λ s. sizesIn side ≡ sideSizes s) (λ s. linesValid s lines n) (sameLine (direct 0 0)) lineFits (λ l. l) lineAbove lines linePlaces n i last
+    Risen (linesValid (sizesIn side) lines n) (sameLine (direct 0 0)) (lineIn (sizesIn side)) (λ l. l) lineAbove lines linePlaces n i last
 
 abbrev μ-loop : tie.MeasureT-loop
 μ-loop side n lines last₀ i₀ last i = n - i
@@ -34,10 +32,10 @@ abbrev μ-loop2 : tie.MeasureT-loop2
 μ-loop2 n lines i₀ blank₀ i blank = linePlaces - i
 
 returns : tie.Need-returns Inv-loop μ-loop Inv-loop2 μ-loop2
-returns c = λ s p. lines-out s _ _ (search (needs, long)) (c .if1 .taken)
+returns c = lines-out _ _ _ (search (needs, long)) (c .if1 .taken)
 
 loop-holds : tie.Need-loop-holds Inv-loop μ-loop Inv-loop2 μ-loop2
-loop-holds c = risen-none (search (needs, long)) (search needs) (λ s. lines-in s _ _ (search (needs, long)) (search needs))
+loop-holds c = risen-none (search (needs, long)) (search needs) (lines-in _ _ _ (search (needs, long)) (search needs))
 
 mul-l : tie.Need-mul-l Inv-loop μ-loop Inv-loop2 μ-loop2
 mul-l c = search needs
@@ -49,7 +47,7 @@ pair-fits-requires : tie.Need-pair-fits-requires Inv-loop μ-loop Inv-loop2 μ-l
 pair-fits-requires c κs = search needs
 
 returns-2 : tie.Need-returns-2 Inv-loop μ-loop Inv-loop2 μ-loop2
-returns-2 c = risen-unfit (c .before .before .before .before .loop .inv) (direct 0 0) (search needs) (pair-for _ _ _ (c .before .pair-fits .ensures)) (not-true _ (c .if2 .taken))
+returns-2 c = risen-unfit (c .before .before .before .before .loop .inv) (direct 0 0) (search needs) (c .before .pair-fits .ensures) (not-true _ (c .if2 .taken))
 
 pair-rises-requires : tie.Need-pair-rises-requires Inv-loop μ-loop Inv-loop2 μ-loop2
 pair-rises-requires c κs = search needs
@@ -57,7 +55,7 @@ pair-rises-requires c κs = search needs
 returns-3 : tie.Need-returns-3 Inv-loop μ-loop Inv-loop2 μ-loop2
 returns-3 c =
     risen-falls (c .before .before .before .before .before .before .loop .inv) (direct 0 0) (search needs)
-    (pair-for _ _ _ (c .before .before .before .pair-fits .ensures)) (not-false _ (c .before .before .if2 .left)) (c .before .pair-rises .ensures) (not-true _ (c .if3 .taken))
+    (c .before .before .before .pair-fits .ensures) (not-false _ (c .before .before .if2 .left)) (c .before .pair-rises .ensures) (not-true _ (c .if3 .taken))
 
 add-i : tie.Need-add-i Inv-loop μ-loop Inv-loop2 μ-loop2
 add-i c = search needs
@@ -68,7 +66,7 @@ loop-less c = search needs
 loop-again : tie.Need-loop-again Inv-loop μ-loop Inv-loop2 μ-loop2
 loop-again c =
     risen-more (c .before .before .before .before .before .before .loop .inv) (direct 0 0) (search needs)
-    (pair-for _ _ _ (c .before .before .before .pair-fits .ensures)) (not-false _ (c .before .before .if2 .left)) (c .before .pair-rises .ensures) (not-false _ (c .if3 .left))
+    (c .before .before .before .pair-fits .ensures) (not-false _ (c .before .before .if2 .left)) (c .before .pair-rises .ensures) (not-false _ (c .if3 .left))
 
 loop2-holds : tie.Need-loop2-holds Inv-loop μ-loop Inv-loop2 μ-loop2
 loop2-holds c = risen-blank (c .before .loop .inv) (c .loop-test .left)

@@ -1,9 +1,10 @@
 -- `validity::side::side_valid` meets its contract: by its widths, and then by its lines.
-use mathlib.Core.Path.{refl, sym, _∙_}
+use mathlib.Core.Path.{refl, sym, ap, _∙_}
 use native.Mathlib.Omega.{arith}
 use borrow.Author.Tests.{not-true, not-false}
 use borrow.Author.Needs.{needs}
 use Rattle.policy.specs.Value.{sideOf}
+use Rattle.validity.specs.Inner.{linesValid}
 use Rattle.validity.proofs.Whole.{side-parts, widths-small, shape-places, shape-is}
 use Rattle.validity.proofs.side.side_valid.Statement.{statement}
 use Rattle.validity.proofs.side.side_valid.Tie as tie
@@ -37,7 +38,7 @@ returns-2 c =
     let z = c .before .before .before .before .widths-valid in
     let s = widths-small (a .most) (a .x .widths) (a .x .attributes) (search needs) (sym (z .ensures) ∙ not-false (z .result) (c .before .before .before .if1 .left)) in
     rw (side-parts (a .most) (a .x), ← z .ensures, not-false (z .result) (c .before .before .before .if1 .left))
-    (c .lines-valid .ensures (sideOf (a .x)) (shape-is s (c .before .before .measure .ensures) (search needs) (sideOf (a .x)) refl))
+    (c .lines-valid .ensures ∙ ap (λ z. linesValid z (a .x .seniority) (a .x .lines)) (shape-is s (c .before .before .measure .ensures) (search needs) (sideOf (a .x)) refl))
 
 pub side-valid-spec : {M : Type 1} → statement M
 side-valid-spec =

@@ -1,0 +1,28 @@
+-- `reader::lists::read` meets its contract: each list starts where the one before it ends.
+use Rattle.reader.proofs.Whole.{lists-read}
+use borrow.Author.Needs.{needs}
+use Rattle.reader.proofs.lists.read.Statement.{statement}
+use Rattle.reader.proofs.lists.read.Tie as tie
+
+read-requires : tie.Need-read-requires
+read-requires c κs = search needs
+
+read-requires-2 : tie.Need-read-requires-2
+read-requires-2 c κs = search needs
+
+read-requires-3 : tie.Need-read-requires-3
+read-requires-3 c κs = search needs
+
+read-requires-4 : tie.Need-read-requires-4
+read-requires-4 c κs = search needs
+
+returns : tie.Need-returns
+returns c =
+    let r = c .before .before .before .before .before .before in
+    let o = r .before .before in
+    let u = o .before .before in
+    lists-read (u .before .before .before .before .read .ensures) (u .read2 .ensures) (o .read3 .ensures) (r .read4 .ensures)
+
+pub read-spec : {M : Type 1} → statement M
+read-spec =
+    tie.close (tie.spec read-requires read-requires-2 read-requires-3 read-requires-4 returns)
