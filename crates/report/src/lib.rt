@@ -1,79 +1,100 @@
-// The lines that the lister writes, each put at the start of a lent buffer.
+// The report of a text, what the lister writes for it, handed out in chunks.
+ghost use Prim.Native.Nat.{ℕ, _-_, _≤_, _<_};
 ghost use mathlib.Core.Path.{_≡_};
-ghost use Prim.Native.Nat.{_/_, _%_, _^_, _<_, _≤_};
+ghost use mathlib.Core.List.{List};
 ghost use lib.ListN.{length};
-ghost use Rattle.writer.specs.Inner.Put.{Put};
-ghost use Rattle.report.specs.Report.{refusalLine, labelsLine, actionLine};
-ghost use Rattle.report.specs.Inner.{lineRoom, ended, tupleText, Some};
-use writer::line;
+ghost use Rattle.basis.specs.Lists.{over};
+ghost use Rattle.policy.specs.Answers.{ReadAs};
+ghost use Rattle.policy.specs.Read.{Outcome, readText};
+ghost use Rattle.policy.specs.Policy.{Policy};
+ghost use Rattle.report.specs.Report as spec;
+ghost use Rattle.report.specs.Inner.Lines.{ended, firstLine};
+ghost use Rattle.report.specs.Inner.Cursor.{heldBytes, HeldFits, TuplesFit, tuplesLeft, Left, remaining};
 
-// Room for any of these lines: a word of at most 7 bytes, three numbers of at most 10 digits, each after a comma, and a
-// line feed.
-pub const ROOM: usize = 7 + 3 * (10 + 1) + 1;
+mod counts;
+mod cursor;
+mod lines;
 
-// Where the lines put end, and the first tuple whose line is not put.
-pub struct Lines {
-    pub at: usize,
-    pub next: usize,
-}
+pub use cursor::Chunk;
+pub use cursor::Cursor;
 
-// The line of a refused text.
-pub fn refusal_line(number: u32, line: u32, buf: &mut [u8]) -> usize
-    requires { ⌜ lineRoom ≤ length (now buf) ⌝ }
-    ensures { λ r. ⌜ Put (ended (refusalLine number line)) 0 (now (buf .entry)) (now (buf .exit)) r ⌝ }
+use crate::cursor::Held;
+use crate::cursor::Tuples;
+use formula::attributes;
+use formula::blocks;
+use policy::refusal::number_of;
+use policy::value::PolicyValue;
+use policy::value::Reading;
+use policy::value::Verdict;
+use tuples::marks;
+
+// The first line, held back: the numbers of labels, or the refusal.
+fn first_line(reading: Reading) -> Held
+    requires { ⌜ ((t : List ℕ) × ReadAs (readText t) reading) ⌝ }
+    ensures { λ r. ⌜ HeldFits r × ((t : List ℕ) → ReadAs (readText t) reading → heldBytes r ≡ ended (firstLine (readText t))) ⌝ }
 {
-    line::put_two(b"refused", number, line, buf)
-}
-
-// The line of the numbers of labels.
-pub fn labels_line(users: u32, objects: u32, buf: &mut [u8]) -> usize
-    requires { ⌜ lineRoom ≤ length (now buf) ⌝ }
-    ensures { λ r. ⌜ Put (ended (labelsLine users objects)) 0 (now (buf .entry)) (now (buf .exit)) r ⌝ }
-{
-    line::put_two(b"labels", users, objects, buf)
-}
-
-// The line of an action with its number of tuples.
-pub fn action_line(action: u32, count: u32, buf: &mut [u8]) -> usize
-    requires { ⌜ lineRoom ≤ length (now buf) ⌝ }
-    ensures { λ r. ⌜ Put (ended (actionLine action count)) 0 (now (buf .entry)) (now (buf .exit)) r ⌝ }
-{
-    line::put_two(b"action", action, count, buf)
-}
-
-// The user set of a stored tuple, where the object side has `values` values.
-fn user_set(n: u16, values: u32) -> u32
-    requires { ⌜ values < 32 ⌝ }
-    ensures { λ r. ⌜ r ≡ n / 2 ^ values ⌝ }
-{
-    (n as u32) >> values
-}
-
-// Its object set.
-fn object_set(n: u16, values: u32) -> u32
-    requires { ⌜ values < 32 ⌝ }
-    ensures { λ r. ⌜ r ≡ n % 2 ^ values ⌝ }
-{
-    (n as u32) % (1 << values)
-}
-
-// The lines of an action's tuples from `from` on, as long as there is room for a line.
-pub fn tuple_lines(action: u32, values: u32, tuples: &[u16], from: usize, buf: &mut [u8]) -> Lines
-    requires { ⌜ (values < 32) × (from ≤ length (now tuples)) ⌝ }
-    ensures { λ r. ⌜ Some (tupleText action values) (now (tuples .entry)) from (now (buf .entry)) (now (buf .exit)) r ⌝ }
-{
-    let mut at = 0;
-    let mut next = from;
-    while next < tuples.len() {
-        if buf.len() - at < ROOM {
-            return Lines { at, next };
+    let verdict = reading.verdict;
+    let policy = reading.policy;
+    let mut bytes = cursor::blank();
+    match verdict {
+        Verdict::Accepted => {
+            let counts = counts::count_labels(policy);
+            let to = lines::labels_line(counts.users, counts.objects, &mut bytes);
+            Held { from: 0, to, bytes }
         }
-        let n = tuples[next];
-        let user = user_set(n, values);
-        let object = object_set(n, values);
-        let m = line::put_three(b"tuple", action, user, object, &mut buf[at..]);
-        at += m;
-        next += 1;
+        Verdict::Refused(refusal, line) => {
+            let to = lines::refusal_line(number_of(refusal), line as u32, &mut bytes);
+            Held { from: 0, to, bytes }
+        }
     }
-    Lines { at, next }
+}
+
+// The start of a text's report.
+pub fn start(text: &[u8]) -> Cursor
+    ensures { λ r. ⌜ Left r (spec.report (readText (now (text .entry)))) ⌝ }
+{
+    let reading = reader::read(text);
+    let held = first_line(reading);
+    let policy = reading.policy;
+    let user = policy.user;
+    let object = policy.object;
+    let source = blocks::source_of(user, object);
+    let sides = source.sides;
+    let starts = sides.object;
+    let values = attributes::total(starts);
+    let marks = marks::none();
+    let tuples = Tuples {
+        action: 0,
+        values,
+        from: 0,
+        marks,
+    };
+    let rules = policy.rules;
+    Cursor {
+        source,
+        rules,
+        rule: 0,
+        tuples,
+        held,
+    }
+}
+
+// Stores the next chunk of a report at the start of a buffer: as many bytes as it has room for, and fewer only where
+// nothing is left behind them. Says how many they are, and gives the cursor behind them.
+pub fn next(cursor: Cursor, buffer: &mut [u8]) -> Chunk
+    requires { ⌜ ((left : List ℕ) × Left cursor left) ⌝ }
+    ensures { λ r. ⌜ ((left : List ℕ) → Left cursor left → (r .count ≡ length (spec.chunk (length (now (buffer .entry))) left)) × (now (buffer .exit) ≡ over (spec.chunk (length (now (buffer .entry))) left) (now (buffer .entry))) × Left (r .next) (spec.behind (length (now (buffer .entry))) left)) ⌝ }
+    ensures { λ r. ⌜ (0 < r .count → remaining (r .next) < remaining cursor) ⌝ }
+{
+    let mut c = cursor;
+    let mut at: usize = 0;
+    while at < buffer.len() {
+        if cursor::is_over(c) {
+            return Chunk { count: at, next: c };
+        }
+        let s = cursor::step(c, &mut buffer[at..]);
+        at += s.count;
+        c = s.next;
+    }
+    Chunk { count: at, next: c }
 }
