@@ -1,11 +1,10 @@
-// Reads a policy text from standard input and writes its report: the numbers of its labels and the tuples of each rule's
-// action, or the refusal.
+// Reads a policy text from standard input and writes its report: the numbers of its labels and the tuples of each
+// rule's action, or the refusal.
 ghost use Prim.Native.Nat.{_+_};
 ghost use mathlib.Core.Path.{_≡_};
 ghost use lib.ListN.{length};
 ghost use Rattle.policy.specs.Limits.{textBytes};
 ghost use Rattle.lister.specs.Input.{Within};
-
 use libc::STDERR_FILENO;
 use libc::STDIN_FILENO;
 use libc::STDOUT_FILENO;
@@ -20,7 +19,7 @@ fn blank() -> [u8; INPUT]
     [0; INPUT]
 }
 
-// What reading standard input gives: how many bytes there are up to its end or that of the buffer; or it cannot be read.
+// What reading standard input gives: how many bytes there are up to its end or the buffer's; or it cannot be read.
 enum Input {
     Bytes(usize),
     Unreadable,
@@ -48,9 +47,9 @@ fn read(buffer: &mut [u8]) -> Input
 // Writes the report of a text chunk by chunk, up to the first empty one, and says whether all was written.
 fn list(text: &[u8]) -> bool {
     let mut buffer = io::large_buffer();
-    let mut cursor = report::start(text);
+    let mut cursor = report::chunks::start(text);
     loop {
-        let chunk = report::next(cursor, &mut buffer);
+        let chunk = report::chunks::next(cursor, &mut buffer);
         let n = chunk.count;
         if n == 0 {
             return true;
@@ -70,6 +69,9 @@ fn main() {
         return;
     };
     if !list(&text[..n]) {
-        io::write_all(STDERR_FILENO, b"lister: standard output cannot be written\n");
+        io::write_all(
+            STDERR_FILENO,
+            b"lister: standard output cannot be written\n",
+        );
     }
 }

@@ -1,5 +1,5 @@
 -- What remains at a cursor falls with each step.
-use Prim.Native.Nat.{ℕ, _+_, _-_, _*_, _≤_, _<_}
+use Prim.Native.Nat.{ℕ, _+_, _-_, _≤_, _<_}
 use mathlib.Core.List.{List}
 use native.Mathlib.Omega.{arith}
 use Rattle.tuples.specs.Inner.Marks.{mostBlocks}

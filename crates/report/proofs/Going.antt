@@ -1,8 +1,8 @@
 -- The lines of tuples, put one after the other: what is put and the lines from the next number on make the whole.
 use Prim.Native.Nat.{ℕ, _+_, _-_, _≤_, _<_}
-use mathlib.Core.Path.{_≡_, refl, sym, ap, _∙_}
+use mathlib.Core.Path.{_≡_, refl, sym, _∙_}
 use mathlib.Core.Bool.{Bool}
-use mathlib.Core.List.{List, [], _++_, append-assoc, append-nil}
+use mathlib.Core.List.{List, [], _++_, append-assoc}
 use native.Mathlib.Decide.{decLt}
 use native.Mathlib.Omega.{arith}
 use borrow.Rule.Slice.PartMut.{putMid}
@@ -13,7 +13,6 @@ use Rattle.tuples.proofs.From.{passing-none, passing-next, from-low, from-high,
 use Rattle.writer.specs.Inner.Put.{Put, each}
 use Rattle.writer.proofs.Putting.{put-none, put-long, put-next}
 use Rattle.report.specs.Inner.Lines.{lineRoom, Some}
-use Rattle.report.specs.declared.lines.Lines.{Lines}
 use Rattle.report.proofs.Rest.{rest-fits, rest-put}
 
 -- the lines of the numbers from `from` on and before the next one stand in b, which is m now

@@ -2,6 +2,7 @@
 -- out is the next chunk.
 use Prim.Native.Nat.{ℕ, _+_, _-_, _≤_}
 use mathlib.Core.Path.{_≡_, refl, sym, ap, _∙_}
+use mathlib.Core.Bool.{true}
 use mathlib.Core.List.{List, [], _++_, append-assoc, append-nil}
 use native.Mathlib.Omega.{arith}
 use borrow.Rule.Slice.PartMut.{putMid}
@@ -9,12 +10,12 @@ use lib.ListN.{length, take, drop, drop-of-length-le}
 use lib.Seq.{drop-at, take-all, take-at}
 use Rattle.basis.specs.Lists.{over}
 use Rattle.policy.specs.Policy.{Policy}
-use Rattle.writer.specs.Inner.Put.{Put}
 use Rattle.writer.proofs.Putting.{put-none, put-long, put-next}
 use Rattle.report.specs.Report.{chunk, behind}
-use Rattle.report.specs.Inner.Cursor.{leftOf, Standing, Left, Handed, Same}
+use Rattle.report.specs.Inner.Cursor.{leftOf, Standing, Left, isOver, Handed, Same}
 use Rattle.report.specs.declared.cursor.Chunk.{Chunk}
 use Rattle.report.specs.declared.cursor.Cursor.{Cursor}
+use Rattle.report.proofs.Left.{over-none}
 use Rattle.report.proofs.Rest.{rest-fits, rest-put}
 
 abbrev pub upTo : ℕ → Cursor → Chunk
@@ -45,29 +46,43 @@ module _ {p : Policy} {c₀ : Cursor} {b m : List ℕ} {at : ℕ} {c : Cursor} (
           left = x .left ∙ rw (y .left) (sym (append-assoc (x .bytes) (y .bytes) (leftOf p (r .next))));
         }
 
-  -- what was handed out is the next chunk
-  abbrev Answer : List ℕ → Type 0
-  Answer left = (at ≡ length (chunk (length b) left)) × (m ≡ over (chunk (length b) left) b) × Left c (behind (length b) left)
+-- ---- the next chunk
 
-  answer : (left : List ℕ) → chunk (length b) left ≡ x .bytes → behind (length b) left ≡ leftOf p c → Answer left
-  unfolding over
-  answer left e g = (omega (arith, x .put .end, ap length e), rw e (x .put .bytes), (p, x .stands, g))
+-- what `next` answers: the buffer b is m now, and c is the cursor behind the `at` bytes that stand in it
+pub record Answer (left b m : List ℕ) (at : ℕ) (c : Cursor) : Type 0 where
+  pub count : at ≡ length (chunk (length b) left)
+  pub buffer : m ≡ over (chunk (length b) left) b
+  pub next : Left c (behind (length b) left)
 
-  module _ {left : List ℕ} (q : left ≡ leftOf p c₀) where
-    whole : left ≡ x .bytes ++ leftOf p c
-    whole = q ∙ x .left
+module _ {c₀ : Cursor} {b m : List ℕ} {at : ℕ} {c : Cursor} (handed : (p : Policy) → Standing p c₀ → Handed p c₀ b m (upTo at c)) where
+  module _ (left : List ℕ) (l : Left c₀ left) where
+    abbrev x : Handed (l .0) c₀ b m (upTo at c)
+    x = handed (l .0) (l .1)
 
-    -- where the buffer is full
-    pub answer-full : length b ≤ at → Answer left
-    answer-full h =
-        let l : length (x .bytes) ≡ length b = omega (arith, x .put .end, x .put .fits) in
-        answer left (ap (take (length b)) whole ∙ take-at (x .bytes) (leftOf p c) (length b) l)
-        (ap (drop (length b)) whole ∙ drop-at (x .bytes) (leftOf p c) (length b) l)
+    whole : left ≡ x .bytes ++ leftOf (l .0) c
+    whole = l .2 ∙ x .left
 
-    -- and where nothing is left
-    pub answer-over : leftOf p c ≡ [] → Answer left
-    answer-over e =
+    answer : chunk (length b) left ≡ x .bytes → behind (length b) left ≡ leftOf (l .0) c → Answer left b m at c
+    unfolding over
+    answer e g = record { count = omega (arith, x .put .end, ap length e); buffer = rw e (x .put .bytes); next = (l .0, x .stands, g) }
+
+    full : length m ≤ at → Answer left b m at c
+    full h =
+        let k : length (x .bytes) ≡ length b = omega (arith, x .put .end, x .put .fits, put-long (x .put)) in
+        answer (ap (take (length b)) whole ∙ take-at (x .bytes) (leftOf (l .0) c) (length b) k)
+        (ap (drop (length b)) whole ∙ drop-at (x .bytes) (leftOf (l .0) c) (length b) k)
+
+    none : isOver c ≡ true → Answer left b m at c
+    none o =
+        let e : leftOf (l .0) c ≡ [] = over-none (x .stands) o in
         let w : left ≡ x .bytes = whole ∙ rw (e, append-nil) in
-        let l : length (x .bytes) ≤ length b = omega (arith, x .put .end, x .put .fits) in
-        answer left (ap (take (length b)) w ∙ take-all (length b) (x .bytes) l)
-        (ap (drop (length b)) w ∙ drop-of-length-le (x .bytes) {i = length b} l ∙ sym e)
+        let k : length (x .bytes) ≤ length b = omega (arith, x .put .end, x .put .fits) in
+        answer (ap (take (length b)) w ∙ take-all (length b) (x .bytes) k)
+        (ap (drop (length b)) w ∙ drop-of-length-le (x .bytes) {i = length b} k ∙ sym e)
+
+  -- where the buffer is full, and where nothing is left
+  pub answer-full : length m ≤ at → (left : List ℕ) → Left c₀ left → Answer left b m at c
+  answer-full h left l = full left l h
+
+  pub answer-over : isOver c ≡ true → (left : List ℕ) → Left c₀ left → Answer left b m at c
+  answer-over o left l = none left l o

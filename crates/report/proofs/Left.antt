@@ -1,15 +1,15 @@
 -- What is left of a report at a cursor: the bytes held are handed out, lines of tuples are handed out or held, the next
 -- rule's lines come up, and at the end nothing is left.
-use Prim.Native.Nat.{ℕ, suc, _+_, _-_, _*_, _≤_, _<_}
+use Prim.Native.Nat.{ℕ, _+_, _-_, _*_, _≤_, _<_}
 use mathlib.Core.Path.{_≡_, refl, sym, ap, _∙_}
 use mathlib.Core.Bool.{Bool, true, false, cond}
-use mathlib.Core.List.{List, [], _∷_, _++_, append-assoc, append-nil, map}
+use mathlib.Core.List.{List, [], _∷_, _++_, append-assoc, map}
 use native.Mathlib.Numerals.{add-one}
 use native.Mathlib.Omega.{arith}
-use borrow.Author.Tests.{lt-ltb, le-ltb, ltb-false, leb-true, leb-false}
+use borrow.Author.Tests.{le-ltb, ltb-false, leb-true, leb-false}
 use lib.Dec.{leb, ltb}
-use lib.ListN.{length, getD, take, drop, length-map, length-take, List·getD-map, drop-of-length-le}
-use lib.Seq.{drop-cons, drop-drop, getD-take, length-take-le, take-add, take-at}
+use lib.ListN.{length, getD, take, drop, length-take, List·getD-map, drop-of-length-le}
+use lib.Seq.{drop-cons, drop-drop, getD-take, take-add, take-at}
 use Rattle.basis.specs.Lists.{over}
 use Rattle.basis.specs.Numbers.{count, select}
 use Rattle.basis.proofs.Counting.{count-le, length-select}
@@ -27,14 +27,13 @@ use Rattle.tuples.specs.declared.marks.Marks.{Marks}
 use Rattle.tuples.proofs.From.{passing-all, passing-none}
 use Rattle.writer.specs.Inner.Put.{Room, Put, each, feed}
 use Rattle.writer.proofs.Putting.{put-long}
-use Rattle.report.specs.Report.{actionLine, tupleLine, ruleLines, rulesLines}
+use Rattle.report.specs.Report.{actionLine, tupleLine, rulesLines}
 use Rattle.report.specs.Inner.Lines.{lineRoom, ended, tupleText, Some}
-use Rattle.report.specs.Inner.Cursor.{heldBytes, marksEnd, tuplesLeft, rulesLeft, leftOf, HeldFits, TuplesFit, Standing, isOver, Handed, Same}
+use Rattle.report.specs.Inner.Cursor.{heldBytes, marksEnd, tuplesLeft, rulesLeft, leftOf, HeldFits, Standing, isOver, Handed, Same}
 use Rattle.report.specs.declared.lines.Lines.{Lines}
 use Rattle.report.specs.declared.cursor.Chunk.{Chunk}
 use Rattle.report.specs.declared.cursor.Cursor.{Cursor}
 use Rattle.report.specs.declared.cursor.Held.{Held}
-use Rattle.report.specs.declared.cursor.Tuples.{Tuples}
 
 -- a cursor with other bytes held, and one with other tuples
 abbrev pub holding : Cursor → Held → Cursor
@@ -192,8 +191,8 @@ module _ {p : Policy} {c : Cursor} (s : Standing p c) (h : c .rule < c .rules .c
       let es = c .rules .entries in
       let l : c .rule < length (p .rules) = omega (arith, s .stored) in
       let g : getD (p .rules) (c .rule) (ruleOf noWords) ≡ ruleOf (ruleAt (c .rules) (c .rule)) =
-          ap (λ (rs : List Rule). getD rs (c .rule) (ruleOf noWords)) (s .rules)
-          ∙ List·getD-map ruleOf (take n es) (c .rule) noWords ∙ ap ruleOf (getD-take n es (c .rule) noWords h) in
+      ap (λ (rs : List Rule). getD rs (c .rule) (ruleOf noWords)) (s .rules)
+      ∙ List·getD-map ruleOf (take n es) (c .rule) noWords ∙ ap ruleOf (getD-take n es (c .rule) noWords h) in
       drop-cons (p .rules) (c .rule) (ruleOf noWords) l ∙ rw (g, add-one (c .rule))
 
   rule-lines : rulesLeft p (c .rule)
@@ -216,7 +215,7 @@ module _ {p : Policy} {c : Cursor} (s : Standing p c) (h : c .rule < c .rules .c
     unfolding each
     no-tuples =
         let e : passing (marked (c .tuples .marks .words)) (c .tuples .from) (marksEnd (c .tuples)) ≡ [] =
-            passing-none (marked (c .tuples .marks .words)) (c .tuples .from) (marksEnd (c .tuples)) (s .tuples .within) (λ i x z. absurd (omega arith)) in
+        passing-none (marked (c .tuples .marks .words)) (c .tuples .from) (marksEnd (c .tuples)) (s .tuples .within) (λ i x z. absurd (omega arith)) in
         rw e
 
     pub rule-same : Same p c (ruled c action m (heldIn exit r))
@@ -252,7 +251,7 @@ module _ {p : Policy} {c : Cursor} (s : Standing p c) where
       let b : marksEnd (c .tuples) ≤ c .tuples .from = ltb-false (c .tuples .from) (marksEnd (c .tuples)) (t .1) in
       let d : c .rules .count ≤ c .rule = leb-true (c .rules .count) (c .rule) (t .2) in
       let q : passing (marked (c .tuples .marks .words)) (c .tuples .from) (marksEnd (c .tuples)) ≡ [] =
-          passing-none (marked (c .tuples .marks .words)) (c .tuples .from) (marksEnd (c .tuples)) (s .tuples .within) (λ i x z. absurd (omega arith)) in
+      passing-none (marked (c .tuples .marks .words)) (c .tuples .from) (marksEnd (c .tuples)) (s .tuples .within) (λ i x z. absurd (omega arith)) in
       let w : drop (c .rule) (p .rules) ≡ [] = drop-of-length-le (p .rules) {i = c .rule} (omega (arith, s .stored)) in
       rw (held-none (c .held) a, q, w)
 
@@ -271,5 +270,5 @@ pub start-left : (p : Policy) (c : Cursor) {q : Policy} {line : List ℕ} → c 
 unfolding leftOf each
 start-left p c n f i h e =
     let z : passing (marked (c .tuples .marks .words)) (c .tuples .from) (marksEnd (c .tuples)) ≡ [] =
-        passing-none (marked (c .tuples .marks .words)) (c .tuples .from) (marksEnd (c .tuples)) (omega (arith, f)) (λ k x y. absurd (omega (arith, n))) in
+    passing-none (marked (c .tuples .marks .words)) (c .tuples .from) (marksEnd (c .tuples)) (omega (arith, f)) (λ k x y. absurd (omega (arith, n))) in
     rw (z, i, h, e)

@@ -1,5 +1,5 @@
 pub mod Short
-pub mod Chunks
+pub mod Whole
 pub mod Rest
 pub mod Going
 pub mod Left

@@ -1,5 +1,5 @@
 -- `lister::list` meets its contract: a chunk that is not empty lessens what remains of the report.
-use Prim.Native.Nat.{ℕ, _≤_}
+use Prim.Native.Nat.{ℕ}
 use mathlib.Core.Path.{_≡_, sym}
 use mathlib.Core.List.{List}
 use native.Mathlib.Omega.{arith}
@@ -38,8 +38,8 @@ returns c = search needs
 
 array-share-prefix-buffer : tie.Need-array-share-prefix-buffer Inv-loop μ-loop
 array-share-prefix-buffer c =
-    let l = c .before .before .before .before .loop in let x = l .inv .0 in let y = c .before .before .next .ensures .0 (x .0) (x .1) in
-    within (x .0) (l .buffer) (y .1) (y .0)
+    let l = c .before .before .before .before .loop in let x = l .inv .0 in let y = c .before .before .next .ensures in
+    within (x .0) (l .buffer) (y .1 .0 (x .0) (x .1)) (y .0 (x .0) (x .1))
 
 slice-aggregate-write-all : tie.Need-slice-aggregate-write-all Inv-loop μ-loop
 slice-aggregate-write-all c = sym (length-take-le _ _ (array-share-prefix-buffer (c .before)))
@@ -51,12 +51,13 @@ returns-2 : tie.Need-returns-2 Inv-loop μ-loop
 returns-2 c = search needs
 
 loop-less : tie.Need-loop-less Inv-loop μ-loop
-loop-less c = c .before .before .before .before .before .before .next .ensures .1 (omega (arith, c .before .before .before .before .if1 .left))
+loop-less c = c .before .before .before .before .before .before .next .ensures .1 .1 .1 (omega (arith, c .before .before .before .before .if1 .left))
 
 loop-again : tie.Need-loop-again Inv-loop μ-loop
 loop-again c =
-    let l = c .before .before .before .before .before .before .before .before .loop in let x = l .inv .0 in let y = c .before .before .before .before .before .before .next .ensures .0 (x .0) (x .1) in
-    ((behind (length (l .buffer)) (x .0), y .2), omega (arith, same-long (x .0) (l .buffer) (y .1), l .inv), l .inv .2)
+    let l = c .before .before .before .before .before .before .before .before .loop in let x = l .inv .0 in
+    let y = c .before .before .before .before .before .before .next .ensures in
+    ((behind (length (l .buffer)) (x .0), y .1 .1 .0 (x .0) (x .1)), omega (arith, same-long (x .0) (l .buffer) (y .1 .0 (x .0) (x .1)), l .inv), l .inv .2)
 
 pub list-spec : {M : Type 1} → statement M
 list-spec =

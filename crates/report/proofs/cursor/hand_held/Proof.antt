@@ -1,5 +1,4 @@
 -- `report::cursor::hand_held` meets its contract: the bytes handed out and those still held are all that were held.
-use Prim.Native.Nat.{_+_, _-_, _≤_}
 use native.Mathlib.Omega.{arith}
 use borrow.Author.Needs.{needs}
 use Rattle.writer.proofs.Putting.{put-long}
@@ -42,8 +41,7 @@ same-length c = put-long (c .before .before .put .ensures)
 returns : tie.Need-returns
 returns c =
     let s = c .before .before .before .before .before .before .before .before .before .before .before in
-    let k = c .before .before .before .before .before .before .least in
-    (
+    let k = c .before .before .before .before .before .before .least in (
       λ p x. held-handed x (k .result) (k .ensures .0) (c .before .before .put .ensures),
       held-falls (s .args .c) (k .result) (k .ensures .2 (omega (arith, s .pre)) (s .pre .2)) (k .ensures .0),
     )

@@ -1,7 +1,6 @@
 -- `report::cursor::hand_tuples` meets its contract: the lines that are put and those left are all that were left.
 use native.Mathlib.Omega.{arith}
 use mathlib.Core.Path.{refl}
-use borrow.Author.Needs.{needs}
 use Rattle.writer.proofs.Putting.{put-long}
 use Rattle.report.proofs.Left.{tuples-handed}
 use Rattle.report.proofs.Falls.{tuples-fall}
@@ -19,8 +18,7 @@ same-length c = put-long (c .before .before .tuple-lines .ensures .put)
 returns : tie.Need-returns
 returns c =
     let s = c .before .before .before .before .before .before .before .before .before in
-    let y = c .before .before .tuple-lines .ensures in
-    (
+    let y = c .before .before .tuple-lines .ensures in (
       λ p x. tuples-handed x (s .pre .1) y,
       tuples-fall (s .args .c) (c .before .before .tuple-lines .result .next) (y .moves (s .pre .2) (s .pre .3)) (y .high),
       refl,

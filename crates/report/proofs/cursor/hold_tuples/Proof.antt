@@ -21,8 +21,7 @@ returns : tie.Need-returns
 returns c =
     let s = c .before .before .before .before .before in
     let y = c .before .before .hand-tuples .ensures in
-    let l = c .before .before .before .before .blank .ensures in
-    (
+    let l = c .before .before .before .before .blank .ensures in (
       λ p x. handed-held (y .0 p x) l (rw (y .2) (s .pre .1)),
       holding-falls (s .args .c) _ _ _ (y .1) (omega (arith, y .0 (s .pre .0 .0) (s .pre .0 .1) .put .fits, l)),
     )

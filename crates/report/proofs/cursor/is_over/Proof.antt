@@ -1,6 +1,5 @@
 -- `report::cursor::is_over` meets its contract, test by test.
 use native.Mathlib.Omega.{arith}
-use borrow.Author.Needs.{needs}
 use borrow.Author.Tests.{lt-ltb, le-ltb}
 use Rattle.report.specs.Inner.Cursor.{isOver, marksEnd}
 use Rattle.report.proofs.cursor.is_over.Statement.{statement}

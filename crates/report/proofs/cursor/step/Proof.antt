@@ -1,6 +1,5 @@
 -- `report::cursor::step` meets its contract: what is not over is handed out, held or brought up.
 use native.Mathlib.Omega.{arith}
-use borrow.Author.Needs.{needs}
 use Rattle.writer.proofs.Putting.{put-long}
 use Rattle.report.proofs.Left.{rule-left}
 use Rattle.report.proofs.Handing.{handed-same}

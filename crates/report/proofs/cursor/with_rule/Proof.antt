@@ -1,5 +1,4 @@
 -- `report::cursor::with_rule` meets its contract: the lines of the next rule are its action's line and its tuples'.
-use Prim.Native.Nat.{ℕ}
 use native.Mathlib.Omega.{arith}
 use borrow.Author.Needs.{needs}
 use Rattle.policy.specs.Policy.{Policy}
@@ -54,8 +53,7 @@ returns : tie.Need-returns
 returns c =
     let s = c .before .before .before .before .before .before .before .before .before .before .before .before .before .before in
     let y = c .before .before .action-line .ensures in
-    let l = c .before .before .before .before .blank .ensures in
-    (
+    let l = c .before .before .before .before .blank .ensures in (
       λ p x. rule-same x (s .pre .3) (marking (c .before .before .before .before .before) p x) (s .pre .1) (s .pre .2) y l,
       rule-falls (s .args .c) _ (c .before .before .before .before .before .before .before .before .marks .result) _ _ (s .pre .3) (c .before .before .before .before .before .before .before .before .marks .ensures .0) (omega (arith, y .fits, l)),
     )

@@ -10,7 +10,7 @@ slice-aggregate-put-two : tie.Need-slice-aggregate-put-two
 slice-aggregate-put-two c = search needs
 
 put-two-requires : tie.Need-put-two-requires
-put-two-requires c κs = two-room (bytes "labels") (c .before .before .before .args .users) (c .before .before .before .args .objects) (lit≤ tt) (search needs) (search needs) (c .before .before .before .pre)
+put-two-requires c κs = two-room (bytes "labels") _ _ (lit≤ tt) (search needs) (search needs) (c .before .before .before .pre)
 
 same-length : tie.Need-same-length
 same-length c = search needs

@@ -10,7 +10,7 @@ slice-aggregate-put-two : tie.Need-slice-aggregate-put-two
 slice-aggregate-put-two c = search needs
 
 put-two-requires : tie.Need-put-two-requires
-put-two-requires c κs = two-room (bytes "refused") (c .before .before .before .args .number) (c .before .before .before .args .line) (lit≤ tt) (search needs) (search needs) (c .before .before .before .pre)
+put-two-requires c κs = two-room (bytes "refused") _ _ (lit≤ tt) (search needs) (search needs) (c .before .before .before .pre)
 
 same-length : tie.Need-same-length
 same-length c = search needs

@@ -1,6 +1,5 @@
 -- `report::lines::tuple_line` meets its contract: there is room for a line of three numbers.
 use borrow.Author.Needs.{needs}
-use mathlib.Core.Path.{_∙_}
 use lib.Dec.{lit≤}
 use Rattle.basis.specs.Bytes.{bytes}
 use Rattle.report.proofs.Short.{three-is, three-room}

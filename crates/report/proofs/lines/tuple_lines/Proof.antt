@@ -1,6 +1,6 @@
 -- `report::lines::tuple_lines` meets its contract: after each turn the lines of the tuples before the next number are
 -- put.
-use Prim.Native.Nat.{_*_, _-_, _≤_, _<_}
+use Prim.Native.Nat.{_*_, _-_}
 use native.Mathlib.Omega.{arith}
 use borrow.Author.Needs.{needs}
 use Rattle.formula.specs.Inner.Lane.{lanes}
@@ -31,7 +31,7 @@ same-length : tie.Need-same-length Inv-loop μ-loop
 same-length c = put-long (c .before .before .loop .inv .put)
 
 returns : tie.Need-returns Inv-loop μ-loop
-returns c = going-full (c .before .before .loop .inv) (c .if1 .taken)
+returns c = going-full (c .before .before .loop .inv) (omega (arith, c .if1 .taken))
 
 next-requires : tie.Need-next-requires Inv-loop μ-loop
 next-requires c κs = (c .before .before .before .before .pre .1, c .before .loop-test .taken)

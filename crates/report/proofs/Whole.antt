@@ -1,6 +1,6 @@
 -- The chunks of a report in order are the report: whatever the size of the buffer, what was sent and what is left make
 -- the whole, and nothing is left once a chunk is empty.
-use Prim.Native.Nat.{ℕ, zero, suc, _*_, _-_, _≤_, _<_}
+use Prim.Native.Nat.{ℕ, zero, suc, _≤_, _<_}
 use mathlib.Core.Path.{_≡_, refl, sym, ap, _∙_}
 use mathlib.Core.List.{List, [], _∷_, _++_, append-assoc, append-nil}
 use native.Mathlib.Omega.{arith}

@@ -1,15 +1,13 @@
--- `report::start` meets its contract: what is left is the first line and the lines of all rules.
-use mathlib.Core.Path.{_≡_, refl, sym, ap, _∙_}
-use mathlib.Core.List.{append-nil}
+-- `report::chunks::start` meets its contract: what is left is the first line and the lines of all rules.
+use mathlib.Core.Path.{refl, _∙_}
 use native.Mathlib.Omega.{arith}
 use borrow.Author.Needs.{needs}
 use Rattle.policy.specs.Read.{readText}
 use Rattle.policy.specs.Value.{policyOf}
-use Rattle.report.specs.Inner.Cursor.{Standing, leftOf}
 use Rattle.report.proofs.Left.{start-left}
 use Rattle.report.proofs.Reading.{read-fits, read-stored, read-policy, report-is}
-use Rattle.report.proofs.start.Statement.{statement}
-use Rattle.report.proofs.start.Tie as tie
+use Rattle.report.proofs.chunks.start.Statement.{statement}
+use Rattle.report.proofs.chunks.start.Tie as tie
 
 read-requires : tie.Need-read-requires
 read-requires c κs = search needs
@@ -37,8 +35,7 @@ returns c =
     let f = read-fits t (r .ensures) in
     let source = c .before .before .before .before .before .source-of .ensures p refl refl in
     let held = c .before .before .before .before .before .before .before .before .before .first-line .ensures in
-    let none = c .before .none .ensures in
-    (
+    let none = c .before .none .ensures in (
       p,
       record {
         source = source;

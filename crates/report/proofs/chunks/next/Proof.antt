@@ -1,17 +1,16 @@
--- `report::next` meets its contract: what was handed out and what is left at c make the whole, and each step lessens
+-- `report::chunks::next` meets its contract: what was handed out and what is left at c make the whole, and each step lessens
 -- what remains.
-use Prim.Native.Nat.{ℕ, _≤_, _<_}
+use Prim.Native.Nat.{_≤_, _<_}
 use native.Mathlib.Omega.{arith}
 use mathlib.Core.Path.{sym, _∙_}
 use borrow.Author.Needs.{needs}
 use Rattle.policy.specs.Policy.{Policy}
 use Rattle.writer.proofs.Putting.{put-long}
 use Rattle.report.specs.Inner.Cursor.{Standing, Handed, remaining}
-use Rattle.report.proofs.Left.{over-none}
 use Rattle.report.proofs.Rest.{rest-long}
-use Rattle.report.proofs.Handing.{upTo, handed-start, handed-fits, handed-sum, handed-next, answer-full, answer-over}
-use Rattle.report.proofs.next.Statement.{statement}
-use Rattle.report.proofs.next.Tie as tie
+use Rattle.report.proofs.Handing.{upTo, handed-start, handed-sum, handed-next, answer-full, answer-over}
+use Rattle.report.proofs.chunks.next.Statement.{statement}
+use Rattle.report.proofs.chunks.next.Tie as tie
 
 abbrev Inv-loop : tie.InvT-loop
 Inv-loop buffer₀ c₀ at₀ buffer c at =
@@ -37,10 +36,8 @@ same-length c = let i = c .before .before .before .loop .inv in put-long (i .0 (
 returns : tie.Need-returns Inv-loop μ-loop
 returns c =
     let i = c .before .before .before .loop .inv in
-    (
-      (λ left x. let y = i .0 (x .0) (x .1) in answer-over y (x .2) (over-none (y .stands) (sym (c .before .is-over .ensures) ∙ c .if1 .taken))),
-      i .3,
-    )
+    let a = answer-over (i .0) (sym (c .before .is-over .ensures) ∙ c .if1 .taken) in
+    ((λ left l. a left l .count), ((λ left l. a left l .buffer), ((λ left l. a left l .next), i .3)))
 
 sub-step : tie.Need-sub-step Inv-loop μ-loop
 sub-step c = search needs
@@ -66,8 +63,7 @@ loop-less c = c .before .before .before .before .step .ensures .1
 
 loop-again : tie.Need-loop-again Inv-loop μ-loop
 loop-again c =
-    let l = c .before .before .before .before .before .before .before .before .before .loop in let i = l .inv in let s = c .before .before .before .before .step in
-    (
+    let l = c .before .before .before .before .before .before .before .before .before .loop in let i = l .inv in let s = c .before .before .before .before .step in (
       (λ p x. let y = i .0 p x in handed-next y (s .ensures .0 p (y .stands))),
       i .1,
       omega (arith, s .ensures .1, i .2),
@@ -80,10 +76,8 @@ same-length-2 c = let i = c .before .loop .inv in put-long (i .0 (i .1 .0) (i .1
 returns-2 : tie.Need-returns-2 Inv-loop μ-loop
 returns-2 c =
     let i = c .before .loop .inv in
-    (
-      (λ left x. let y = i .0 (x .0) (x .1) in answer-full y (x .2) (omega (arith, c .loop-test .left, put-long (y .put)))),
-      i .3,
-    )
+    let a = answer-full (i .0) (c .loop-test .left) in
+    ((λ left l. a left l .count), ((λ left l. a left l .buffer), ((λ left l. a left l .next), i .3)))
 
 pub next-spec : {M : Type 1} → statement M
 next-spec =

@@ -1,6 +1,5 @@
--- `report::first_line` meets its contract: the line that is held is the first of the text's report.
+-- `report::chunks::first_line` meets its contract: the line that is held is the first of the text's report.
 use mathlib.Core.Path.{ap, _∙_}
-use mathlib.Core.List.{List}
 use Prim.Native.Nat.{ℕ}
 use native.Mathlib.Omega.{arith}
 use borrow.Author.Needs.{needs}
@@ -9,8 +8,8 @@ use Rattle.report.specs.Report.{refusalLine}
 use Rattle.report.specs.Inner.Lines.{ended}
 use Rattle.report.proofs.Left.{held-put, held-fits}
 use Rattle.report.proofs.Reading.{read-valid, read-line, accepted-first, refused-first}
-use Rattle.report.proofs.first_line.Statement.{statement}
-use Rattle.report.proofs.first_line.Tie as tie
+use Rattle.report.proofs.chunks.first_line.Statement.{statement}
+use Rattle.report.proofs.chunks.first_line.Tie as tie
 
 blank-requires : tie.Need-blank-requires
 blank-requires c κs = search needs
@@ -49,8 +48,7 @@ refusal-line-requires c κs = omega (arith, c .before .before .before .before .b
 returns : tie.Need-returns
 returns c =
     let y = c .before .labels-line .ensures in
-    let n = c .before .before .before .count-labels .ensures in
-    (
+    let n = c .before .before .before .count-labels .ensures in (
       held-fits y (c .before .before .before .before .before .before .blank .ensures),
       λ t x. held-put y ∙ ap ended (accepted-first (readText t) x (c .before .before .before .before .enum-told .given .1) (n .0) (n .1)),
     )
@@ -58,8 +56,7 @@ returns c =
 returns-2 : tie.Need-returns-2
 returns-2 c =
     let y = c .before .refusal-line .ensures in
-    let v = c .before .before .before .before .before .verdict in
-    (
+    let v = c .before .before .before .before .before .verdict in (
       held-fits y (c .before .before .before .before .before .before .before .blank .ensures),
       λ t x.
           held-put y
