@@ -1,3 +1,1 @@
-pub mod Answers
-pub mod Rest
-pub mod Rules
+pub mod Sending

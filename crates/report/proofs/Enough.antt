@@ -1,25 +1,21 @@
--- Of a policy value that passes check 11, compiling and listing are not refused in buffers of the most sets, pairs and
--- labels that a policy has: each side has at most as many values as any form allows.
-use Prim.Native.Nat.{ℕ, _+_, _^_, _≤_, _<_}
+-- Of a policy value that passes check 11, compiling is not refused in buffers of the most sets and pairs that a policy
+-- has: each side has at most as many values as any form allows.
+use Prim.Native.Nat.{_≤_}
 use mathlib.Core.Path.{_≡_}
 use mathlib.Core.Bool.{true}
-use mathlib.Core.List.{List}
 use native.Mathlib.Nat.{le-trans, mul-le-mul}
 use native.Mathlib.Omega.{arith}
-use borrow.Author.Tests.{le-ltb, lt-leb}
+use borrow.Author.Tests.{le-ltb}
 use lib.ListN.{length}
-use lib.Pow.{pow-add, pow-mono}
+use lib.Pow.{pow-mono}
 use Rattle.basis.specs.Choice.{gives, lowest}
-use Rattle.basis.specs.Lists.{over}
-use Rattle.basis.proofs.Counting.{count-le, length-select}
-use Rattle.policy.specs.Limits.{actions, mostValues, mostSets, mostPairs}
+use Rattle.policy.specs.Limits.{mostValues, mostSets, mostPairs}
 use Rattle.policy.specs.Policy.{total, sets}
 use Rattle.policy.specs.Value.{policyOf}
 use Rattle.policy.specs.Valid.{valid}
 use Rattle.policy.specs.declared.value.PolicyValue.{PolicyValue}
 use Rattle.policy.proofs.Valid.{valid-parts}
 use Rattle.policy.proofs.Bounds.{total-few}
-use Rattle.tuples.specs.Tuples.{grantsAt, tuples, list, listBuffer}
 use Rattle.labels.specs.Compile.{Buffers, userResult, objectResult, tableResult, NU, NO, compile}
 use Rattle.labels.proofs.Compiling.{NU-le, NO-le, length-userResult, length-objectResult, length-tableResult}
 
@@ -27,7 +23,7 @@ module _ (v : PolicyValue) (e : valid v ≡ true) where
   few-users : total (policyOf v .user) ≤ mostValues
   few-users = total-few (policyOf v .form) (policyOf v .user) (valid-parts v e .user)
 
-  pub few-objects : total (policyOf v .object) ≤ mostValues
+  few-objects : total (policyOf v .object) ≤ mostValues
   few-objects = total-few (policyOf v .form) (policyOf v .object) (valid-parts v e .object)
 
   user-sets : sets (policyOf v .user) ≤ mostSets
@@ -35,30 +31,6 @@ module _ (v : PolicyValue) (e : valid v ≡ true) where
 
   object-sets : sets (policyOf v .object) ≤ mostSets
   object-sets = pow-mono few-objects
-
-  -- ---- listing
-
-  module _ (a : ℕ) where
-    pub tuples-few : length (tuples (policyOf v) a) ≤ mostPairs
-    unfolding tuples
-    tuples-few =
-        rw (length-select (grantsAt (policyOf v) a) (2 ^ (total (policyOf v .user) + total (policyOf v .object))))
-        (le-trans (count-le (grantsAt (policyOf v) a) (2 ^ (total (policyOf v .user) + total (policyOf v .object))))
-        (rw (pow-add 2 (total (policyOf v .user)) (total (policyOf v .object))) (mul-le-mul user-sets object-sets)))
-
-    module _ (buffer : List ℕ) (h : a < actions (policyOf v .form)) (l : mostPairs ≤ length buffer) where
-      fits : length (tuples (policyOf v) a) ≤ length buffer
-      fits = omega (arith, tuples-few)
-
-      pub lists : list v a buffer ≡ gives (length (tuples (policyOf v) a))
-      unfolding list lowest
-      lists = rw (e, lt-leb (actions (policyOf v .form)) a h, le-ltb (length buffer) (length (tuples (policyOf v) a)) fits)
-
-      pub listed-over : listBuffer v a buffer ≡ over (tuples (policyOf v) a) buffer
-      unfolding listBuffer lowest
-      listed-over = rw (e, lt-leb (actions (policyOf v .form)) a h, le-ltb (length buffer) (length (tuples (policyOf v) a)) fits)
-
-  -- ---- compiling
 
   table-few : length (tableResult (policyOf v)) ≤ mostPairs
   table-few =

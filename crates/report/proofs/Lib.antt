@@ -1,4 +1,10 @@
 pub mod Short
-pub mod Tuples
+pub mod Whole
+pub mod Rest
+pub mod Going
+pub mod Left
+pub mod Falls
+pub mod Handing
+pub mod Answers
 pub mod Reading
 pub mod Enough

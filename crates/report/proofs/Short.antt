@@ -1,5 +1,5 @@
 -- Each line of the lister has room: a word of at most 7 bytes, numbers of at most ten digits, and a line feed.
-use Prim.Native.Nat.{ℕ, _+_, _*_, _^_, _≤_, _<_}
+use Prim.Native.Nat.{ℕ, _+_, _^_, _≤_, _<_}
 use mathlib.Core.Path.{_≡_, sym, _∙_}
 use mathlib.Core.List.{List, [], _∷_, _++_, append-assoc, append-nil}
 use native.Mathlib.Omega.{arith}
@@ -10,7 +10,7 @@ use Rattle.text.proofs.RoundTrip.{decimal-short}
 use Rattle.writer.specs.Inner.Put.{Room, each, field, feed, numberField, twoLine, threeLine}
 use Rattle.writer.proofs.Texts.{fields-end}
 use Rattle.report.specs.Report.{lineOf}
-use Rattle.report.specs.Inner.{wordRoom, digitRoom, lineRoom, ended}
+use Rattle.report.specs.Inner.Lines.{wordRoom, digitRoom, lineRoom, ended}
 
 field-short : (n : ℕ) → n < 10 ^ digitRoom → length (numberField n) ≤ digitRoom + 1
 unfolding field
@@ -45,7 +45,7 @@ module _ (word : List ℕ) (a b : ℕ) (w : length word ≤ wordRoom) (ha : a < 
   pub two-room : {buffer : List ℕ} → lineRoom ≤ length buffer → Room (twoLine word a b) 0 buffer
   two-room r = record { fits = omega (arith, two-short) }
 
-  pub three-short : (c : ℕ) → c < 10 ^ digitRoom → length (threeLine word a b c) ≤ lineRoom
+  three-short : (c : ℕ) → c < 10 ^ digitRoom → length (threeLine word a b c) ≤ lineRoom
   unfolding threeLine
   three-short c hc =
       omega (
@@ -58,3 +58,6 @@ module _ (word : List ℕ) (a b : ℕ) (w : length word ≤ wordRoom) (ha : a < 
         field-short b hb,
         field-short c hc,
       )
+
+  pub three-room : (c : ℕ) → c < 10 ^ digitRoom → {buffer : List ℕ} → lineRoom ≤ length buffer → Room (threeLine word a b c) 0 buffer
+  three-room c hc r = record { fits = omega (arith, three-short c hc) }

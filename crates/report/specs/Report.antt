@@ -1,7 +1,7 @@
 -- What the lister writes for a text: document 01, "One text through the lister".
-use Prim.Native.Nat.{ℕ, _/_, _%_, _^_}
+use Prim.Native.Nat.{ℕ, zero, suc, _/_, _%_, _^_}
 use mathlib.Core.List.{List, [], _∷_, _++_, map}
-use lib.ListN.{length}
+use lib.ListN.{length, take, drop}
 use Rattle.basis.specs.Bytes.{bytes}
 use Rattle.text.specs.Number.{decimal}
 use Rattle.text.specs.Parts.{comma, join, textOf}
@@ -44,3 +44,21 @@ rulesLines p (r ∷ rs) = ruleLines p r ++ rulesLines p rs
 unfoldable pub report : Outcome → List ℕ
 report (Accepted p) = textOf (labelsLine (NU p) (NO p) ∷ rulesLines p (p .rules))
 report (Refused n l) = textOf (refusalLine n l ∷ [])
+
+-- ---- in chunks
+
+-- of what is left of a report, the next chunk in a buffer of so many bytes, and what is left behind it
+abbrev pub chunk : ℕ → List ℕ → List ℕ
+chunk size left = take size left
+
+abbrev pub behind : ℕ → List ℕ → List ℕ
+behind size left = drop size left
+
+-- the first n chunks in order, and what is left behind them
+unfoldable pub sent : ℕ → ℕ → List ℕ → List ℕ
+sent size zero left = []
+sent size (suc n) left = chunk size left ++ sent size n (behind size left)
+
+unfoldable pub unsent : ℕ → ℕ → List ℕ → List ℕ
+unsent size zero left = left
+unsent size (suc n) left = unsent size n (behind size left)

@@ -1,79 +1,8 @@
-// The lines that the lister writes, each put at the start of a lent buffer.
-ghost use mathlib.Core.Path.{_≡_};
-ghost use Prim.Native.Nat.{_/_, _%_, _^_, _<_, _≤_};
-ghost use lib.ListN.{length};
-ghost use Rattle.writer.specs.Inner.Put.{Put};
-ghost use Rattle.report.specs.Report.{refusalLine, labelsLine, actionLine};
-ghost use Rattle.report.specs.Inner.{lineRoom, ended, tupleText, Some};
-use writer::line;
+// What the lister writes for a text, its report.
+pub mod chunks;
+mod counts;
+mod cursor;
+mod lines;
 
-// Room for any of these lines: a word of at most 7 bytes, three numbers of at most 10 digits, each after a comma, and a
-// line feed.
-pub const ROOM: usize = 7 + 3 * (10 + 1) + 1;
-
-// Where the lines put end, and the first tuple whose line is not put.
-pub struct Lines {
-    pub at: usize,
-    pub next: usize,
-}
-
-// The line of a refused text.
-pub fn refusal_line(number: u32, line: u32, buf: &mut [u8]) -> usize
-    requires { ⌜ lineRoom ≤ length (now buf) ⌝ }
-    ensures { λ r. ⌜ Put (ended (refusalLine number line)) 0 (now (buf .entry)) (now (buf .exit)) r ⌝ }
-{
-    line::put_two(b"refused", number, line, buf)
-}
-
-// The line of the numbers of labels.
-pub fn labels_line(users: u32, objects: u32, buf: &mut [u8]) -> usize
-    requires { ⌜ lineRoom ≤ length (now buf) ⌝ }
-    ensures { λ r. ⌜ Put (ended (labelsLine users objects)) 0 (now (buf .entry)) (now (buf .exit)) r ⌝ }
-{
-    line::put_two(b"labels", users, objects, buf)
-}
-
-// The line of an action with its number of tuples.
-pub fn action_line(action: u32, count: u32, buf: &mut [u8]) -> usize
-    requires { ⌜ lineRoom ≤ length (now buf) ⌝ }
-    ensures { λ r. ⌜ Put (ended (actionLine action count)) 0 (now (buf .entry)) (now (buf .exit)) r ⌝ }
-{
-    line::put_two(b"action", action, count, buf)
-}
-
-// The user set of a stored tuple, where the object side has `values` values.
-fn user_set(n: u16, values: u32) -> u32
-    requires { ⌜ values < 32 ⌝ }
-    ensures { λ r. ⌜ r ≡ n / 2 ^ values ⌝ }
-{
-    (n as u32) >> values
-}
-
-// Its object set.
-fn object_set(n: u16, values: u32) -> u32
-    requires { ⌜ values < 32 ⌝ }
-    ensures { λ r. ⌜ r ≡ n % 2 ^ values ⌝ }
-{
-    (n as u32) % (1 << values)
-}
-
-// The lines of an action's tuples from `from` on, as long as there is room for a line.
-pub fn tuple_lines(action: u32, values: u32, tuples: &[u16], from: usize, buf: &mut [u8]) -> Lines
-    requires { ⌜ (values < 32) × (from ≤ length (now tuples)) ⌝ }
-    ensures { λ r. ⌜ Some (tupleText action values) (now (tuples .entry)) from (now (buf .entry)) (now (buf .exit)) r ⌝ }
-{
-    let mut at = 0;
-    let mut next = from;
-    while next < tuples.len() {
-        if buf.len() - at < ROOM {
-            return Lines { at, next };
-        }
-        let n = tuples[next];
-        let user = user_set(n, values);
-        let object = object_set(n, values);
-        let m = line::put_three(b"tuple", action, user, object, &mut buf[at..]);
-        at += m;
-        next += 1;
-    }
-    Lines { at, next }
-}
+pub use cursor::Chunk;
+pub use cursor::Cursor;

@@ -5,7 +5,7 @@ ghost use Rattle.writer.specs.Answer.{answerOf};
 use policy::refusal::Refusal;
 use policy::value::PolicyValue;
 
-mod bytes;
+pub mod bytes;
 pub mod line;
 mod lines;
 mod number;

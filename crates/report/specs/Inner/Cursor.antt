@@ -1,0 +1,88 @@
+-- What is left of a report at a cursor.
+use Prim.Native.Nat.{ℕ, _+_, _-_, _*_, _≤_}
+use mathlib.Core.Path.{_≡_}
+use mathlib.Core.Bool.{Bool, false, cond}
+use mathlib.Core.List.{List, _++_}
+use lib.Dec.{leb, ltb}
+use lib.ListN.{length, take, drop}
+use Rattle.text.specs.Parts.{textOf}
+use Rattle.policy.specs.Limits.{mostPairs}
+use Rattle.policy.specs.Policy.{Policy, total}
+use Rattle.policy.specs.Value.{rulesOf}
+use Rattle.formula.specs.Inner.Fits.{RulesFit}
+use Rattle.formula.specs.Inner.Lane.{lanes}
+use Rattle.formula.specs.Inner.Source.{SourceOf}
+use Rattle.tuples.specs.Inner.Marks.{mostBlocks, marked, passing}
+use Rattle.writer.specs.Inner.Put.{Put, each}
+use Rattle.report.specs.Report.{rulesLines}
+use Rattle.report.specs.Inner.Lines.{lineRoom, tupleText}
+use Rattle.report.specs.declared.cursor.Chunk.{Chunk}
+use Rattle.report.specs.declared.cursor.Cursor.{Cursor}
+use Rattle.report.specs.declared.cursor.Held.{Held}
+use Rattle.report.specs.declared.cursor.Tuples.{Tuples}
+
+-- the bytes held back
+abbrev pub heldBytes : Held → List ℕ
+heldBytes h = take (h .to - h .from) (drop (h .from) (h .bytes))
+
+-- the end of the marks, and the lines of the tuples from the next one on
+abbrev pub marksEnd : Tuples → ℕ
+marksEnd t = t .marks .count * lanes
+
+abbrev pub tuplesLeft : Tuples → List ℕ
+tuplesLeft t = each (tupleText (t .action) (t .values)) (passing (marked (t .marks .words)) (t .from) (marksEnd t))
+
+-- the lines of the rules from the next one on
+abbrev pub rulesLeft : Policy → ℕ → List ℕ
+rulesLeft p i = textOf (rulesLines p (drop i (p .rules)))
+
+-- what is left
+unfoldable pub leftOf : Policy → Cursor → List ℕ
+leftOf p c = heldBytes (c .held) ++ (tuplesLeft (c .tuples) ++ rulesLeft p (c .rule))
+
+pub record HeldFits (h : Held) : Type 0 where
+  pub low : h .from ≤ h .to
+  pub high : h .to ≤ length (h .bytes)
+  pub long : length (h .bytes) ≡ lineRoom
+
+pub record TuplesFit (p : Policy) (t : Tuples) : Type 0 where
+  pub values : t .values ≡ total (p .object)
+  pub blocks : t .marks .count ≤ mostBlocks
+  pub within : t .from ≤ marksEnd t
+
+-- the cursor is one of this policy
+pub record Standing (p : Policy) (c : Cursor) : Type 0 where
+  pub source : SourceOf p (c .source)
+  pub rules : p .rules ≡ rulesOf (c .rules)
+  pub stored : length (p .rules) ≡ c .rules .count
+  pub fit : RulesFit (c .rules)
+  pub within : c .rule ≤ c .rules .count
+  pub tuples : TuplesFit p (c .tuples)
+  pub held : HeldFits (c .held)
+
+-- the cursor stands where these bytes of a report are left
+abbrev pub Left : Cursor → List ℕ → Type 0
+Left c left = (p : Policy) × Standing p c × (left ≡ leftOf p c)
+
+-- nothing is left to work out or to hand out
+unfoldable pub isOver : Cursor → Bool
+isOver c = cond (ltb (c .held .from) (c .held .to)) false (cond (ltb (c .tuples .from) (marksEnd (c .tuples))) false (leb (c .rules .count) (c .rule)))
+
+-- a number that falls as a report is handed out: a byte held back counts one, a pair that may be a tuple more than its
+-- line, a rule more than all pairs
+unfoldable pub remaining : Cursor → ℕ
+remaining c =
+    (c .held .to - c .held .from)
+    + (lineRoom + 1) * ((marksEnd (c .tuples) - c .tuples .from) + (1 + mostPairs) * (c .rules .count - c .rule))
+
+-- the first of the bytes that are left at c are put at the start of a buffer, and the answer's cursor is behind them
+pub record Handed (p : Policy) (c : Cursor) (entry exit : List ℕ) (r : Chunk) : Type 0 where
+  pub bytes : List ℕ
+  pub put : Put bytes 0 entry exit (r .count)
+  pub stands : Standing p (r .next)
+  pub left : leftOf p c ≡ bytes ++ leftOf p (r .next)
+
+-- the other cursor has the same left
+pub record Same (p : Policy) (c d : Cursor) : Type 0 where
+  pub stands : Standing p d
+  pub left : leftOf p c ≡ leftOf p d

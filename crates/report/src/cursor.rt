@@ -1,0 +1,205 @@
+// A place in a report: what is left of it from there on, and how that is handed out.
+ghost use Prim.Native.Nat.{_+_, _≤_, _<_};
+ghost use mathlib.Core.Path.{_≡_};
+ghost use mathlib.Core.Bool.{false};
+ghost use lib.ListN.{length};
+ghost use Rattle.policy.specs.Policy.{Policy};
+ghost use Rattle.report.specs.Inner.Lines.{lineRoom};
+ghost use Rattle.report.specs.Inner.Cursor.{Standing, Handed, Same, marksEnd, isOver, remaining};
+use crate::lines;
+use crate::lines::ROOM;
+use formula::blocks::Source;
+use formula::grant;
+use formula::side::LANES;
+use policy::value::Rules;
+use tuples::blocks;
+use tuples::marks;
+use tuples::marks::Marks;
+use writer::bytes;
+
+// Bytes that were worked out and not yet handed out: those from `from` on and before `to`.
+pub struct Held {
+    pub from: usize,
+    pub to: usize,
+    pub bytes: [u8; ROOM],
+}
+
+// The tuples of an action whose lines are left: those marked from `from` on. `values` is that of the object side.
+pub struct Tuples {
+    pub action: u32,
+    pub values: u32,
+    pub from: usize,
+    pub marks: Marks,
+}
+
+// What is left: the bytes held, then the lines of these tuples, then those of the rules from `rule` on.
+pub struct Cursor {
+    pub source: Source,
+    pub rules: Rules,
+    pub rule: usize,
+    pub tuples: Tuples,
+    pub held: Held,
+}
+
+// How many bytes were handed out, and the place behind them.
+pub struct Chunk {
+    pub count: usize,
+    pub next: Cursor,
+}
+
+// Room for a line.
+pub fn blank() -> [u8; ROOM]
+    ensures { λ r. ⌜ lineRoom ≡ length r ⌝ }
+{
+    [0; ROOM]
+}
+
+// Whether nothing is left.
+pub fn is_over(c: Cursor) -> bool
+    requires { ⌜ ((p : Policy) × Standing p c) ⌝ }
+    ensures { λ r. ⌜ r ≡ isOver c ⌝ }
+{
+    let held = c.held;
+    if held.from < held.to {
+        return false;
+    }
+    let tuples = c.tuples;
+    let marks = tuples.marks;
+    if tuples.from < marks.count * LANES {
+        return false;
+    }
+    let rules = c.rules;
+    rules.count <= c.rule
+}
+
+fn least(a: usize, b: usize) -> usize
+    ensures { λ r. ⌜ (r ≤ a) × (r ≤ b) × (0 < a → 0 < b → 0 < r) ⌝ }
+{
+    if a < b { a } else { b }
+}
+
+// As many of the bytes held as the buffer has room for.
+fn hand_held(c: Cursor, buf: &mut [u8]) -> Chunk
+    requires { ⌜ ((p : Policy) × Standing p c) × (c .held .from < c .held .to) × (0 < length (now buf)) ⌝ }
+    ensures { λ r. ⌜ ((p : Policy) → Standing p c → Handed p c (now (buf .entry)) (now (buf .exit)) r) × (remaining (r .next) < remaining c) ⌝ }
+{
+    let held = c.held;
+    let line = held.bytes;
+    let from = held.from;
+    let end = from + least(held.to - from, buf.len());
+    let count = bytes::put(&line[from..end], buf, 0);
+    let rest = Held {
+        from: end,
+        to: held.to,
+        bytes: line,
+    };
+    let mut next = c;
+    next.held = rest;
+    Chunk { count, next }
+}
+
+// The lines of the tuples that are left, as long as there is room for a line.
+fn hand_tuples(c: Cursor, buf: &mut [u8]) -> Chunk
+    requires { ⌜ ((p : Policy) × Standing p c) × (c .held .to ≤ c .held .from) × (c .tuples .from < marksEnd (c .tuples)) × (lineRoom ≤ length (now buf)) ⌝ }
+    ensures { λ r. ⌜ ((p : Policy) → Standing p c → Handed p c (now (buf .entry)) (now (buf .exit)) r) × (remaining (r .next) + lineRoom < remaining c) × (r .next .held ≡ c .held) ⌝ }
+{
+    let tuples = c.tuples;
+    let marks = tuples.marks;
+    let words = marks.words;
+    let lines = lines::tuple_lines(
+        tuples.action,
+        tuples.values,
+        &words,
+        marks.count,
+        tuples.from,
+        buf,
+    );
+    let rest = Tuples {
+        action: tuples.action,
+        values: tuples.values,
+        from: lines.next,
+        marks,
+    };
+    let mut next = c;
+    next.tuples = rest;
+    Chunk {
+        count: lines.at,
+        next,
+    }
+}
+
+// The same, with a line held back for a buffer that has no room for it.
+fn hold_tuples(c: Cursor) -> Cursor
+    requires { ⌜ ((p : Policy) × Standing p c) × (c .held .to ≤ c .held .from) × (c .tuples .from < marksEnd (c .tuples)) ⌝ }
+    ensures { λ r. ⌜ ((p : Policy) → Standing p c → Same p c r) × (remaining r < remaining c) ⌝ }
+{
+    let mut line = blank();
+    let chunk = hand_tuples(c, &mut line);
+    let held = Held {
+        from: 0,
+        to: chunk.count,
+        bytes: line,
+    };
+    let mut next = chunk.next;
+    next.held = held;
+    next
+}
+
+// The tuples of the next rule's action, with the action's line held back.
+fn with_rule(c: Cursor) -> Cursor
+    requires { ⌜ ((p : Policy) × Standing p c) × (c .held .to ≤ c .held .from) × (marksEnd (c .tuples) ≤ c .tuples .from) × (c .rule < c .rules .count) ⌝ }
+    ensures { λ r. ⌜ ((p : Policy) → Standing p c → Same p c r) × (remaining r < remaining c) ⌝ }
+{
+    let rules = c.rules;
+    let entries = rules.entries;
+    let i = c.rule;
+    let rule = entries[i];
+    let action = rule.action;
+    let source = c.source;
+    let marks = blocks::marks(source, grant::of_action(rules, action));
+    let words = marks.words;
+    let count = marks::count(&words, marks.count);
+    let mut line = blank();
+    let to = lines::action_line(action, count as u32, &mut line);
+    let held = Held {
+        from: 0,
+        to,
+        bytes: line,
+    };
+    let before = c.tuples;
+    let tuples = Tuples {
+        action,
+        values: before.values,
+        from: 0,
+        marks,
+    };
+    Cursor {
+        source,
+        rules,
+        rule: i + 1,
+        tuples,
+        held,
+    }
+}
+
+// The next bytes, or none and the place from which more are handed out.
+pub fn step(c: Cursor, buf: &mut [u8]) -> Chunk
+    requires { ⌜ ((p : Policy) × Standing p c) × (isOver c ≡ false) × (0 < length (now buf)) ⌝ }
+    ensures { λ r. ⌜ ((p : Policy) → Standing p c → Handed p c (now (buf .entry)) (now (buf .exit)) r) × (remaining (r .next) < remaining c) ⌝ }
+{
+    let held = c.held;
+    if held.from < held.to {
+        return hand_held(c, buf);
+    }
+    let tuples = c.tuples;
+    let marks = tuples.marks;
+    if marks.count * LANES <= tuples.from {
+        let next = with_rule(c);
+        return Chunk { count: 0, next };
+    }
+    if buf.len() < ROOM {
+        let next = hold_tuples(c);
+        return Chunk { count: 0, next };
+    }
+    hand_tuples(c, buf)
+}
