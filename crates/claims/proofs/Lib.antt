@@ -8,4 +8,5 @@ pub mod Exported
 pub mod Examples
 pub mod OneRequest
 pub mod Serving
+pub mod Lister
 pub mod Runner

@@ -5,4 +5,5 @@ pub mod Demand2
 pub mod Demand3
 pub mod Exported
 pub mod Examples
+pub mod Lister
 pub mod Runner

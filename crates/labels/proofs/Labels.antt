@@ -2,7 +2,7 @@
 -- like it, and the label of a set is how many sets lead below the lowest of its like; so the laws come from those of
 -- `first` and `count`.
 use Prim.Native.Nat.{ℕ, _≤_, _<_}
-use mathlib.Core.Path.{_≡_, refl, sym, ap, _∙_}
+use mathlib.Core.Path.{_≡_, sym, ap, _∙_}
 use mathlib.Core.Bool.{Bool, true}
 use mathlib.Core.Logic.{_↔_, ⊎-elim}
 use native.Mathlib.Nat.{eq-or-lt-of-le}

@@ -20,7 +20,6 @@ use crate::sorts;
 use crate::sorts::ObjectClasses;
 use crate::sorts::UserClasses;
 use policy::limits::MOST_PAIRS;
-use policy::limits::MOST_SETS;
 use policy::refusal::Refusal;
 
 // Puts the labels of the first n user sets at the start of a lent buffer.

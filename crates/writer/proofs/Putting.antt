@@ -7,7 +7,7 @@ use native.Mathlib.Numerals.{add-one}
 use native.Mathlib.Omega.{arith}
 use borrow.Rule.Slice.PartMut.{putMid}
 use lib.ListN.{length, getD, take, drop, set, length-append, length-drop, take-append-drop, drop-of-length-le}
-use lib.Seq.{drop-at, drop-cons, drop-drop, getD-take, length-take-le, set-split, split-at, take-all, take-at, take-suc, take-take}
+use lib.Seq.{drop-at, drop-drop, getD-take, length-take-le, set-split, split-at, take-all, take-at, take-suc, take-take}
 use Rattle.basis.specs.Lists.{over}
 use Rattle.writer.specs.Inner.Put.{Room, Put, each}
 

@@ -1,5 +1,5 @@
 -- What the evaluator asks of a policy value, and check 11 gives.
-use Prim.Native.Nat.{ℕ, _≤_, _<_}
+use Prim.Native.Nat.{_≤_, _<_}
 use mathlib.Core.List.{List·Memᴰ}
 use lib.ListN.{take}
 use Rattle.seniority.specs.Inner.{Ordered}

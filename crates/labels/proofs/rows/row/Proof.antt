@@ -1,7 +1,7 @@
 -- `labels::rows::row` meets its contract: the object sets before `start` have their entries, and each lane of the next
 -- block stands for the user set and one object set.
 use Prim.Native.Nat.{ℕ, _+_, _-_, _*_, _%_, _≤_, _<_}
-use mathlib.Core.Path.{_≡_, refl, sym, ap, _∙_}
+use mathlib.Core.Path.{_≡_, refl, ap}
 use mathlib.Core.List.{List}
 use mathlib.Core.Logic.{⊎-elim}
 use native.Mathlib.Nat.{le-trans, mod-eq-of-lt, not-suc-le-zero}

@@ -2,12 +2,11 @@
 use borrow.Author.Needs.{needs}
 use Prim.Native.Nat.{ℕ, _+_, _-_, _≤_, _<_}
 use mathlib.Core.Path.{_≡_}
-use mathlib.Core.List.{List, [], _∷_}
+use mathlib.Core.List.{List, []}
 use native.Mathlib.Numerals.{add-one}
 use native.Mathlib.Omega.{arith}
 use lib.ListN.{length, getD, take, set}
 use lib.Seq.{take-all, take-suc}
-use denote.Ref.{now}
 use Rattle.writer.specs.Inner.Put.{Room, Put}
 use Rattle.writer.proofs.Putting.{put-none, put-long, put-next, put-byte}
 use Rattle.writer.proofs.bytes.put.Statement.{statement}

@@ -1,5 +1,4 @@
 -- `writer::line::put_bare` meets its contract: the line feed stands after the word.
-use borrow.Author.Needs.{needs}
 use Rattle.writer.specs.Inner.Put.{bareLine}
 use Rattle.writer.proofs.Putting.{put-long, room-first, room-next, put-next}
 use Rattle.writer.proofs.line.put_bare.Statement.{statement}

@@ -1,5 +1,4 @@
 -- `writer::line::put_formula` meets its contract: the action, the words and the line feed stand after the word.
-use borrow.Author.Needs.{needs}
 use Rattle.writer.specs.Inner.Put.{formulaLine}
 use Rattle.writer.proofs.Putting.{put-long, room-first, room-next, put-next}
 use Rattle.writer.proofs.line.put_formula.Statement.{statement}

@@ -1,5 +1,4 @@
 -- `writer::line::put_one` meets its contract: the number and the line feed stand after the word.
-use borrow.Author.Needs.{needs}
 use Rattle.writer.specs.Inner.Put.{oneLine}
 use Rattle.writer.proofs.Putting.{put-long, room-first, room-next, put-next}
 use Rattle.writer.proofs.line.put_one.Statement.{statement}

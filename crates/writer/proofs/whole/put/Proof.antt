@@ -1,5 +1,4 @@
 -- `writer::whole::put` meets its contract: the registers and the rules stand after the sides.
-use borrow.Author.Needs.{needs}
 use Prim.Native.Nat.{ℕ}
 use mathlib.Core.List.{List}
 use Rattle.policy.specs.Text.{textOf}
