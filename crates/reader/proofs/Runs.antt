@@ -16,7 +16,7 @@ use Rattle.policy.specs.Line.{formFits, numbersOf, wordsOf, lineOf}
 use Rattle.policy.specs.Policy.{Policy}
 use Rattle.policy.specs.declared.refusal.Refusal.{Refusal}
 use Rattle.line.specs.Inner.Head.{numbersFit}
-use Rattle.reader.specs.Inner.Cursor.{fieldsAt, refusalAt, left, bareAt, LineAt, Stands, NextOf, aheadIs}
+use Rattle.reader.specs.Inner.Cursor.{fieldsAt, refusalAt, left, bareAt, LineAt, Stands, Reads, NextOf, aheadIs}
 use Rattle.reader.specs.Inner.Lists.{Listed, ReadBy}
 use Rattle.reader.specs.declared.cursor.Ahead.the-variants.{Line, Fault}
 use Rattle.reader.specs.declared.cursor.Cursor.{Cursor}
@@ -97,3 +97,10 @@ module _ (t : List ℕ) (k : Kind) {A : Type 0} (Fits : Listed k A → Policy �
             past = rw q (λ h j z. absurd (fault-bare r j z));
             leads = λ x p g z. leads-on t (i .leads x p g z) (moves t e (left-refused t d k r b e q (x .with xs p) (f x p g z)));
           }
+
+-- ---- one list behind others
+
+module _ {t : List ℕ} {c d e : Cursor} {k : Kind} {A : Type 0} {Fits : Listed k A → Policy → Type 0} {xs : List A} {p : Policy} where
+  pub then : Reads t c (placeOf k) d p → ReadBy t k Fits (suc (placeOf k)) d e xs → (x : Listed k A) → Fits x p → x .items p ≡ []
+      → Reads t c (suc (placeOf k)) e (x .with xs p)
+  then r l x f z = record { stands = l .stands; past = l .past (r .past); leads = leads-on t (r .leads) (l .leads x p f z) }

@@ -1,11 +1,12 @@
 -- The lists of a text, one behind the other, make its policy.
-use Prim.Native.Nat.{ℕ, _≤_}
+use Prim.Native.Nat.{ℕ, suc, _≤_}
 use mathlib.Core.Path.{_≡_, refl, sym, ap, _∙_}
 use mathlib.Core.List.{List, []}
 use native.Mathlib.Omega.{arith}
 use Rattle.basis.proofs.Padded.{take-padded}
+use Rattle.text.specs.Kind.{placeOf}
 use Rattle.text.specs.declared.kind.Kind.{Kind}
-use Rattle.text.specs.declared.kind.Kind.the-variants.{Uattr, Oattr, Usen, Osen, User, Object}
+use Rattle.text.specs.declared.kind.Kind.the-variants.{Uattr, Oattr, Usen, Osen, User, Object, End}
 use Rattle.policy.specs.Answers.{ReadAs, valueIn}
 use Rattle.policy.specs.Checks.{sideSizes}
 use Rattle.policy.specs.Limits.{mostValues, values, userNumbers, objectNumbers}
@@ -21,7 +22,7 @@ use Rattle.policy.specs.declared.value.SideValue.{SideValue}
 use Rattle.policy.proofs.Forms.{values-most}
 use Rattle.checks.specs.Inner.{sizesIn}
 use Rattle.checks.specs.declared.side.Shape.{Shape}
-use Rattle.reader.specs.Inner.Cursor.{left, outcomeOf, Bare, Leads, FirstOf}
+use Rattle.reader.specs.Inner.Cursor.{left, outcomeOf, Bare, Reads, FirstOf}
 use Rattle.reader.specs.Inner.Lists.{shapeWith, withSides, Sized, WidthsFrom, SenioritiesFrom, EntriesFrom, RulesFrom, FormFrom, SidesFrom, ListsFrom}
 use Rattle.reader.specs.declared.cursor.Cursor.{Cursor}
 use Rattle.reader.specs.declared.entries.EntriesRead.{EntriesRead}
@@ -31,7 +32,7 @@ use Rattle.reader.specs.declared.rules.RulesRead.{RulesRead}
 use Rattle.reader.specs.declared.seniorities.SenioritiesRead.{SenioritiesRead}
 use Rattle.reader.specs.declared.sides.SidesRead.{SidesRead}
 use Rattle.reader.specs.declared.widths.WidthsRead.{WidthsRead}
-use Rattle.reader.proofs.Cursors.{leads-on}
+use Rattle.reader.proofs.Runs.{then}
 use Rattle.reader.proofs.Sections.{user-widths, object-widths, uattr, oattr, user-pairs, object-pairs, usen, osen, users, objects, user, object, rules, rule}
 
 -- ---- a side
@@ -75,18 +76,16 @@ module _ {t : List ℕ} {c : Cursor} {f : FormRead} (g : FormFrom t c f) {most :
   abbrev objectSide : Side
   objectSide = record { widths = v .widths; lines = q .pairs }
 
-  sides-lead : Leads t c blank (b .cursor) (withSides (f .form) userSide objectSide)
+  sides-lines : Reads t c (suc (placeOf Osen)) (b .cursor) (withSides (f .form) userSide objectSide)
   unfolding blank user-widths object-widths user-pairs object-pairs usen osen
-  sides-lead =
-      let form = f .form in
-      let us : Side = record { widths = w .widths; lines = [] } in
-      let os : Side = record { widths = v .widths; lines = [] } in
-      let none : Side = record { widths = []; lines = [] } in
-      leads-on t (g .leads blank refl)
-      (leads-on t (w .lines .leads user-widths (withSides form none none) (record { kind = uattr; most = sym m }) refl)
-      (leads-on t (v .lines .leads object-widths (withSides form us none) (record { kind = oattr; most = sym m }) refl)
-      (leads-on t (p .lines .leads user-pairs (withSides form us os) (record { kind = usen; side = shape-sizes us (u .shape) (w .shape) }) refl)
-      (q .lines .leads object-pairs (withSides form userSide os) (record { kind = osen; side = shape-sizes os (o .shape) (v .shape) }) refl))))
+  sides-lines =
+      let side : List ℕ → Side = λ ws. record { widths = ws; lines = [] } in
+      let none : Reads t c (placeOf Uattr) (f .cursor) (withSides (f .form) (side []) (side [])) =
+      record { stands = g .stands; past = g .past; leads = g .leads blank refl } in
+      let us = then none (w .lines) user-widths (record { kind = uattr; most = sym m }) refl in
+      let os = then us (v .lines) object-widths (record { kind = oattr; most = sym m }) refl in
+      let ul = then os (p .lines) user-pairs (record { kind = usen; side = shape-sizes (side (w .widths)) (u .shape) (w .shape) }) refl in
+      then ul (q .lines) object-pairs (record { kind = osen; side = shape-sizes (side (v .widths)) (o .shape) (v .shape) }) refl
 
   pub sides-read : SidesFrom t c (record { form = f .form; user = a .side; ushape = u .shape; object = b .side; oshape = o .shape; cursor = b .cursor })
   sides-read =
@@ -99,9 +98,7 @@ module _ {t : List ℕ} {c : Cursor} {f : FormRead} (g : FormFrom t c f) {most :
         object-shape = v .shape;
         user-sized = widths-sized w h;
         object-sized = widths-sized v h;
-        stands = q .lines .stands;
-        past = q .lines .past (p .lines .past (v .lines .past (w .lines .past (g .past))));
-        leads = sides-lead;
+        lines = sides-lines;
       }
 
 -- ---- all lists
@@ -119,17 +116,13 @@ module _ {t : List ℕ} {c : Cursor} {s : SidesRead} (h : SidesFrom t c s)
   abbrev policyRead : Policy
   policyRead = record { form = s .form; user = h .user; object = h .object; users = u .entries; objects = o .entries; rules = l .list }
 
-  lists-lead : Leads t c blank (r .cursor) policyRead
+  lists-lines : Reads t c (placeOf End) (r .cursor) policyRead
   unfolding users objects rules user object
-  lists-lead =
-      let p = withSides (s .form) (h .user) (h .object) in
-      let q : Policy = record { form = s .form; user = h .user; object = h .object; users = u .entries; objects = []; rules = [] } in
-      let v : Policy = record { form = s .form; user = h .user; object = h .object; users = u .entries; objects = o .entries; rules = [] } in
-      leads-on t (h .leads)
-      (leads-on t (u .lines .leads users p (record { kind = user; total = shape-total (h .user) (s .ushape) (h .user-shape) }) refl)
-      (leads-on t (o .lines .leads objects q (record { kind = object; total = shape-total (h .object) (s .oshape) (h .object-shape) }) refl)
-      (l .lines .leads rules v
-      (record { kind = rule; form = refl; sizes = rw (shape-sizes (h .user) (s .ushape) (h .user-shape), shape-sizes (h .object) (s .oshape) (h .object-shape)) }) refl)))
+  lists-lines =
+      let us = then (h .lines) (u .lines) users (record { kind = user; total = shape-total (h .user) (s .ushape) (h .user-shape) }) refl in
+      let os = then us (o .lines) objects (record { kind = object; total = shape-total (h .object) (s .oshape) (h .object-shape) }) refl in
+      then os (l .lines) rules
+      (record { kind = rule; form = refl; sizes = rw (shape-sizes (h .user) (s .ushape) (h .user-shape), shape-sizes (h .object) (s .oshape) (h .object-shape)) }) refl
 
   pub lists-read : ListsFrom t c
       (record { policy = record { form = s .form; user = s .user; object = s .object; users = e .register; objects = f .register; rules = r .rules }; cursor = r .cursor })
@@ -137,10 +130,7 @@ module _ {t : List ℕ} {c : Cursor} {s : SidesRead} (h : SidesFrom t c s)
       record {
         policy = policyRead;
         value = value-made policyRead (s .user) (s .object) (e .register) (f .register) (r .rules) (h .user-value) (h .object-value) (u .register) (o .register) (l .rules);
-        stands = l .lines .stands;
-        -- behind the rules only the end line may stand
-        past = l .lines .past (o .lines .past (u .lines .past (h .past)));
-        leads = lists-lead;
+        lines = lists-lines;
       }
 
 -- ---- the text
@@ -148,7 +138,7 @@ module _ {t : List ℕ} {c : Cursor} {s : SidesRead} (h : SidesFrom t c s)
 module _ {t : List ℕ} {c : Cursor} (f : FirstOf t c) {r : ListsRead} (l : ListsFrom t c r) (d : Cursor) (e : ((p : Policy) → left t (r .cursor) p ≡ left t d p) × Bare d)
     (v : Verdict) (s : (t : List ℕ) (p : Policy) → left t d p ≡ outcomeOf v p) where
   outcome : readText t ≡ outcomeOf v (l .policy)
-  outcome = f .left ∙ l .leads .left ∙ e .0 (l .policy) ∙ s t (l .policy)
+  outcome = f .left ∙ l .lines .leads .left ∙ e .0 (l .policy) ∙ s t (l .policy)
 
   pub text-read : v ≡ AcceptedText → ReadAs (readText t) (record { verdict = v; policy = r .policy })
   unfolding valueIn
@@ -157,4 +147,4 @@ module _ {t : List ℕ} {c : Cursor} (f : FirstOf t c) {r : ListsRead} (l : List
   -- the lists behind a refusal are blank
   pub text-refused : (w : Refusal) (n : ℕ) → v ≡ RefusedText w n → {o : ListsRead} → ListsFrom t d o → ReadAs (readText t) (record { verdict = v; policy = o .policy })
   unfolding valueIn
-  text-refused w n q m = rw (outcome, q) (record { verdict = refl; value = m .value ∙ ap valueOf (sym (m .leads .none (e .1) .0)) })
+  text-refused w n q m = rw (outcome, q) (record { verdict = refl; value = m .value ∙ ap valueOf (sym (m .lines .leads .none (e .1) .0)) })

@@ -17,12 +17,12 @@ use Rattle.text.specs.declared.number.Numbers.{Numbers}
 use Rattle.words.specs.declared.Word.{Word}
 use Rattle.policy.specs.Checks.{SideSizes, Sizes, sizes, widthFits, pairFits, pairAbove, entryFits, inRange, rises, withForm, extended}
 use Rattle.policy.specs.Limits.{mostValues, values}
-use Rattle.policy.specs.Policy.{Side, Rule, Policy, blank}
+use Rattle.policy.specs.Policy.{Side, Rule, Policy}
 use Rattle.policy.specs.Value.{widthPlaces, linePlaces, sideValue, register, rulesValue, valueOf}
 use Rattle.policy.specs.declared.value.Entry.{Entry}
 use Rattle.checks.specs.Inner.{sizesIn, bothIn}
 use Rattle.checks.specs.declared.side.Shape.{Shape}
-use Rattle.reader.specs.Inner.Cursor.{Stands, Past, Leads}
+use Rattle.reader.specs.Inner.Cursor.{Stands, Past, Leads, Reads}
 use Rattle.reader.specs.declared.cursor.Cursor.{Cursor}
 use Rattle.reader.specs.declared.entries.EntriesRead.{EntriesRead}
 use Rattle.reader.specs.declared.form.FormRead.{FormRead}
@@ -155,15 +155,11 @@ pub record SidesFrom (t : List ℕ) (c : Cursor) (r : SidesRead) : Type 0 where
   pub object-shape : r .oshape ≡ shapeWith (object .widths)
   pub user-sized : Sized (r .ushape)
   pub object-sized : Sized (r .oshape)
-  pub stands : Stands t (r .cursor)
-  pub past : Past (suc (placeOf Osen)) (r .cursor)
-  pub leads : Leads t c blank (r .cursor) (withSides (r .form) user object)
+  pub lines : Reads t c (suc (placeOf Osen)) (r .cursor) (withSides (r .form) user object)
 
 -- ---- all lists
 
 pub record ListsFrom (t : List ℕ) (c : Cursor) (r : ListsRead) : Type 0 where
   pub policy : Policy
   pub value : r .policy ≡ valueOf policy
-  pub stands : Stands t (r .cursor)
-  pub past : Past (placeOf End) (r .cursor)
-  pub leads : Leads t c blank (r .cursor) policy
+  pub lines : Reads t c (placeOf End) (r .cursor) policy
