@@ -138,18 +138,21 @@ fn worked(
     requires { ⌜ ((p : Policy) × AttributesOf p sides) × (d ≤ wordPlaces) ⌝ }
     ensures { λ r. ⌜ (r .1 ≤ d) × ((p : Policy) (k : ℕ) (s : Sets) → AttributesOf p sides → InLane p (now (users .entry)) (now (objects .entry)) k s → has (r .0) k ∷ column (now (stack .entry)) (r .1) k ≡ step p s w (column (now (stack .entry)) d k)) ⌝ }
 {
-    let top = top_of(stack, d);
-    let below = below_top(d);
-    let next = top_of(stack, below);
-    let rest = below_top(below);
+    // A word looks at the stack only where it has to: most words of a formula push.
     match w {
         Word::True => Put(ALL, d),
         Word::False => Put(0, d),
         Word::Holds(h) => Put(held(users, objects, h), d),
         Word::Compares(c) => Put(compared(sides, users, objects, c), d),
-        Word::Not => Put(top ^ ALL, below),
-        Word::And => Put(next & top, rest),
-        Word::Or => Put(next | top, rest),
+        Word::Not => Put(top_of(stack, d) ^ ALL, below_top(d)),
+        Word::And => {
+            let e = below_top(d);
+            Put(top_of(stack, e) & top_of(stack, d), below_top(e))
+        }
+        Word::Or => {
+            let e = below_top(d);
+            Put(top_of(stack, e) | top_of(stack, d), below_top(e))
+        }
     }
 }
 
