@@ -138,7 +138,7 @@ fn worked(
     requires { ⌜ ((p : Policy) × AttributesOf p sides) × (d ≤ wordPlaces) ⌝ }
     ensures { λ r. ⌜ (r .1 ≤ d) × ((p : Policy) (k : ℕ) (s : Sets) → AttributesOf p sides → InLane p (now (users .entry)) (now (objects .entry)) k s → has (r .0) k ∷ column (now (stack .entry)) (r .1) k ≡ step p s w (column (now (stack .entry)) d k)) ⌝ }
 {
-    // A word looks at the stack only where it has to: most words of a formula push.
+    // A word looks at the stack only where it has to: about half the words of a formula push.
     match w {
         Word::True => Put(ALL, d),
         Word::False => Put(0, d),
