@@ -9,6 +9,7 @@ pub mod comparison;
 pub mod damage;
 #[allow(unsafe_code)]
 pub mod engine;
+pub mod jobs;
 pub mod plain;
 pub mod sample;
 pub mod timing;

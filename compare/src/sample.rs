@@ -1,7 +1,9 @@
 //! The policies, boards and calls that are measured.
 
-use crate::boundary::{Board, PackedPolicy, Session, SESSIONS};
-use crate::engine::{Archive, Engine};
+use crate::boundary::{
+    Board, PackedCounts, PackedPolicy, Session, MOST_LABELS, MOST_TABLE, SESSIONS, TEXT_BYTES,
+};
+use crate::engine::{Archive, Engine, Labels};
 use crate::plain::policy::Policy;
 use crate::plain::{self, unpacked};
 use reference::cases::Rng;
@@ -48,12 +50,40 @@ pub const SIZES: [Size; 3] = [
 pub struct Sample {
     pub size: Size,
     pub text: Vec<u8>,
+    /// The text without its end line, which is refused for that.
+    pub refused: Vec<u8>,
+    /// A text of one byte more than any may have.
+    pub too_long: Vec<u8>,
     pub packed: PackedPolicy,
     pub policy: Policy,
     /// All sessions are open but the last.
     pub board: Board,
     /// A thousand calls from a fresh board, none of them refused.
     pub calls: Vec<Call>,
+    compiled: Compiled,
+}
+
+/// What compiling gave, in buffers that are always long enough.
+struct Compiled {
+    counts: PackedCounts,
+    users: [u8; MOST_LABELS],
+    objects: [u8; MOST_LABELS],
+    table: [u8; MOST_TABLE],
+}
+
+impl Compiled {
+    fn of(policy: &PackedPolicy) -> Self {
+        let mut users = [0; MOST_LABELS];
+        let mut objects = [0; MOST_LABELS];
+        let mut table = [0; MOST_TABLE];
+        let counts = Archive.compile(policy, &mut users, &mut objects, &mut table);
+        Compiled {
+            counts,
+            users,
+            objects,
+            table,
+        }
+    }
 }
 
 impl Sample {
@@ -65,11 +95,31 @@ impl Sample {
         assert_eq!(plain::reader::read(&text), Ok(policy));
         Sample {
             size,
+            refused: text[..text.len() - "end\n".len()].to_vec(),
+            too_long: vec![b'\n'; TEXT_BYTES + 1],
             text,
             packed,
             policy,
             board: board(size, &policy),
             calls: calls(size, &policy),
+            compiled: Compiled::of(&packed),
+        }
+    }
+
+    /// The set of all values of a side.
+    pub fn all_values(&self) -> u32 {
+        (1 << self.size.values) - 1
+    }
+
+    /// What a request is lent.
+    pub fn labels(&self) -> Labels<'_> {
+        let compiled = &self.compiled;
+        Labels {
+            nu: compiled.counts.users,
+            no: compiled.counts.objects,
+            users: &compiled.users,
+            objects: &compiled.objects,
+            table: &compiled.table,
         }
     }
 }

@@ -52,8 +52,8 @@ fn calls_in_a_turn(job: &mut Job) -> u32 {
     count
 }
 
-/// The time of one call, in nanoseconds.
-fn time(job: &mut Job, count: u32) -> f64 {
+/// The time of one call of so many, in nanoseconds.
+pub fn time(job: &mut Job, count: u32) -> f64 {
     let start = Instant::now();
     job(count);
     start.elapsed().as_nanos() as f64 / f64::from(count)

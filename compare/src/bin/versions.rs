@@ -1,0 +1,128 @@
+//! Two versions of the engine in turns: `versions BEFORE AFTER [STARTS]`, each the
+//! path of a version's program `turns`.
+//!
+//! Both programs are started so many times, since where code and stack come to lie
+//! differs from start to start. In each, every job takes turns in both, and a time is
+//! the tenth percentile of its turns. The table has the middle one of the starts, the
+//! middle ratio, and the least and the greatest ratio.
+
+#![deny(unsafe_code)]
+
+use helvemoik_compare::timing::shown;
+use std::io::{BufRead, BufReader, Write};
+use std::process::{Child, ChildStdin, ChildStdout, Command, Stdio};
+
+const TURNS: usize = 200;
+const STARTS: usize = 9;
+
+/// A turn lasts so many nanoseconds, or one call.
+const TURN: f64 = 100_000.0;
+
+/// A version's program, and the jobs that it has.
+struct Version {
+    child: Child,
+    input: ChildStdin,
+    output: BufReader<ChildStdout>,
+    jobs: Vec<String>,
+}
+
+impl Version {
+    fn start(program: &str) -> Self {
+        let mut child = Command::new(program)
+            .stdin(Stdio::piped())
+            .stdout(Stdio::piped())
+            .spawn()
+            .expect("a program that starts");
+        let input = child.stdin.take().expect("its input");
+        let output = BufReader::new(child.stdout.take().expect("its output"));
+        let jobs = Vec::new();
+        let mut version = Version {
+            child,
+            input,
+            output,
+            jobs,
+        };
+        loop {
+            match version.line() {
+                line if line.is_empty() => return version,
+                line => version.jobs.push(line),
+            }
+        }
+    }
+
+    fn line(&mut self) -> String {
+        let mut line = String::new();
+        self.output.read_line(&mut line).expect("readable output");
+        assert!(line.ends_with('\n'), "a program that goes on");
+        line.trim_end().to_string()
+    }
+
+    /// The time of one call of so many, in nanoseconds.
+    fn time(&mut self, job: usize, count: u32) -> f64 {
+        writeln!(self.input, "{job} {count}").expect("a program that goes on");
+        self.line().parse().expect("a time")
+    }
+
+    fn calls_in_a_turn(&mut self, job: usize) -> u32 {
+        let mut count = 1;
+        while self.time(job, count) * f64::from(count) < TURN {
+            count *= 2;
+        }
+        count
+    }
+
+    fn stop(mut self) {
+        drop(self.input);
+        self.child.wait().expect("a program that ends");
+    }
+}
+
+/// What lies so far up in the sorted numbers.
+fn at(part: f64, numbers: impl IntoIterator<Item = f64>) -> f64 {
+    let mut sorted: Vec<f64> = numbers.into_iter().collect();
+    sorted.sort_by(f64::total_cmp);
+    sorted[((sorted.len() - 1) as f64 * part).round() as usize]
+}
+
+/// The times of a job in both versions, turn by turn.
+fn race(versions: &mut [Version; 2], job: usize) -> [f64; 2] {
+    let counts = [0, 1].map(|k| versions[k].calls_in_a_turn(job));
+    let mut times = [Vec::new(), Vec::new()];
+    for _ in 0..TURNS {
+        for k in [0, 1] {
+            times[k].push(versions[k].time(job, counts[k]));
+        }
+    }
+    times.map(|times| at(0.1, times))
+}
+
+fn main() {
+    let arguments: Vec<String> = std::env::args().skip(1).collect();
+    let (programs, starts) = match arguments.as_slice() {
+        [before, after] => ([before, after], STARTS),
+        [before, after, starts] => ([before, after], starts.parse().expect("a number")),
+        _ => panic!("versions BEFORE AFTER [STARTS]"),
+    };
+    let mut names = Vec::new();
+    let mut times: Vec<Vec<[f64; 2]>> = Vec::new();
+    for _ in 0..starts {
+        let mut versions = programs.map(|program| Version::start(program));
+        names = versions[0].jobs.clone();
+        assert_eq!(names, versions[1].jobs, "the same jobs");
+        times.resize(names.len(), Vec::new());
+        for (job, times) in times.iter_mut().enumerate() {
+            times.push(race(&mut versions, job));
+        }
+        versions.into_iter().for_each(Version::stop);
+    }
+    println!("| job | values | before | after | ratio | least | greatest |");
+    println!("| --- | --- | ---: | ---: | ---: | ---: | ---: |");
+    for (name, times) in names.iter().zip(&times) {
+        let [before, after] = [0, 1].map(|k| shown(at(0.5, times.iter().map(|t| t[k]))));
+        let ratio = |part| at(part, times.iter().map(|t| t[1] / t[0]));
+        let [least, middle, greatest] = [0.0, 0.5, 1.0].map(ratio);
+        println!(
+            "| {name} | {before} | {after} | {middle:.2} | {least:.2} | {greatest:.2} |"
+        );
+    }
+}
