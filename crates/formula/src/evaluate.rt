@@ -4,6 +4,7 @@ ghost use Prim.Native.Nat.{ℕ, _+_, _≤_, _<_};
 ghost use mathlib.Core.Path.{_≡_};
 ghost use mathlib.Core.Bool.{Bool, _&&_};
 ghost use mathlib.Core.List.{List, _∷_};
+ghost use lib.ListN.{getD};
 ghost use Rattle.basis.specs.Numbers.{every};
 ghost use Rattle.sets.specs.Set.{has};
 ghost use Rattle.policy.specs.Policy.{Policy, width};
@@ -123,36 +124,31 @@ fn below_top(d: usize) -> usize
     if d == 0 { 0 } else { d - 1 }
 }
 
-// What a word puts on a stack, and above how many places.
+// The top that a word leaves, and above how many places.
 pub struct Put(pub u64, pub usize);
 
-// One word at a stack of d places.
+// One word at a stack whose top lies above d places. The top is handed from word to word and stored only to lie below
+// the next one, so that no word waits for a store.
 fn worked(
     sides: Attributes,
     users: &[u64; VECTORS],
     objects: &[u64; VECTORS],
     w: Word,
     stack: &[u64; WORD_PLACES],
+    top: u64,
     d: usize,
 ) -> Put
-    requires { ⌜ ((p : Policy) × AttributesOf p sides) × (d ≤ wordPlaces) ⌝ }
-    ensures { λ r. ⌜ (r .1 ≤ d) × ((p : Policy) (k : ℕ) (s : Sets) → AttributesOf p sides → InLane p (now (users .entry)) (now (objects .entry)) k s → has (r .0) k ∷ column (now (stack .entry)) (r .1) k ≡ step p s w (column (now (stack .entry)) d k)) ⌝ }
+    requires { ⌜ ((p : Policy) × AttributesOf p sides) × (d < wordPlaces) × (getD (now stack) d 0 ≡ top) ⌝ }
+    ensures { λ r. ⌜ (r .1 ≤ d + 1) × ((p : Policy) (k : ℕ) (s : Sets) → AttributesOf p sides → InLane p (now (users .entry)) (now (objects .entry)) k s → has (r .0) k ∷ column (now (stack .entry)) (r .1) k ≡ step p s w (has top k ∷ column (now (stack .entry)) d k)) ⌝ }
 {
-    // A word looks at the stack only where it has to: about half the words of a formula push.
     match w {
-        Word::True => Put(ALL, d),
-        Word::False => Put(0, d),
-        Word::Holds(h) => Put(held(users, objects, h), d),
-        Word::Compares(c) => Put(compared(sides, users, objects, c), d),
-        Word::Not => Put(top_of(stack, d) ^ ALL, below_top(d)),
-        Word::And => {
-            let e = below_top(d);
-            Put(top_of(stack, e) & top_of(stack, d), below_top(e))
-        }
-        Word::Or => {
-            let e = below_top(d);
-            Put(top_of(stack, e) | top_of(stack, d), below_top(e))
-        }
+        Word::True => Put(ALL, d + 1),
+        Word::False => Put(0, d + 1),
+        Word::Holds(h) => Put(held(users, objects, h), d + 1),
+        Word::Compares(c) => Put(compared(sides, users, objects, c), d + 1),
+        Word::Not => Put(top ^ ALL, d),
+        Word::And => Put(top_of(stack, d) & top, below_top(d)),
+        Word::Or => Put(top_of(stack, d) | top, below_top(d)),
     }
 }
 
@@ -168,16 +164,17 @@ pub fn truths(
     ensures { λ r. ⌜ ((p : Policy) (k : ℕ) (s : Sets) → AttributesOf p sides → InLane p (now (users .entry)) (now (objects .entry)) k s → has r k ≡ truth p s (wordsIn n words)) ⌝ }
 {
     let mut stack = [0u64; WORD_PLACES];
+    let mut top: u64 = 0;
     let mut d: usize = 0;
     let mut i: usize = 0;
     while i < n {
         let slot = words[i];
         let w = slot.word;
-        let t = worked(sides, users, objects, w, &stack, d);
-        let e = t.1;
-        stack[e] = t.0;
-        d = e + 1;
+        stack[d] = top;
+        let t = worked(sides, users, objects, w, &stack, top, d);
+        top = t.0;
+        d = t.1;
         i += 1;
     }
-    top_of(&stack, d)
+    top
 }

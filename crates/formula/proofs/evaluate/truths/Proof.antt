@@ -1,30 +1,36 @@
--- `formula::evaluate::truths` meets its contract: in every lane the stack is what running the first i words leaves.
-use Prim.Native.Nat.{ℕ, _-_, _≤_}
+-- `formula::evaluate::truths` meets its contract: in every lane top and stack are what running the first i words leaves
+-- on a stack on which false lies.
+use Prim.Native.Nat.{ℕ, _-_, _≤_, _<_}
 use mathlib.Core.Path.{_≡_, refl, ap, _∙_}
-use mathlib.Core.List.{[]}
+use mathlib.Core.Bool.{Bool, false}
+use mathlib.Core.List.{[], _∷_}
 use native.Mathlib.Omega.{arith}
 use lib.ListN.{length, length-set}
-use borrow.Author.Needs.{needs}
+use lib.Seq.{getD-set-same}
 use Rattle.basis.proofs.Lists.{long}
+use Rattle.sets.specs.Set.{has}
+use Rattle.sets.proofs.Laws.{has-zero}
 use Rattle.policy.specs.Policy.{Policy}
 use Rattle.policy.specs.Value.{wordPlaces, wordsIn}
-use Rattle.formula.specs.Truth.{Sets, top, run, truth}
+use Rattle.formula.specs.Truth.{Sets, top, run}
 use Rattle.formula.specs.Inner.Lane.{AttributesOf, InLane, column}
-use Rattle.formula.proofs.Stack.{column-next}
+use Rattle.formula.proofs.Stack.{column-next, truth-from}
+use borrow.Author.Needs.{needs}
 use Rattle.formula.proofs.evaluate.truths.Statement.{statement}
 use Rattle.formula.proofs.evaluate.truths.Tie as tie
 
 abbrev Inv-loop : tie.InvT-loop
-Inv-loop sides users objects n words stack₀ d₀ i₀ stack d i =
+Inv-loop sides users objects n words stack₀ top₀ d₀ i₀ stack top d i =
     (i ≤ n) × (d ≤ i) × (length stack ≡ wordPlaces)
-    × ((p : Policy) (k : ℕ) (s : Sets) → AttributesOf p sides → InLane p users objects k s → column stack d k ≡ run p s (wordsIn i words) [])
+    × ((p : Policy) (k : ℕ) (s : Sets) → AttributesOf p sides → InLane p users objects k s
+    → has top k ∷ column stack d k ≡ run p s (wordsIn i words) (false ∷ []))
 
 abbrev μ-loop : tie.MeasureT-loop
-μ-loop sides users objects n words stack₀ d₀ i₀ stack d i = n - i
+μ-loop sides users objects n words stack₀ top₀ d₀ i₀ stack top d i = n - i
 
 loop-holds : tie.Need-loop-holds Inv-loop μ-loop
 unfolding run column
-loop-holds c = (omega arith, omega arith, refl, λ p k s h x. refl)
+loop-holds c = (omega arith, omega arith, refl, λ p k s h x. ap (λ (b : Bool). b ∷ []) (has-zero k))
 
 mul-slot : tie.Need-mul-slot Inv-loop μ-loop
 mul-slot c = search needs
@@ -32,17 +38,17 @@ mul-slot c = search needs
 array-copy-out-slot : tie.Need-array-copy-out-slot Inv-loop μ-loop
 array-copy-out-slot c = search needs
 
-worked-requires : tie.Need-worked-requires Inv-loop μ-loop
-worked-requires c κs = search needs
-
 mul-stack : tie.Need-mul-stack Inv-loop μ-loop
 mul-stack c = search needs
 
 array-write-stack : tie.Need-array-write-stack Inv-loop μ-loop
 array-write-stack c = search needs
 
-add-d : tie.Need-add-d Inv-loop μ-loop
-add-d c = search needs
+worked-requires : tie.Need-worked-requires Inv-loop μ-loop
+worked-requires c κs =
+    let l = c .before .before .before .loop in
+    let h : l .d < wordPlaces = omega (arith, c .before .before .before .before .pre .1) in
+    (c .before .before .before .before .pre .0, h, getD-set-same (l .stack) (l .d) (l .top) 0 (omega (arith, l .inv .2)))
 
 add-i : tie.Need-add-i Inv-loop μ-loop
 add-i c = search needs
@@ -59,19 +65,15 @@ loop-again c =
       omega (arith, t .ensures .0),
       simp length-set (l .inv .2),
       λ p k s h x.
-          column-next p s (a .t4) _ (l .stack) k (l .i) (l .d) (t .result .1) (t .result .0) (omega arith) (omega (arith, t .ensures .0))
-          (l .inv .3 p k s h x) (t .ensures .1 p k s h x),
+          column-next p s (a .t4) _ (l .stack) k (l .i) (l .d) (t .result .1) (l .top) (t .result .0) (omega arith) (l .inv .3 p k s h x)
+          (t .ensures .1 p k s h x),
     )
 
-top-of-requires : tie.Need-top-of-requires Inv-loop μ-loop
-top-of-requires c κs = search needs
-
 returns : tie.Need-returns Inv-loop μ-loop
-unfolding truth
 returns c p k s h x =
-    let l = c .before .before .before .loop in
-    let e : l .i ≡ c .before .before .before .before .args .n = omega arith in
-    rw e at (c .top-of .ensures k ∙ ap top (l .inv .3 p k s h x))
+    let l = c .before .loop in
+    let e : l .i ≡ c .before .before .args .n = omega arith in
+    rw e at (ap top (l .inv .3 p k s h x) ∙ truth-from p s (wordsIn (l .i) _))
 
 pub truths-spec : {M : Type 1} → statement M
 truths-spec =
@@ -82,12 +84,10 @@ truths-spec =
     loop-holds
     mul-slot
     array-copy-out-slot
-    worked-requires
     mul-stack
     array-write-stack
-    add-d
+    worked-requires
     add-i
     loop-less
     loop-again
-    top-of-requires
     returns)
