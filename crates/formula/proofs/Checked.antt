@@ -2,18 +2,16 @@
 use Prim.Native.Nat.{ℕ}
 use mathlib.Core.Path.{_≡_, subst}
 use mathlib.Core.Bool.{true}
-use native.Mathlib.Nat.{lt-of-lt-of-le}
 use Rattle.basis.proofs.Padded.{take-padded, take-padded-map}
 use Rattle.basis.proofs.Places.{mapped-each}
 use Rattle.seniority.specs.Seniority.{direct}
 use Rattle.seniority.proofs.Laws.{ordered-more}
-use Rattle.policy.specs.Limits.{values, mostValues}
+use Rattle.policy.specs.Limits.{values, actions, mostValues}
 use Rattle.policy.specs.Policy.{Side, Policy, total}
 use Rattle.policy.specs.Value.{rulePlaces, sideValue, ruleValue, rulesValue, noRule, valueOf, policyOf, linePlaces}
 use Rattle.policy.specs.Valid.{valid}
 use Rattle.policy.specs.Inner.Sound.{sound}
 use Rattle.policy.specs.declared.value.PolicyValue.{PolicyValue}
-use Rattle.policy.proofs.Forms.{actions-most}
 use Rattle.policy.proofs.Parts.{SideParts, Parts, parts, whole}
 use Rattle.policy.proofs.Bounds.{WithinSide, total-few, lines-ordered, rule-bounds, parts-within}
 use Rattle.policy.proofs.Values.{side-value}
@@ -29,13 +27,13 @@ side-fits form s h w =
       ordered = rw (take-padded linePlaces (direct 0 0) (s .lines)) (ordered-more (total s) mostValues (total-few form s h) (s .lines) (lines-ordered (values form) s h));
     }
 
-rules-fit : (p : Policy) → Parts p → RulesFit (rulesValue (p .rules))
+rules-fit : (p : Policy) → Parts p → RulesFit (actions (p .form)) (rulesValue (p .rules))
 unfolding rulesValue ruleValue
 rules-fit p h =
     record {
       count = parts-within p h .rules;
       each = rw (take-padded-map ruleValue rulePlaces noRule (p .rules))
-          (mapped-each ruleValue RuleFits (p .rules) (λ r m. let b = rule-bounds p (p .rules) (h .rules) r m in record { action = lt-of-lt-of-le (b .action) (actions-most (p .form)); words = b .few }));
+          (mapped-each ruleValue (RuleFits (actions (p .form))) (p .rules) (λ r m. let b = rule-bounds p (p .rules) (h .rules) r m in record { action = b .action; words = b .few }));
     }
 
 value-fits : (p : Policy) → sound p ≡ true → ValueFits (valueOf p)

@@ -2,33 +2,35 @@
 use Prim.Native.Nat.{ℕ, suc, _+_, _*_, _^_, _%_, _≤_, _<_}
 use mathlib.Core.Path.{_≡_, refl, sym, ap, _∙_, subst}
 use mathlib.Core.Bool.{Bool, true, false, cond}
-use mathlib.Core.List.{List, [], _∷_, map}
+use mathlib.Core.List.{List, [], _∷_, map, List·Memᴰ, List·Memᴰ·head, List·Memᴰ·tail}
 use mathlib.Core.Option.{Option, some}
-use native.Mathlib.Nat.{one-mul, pow-suc}
+use native.Mathlib.Nat.{lt-of-lt-of-le, one-mul, pow-suc}
 use native.Mathlib.Numerals.{add-one}
 use native.Mathlib.Decide.{ℕ-discrete}
 use native.Mathlib.Omega.{arith}
 use lib.Dec.{eqb, lit<}
-use lib.ListN.{length, getD, set, take, drop}
+use lib.ListN.{length, getD, set, take, drop, replicate, getD-replicate}
 use lib.Pow.{pow-mono, shl-exact}
 use lib.Seq.{getD-set-same, getD-set-other}
 use borrow.Author.Tests.{eq-eqb, ne-eqb}
 use Rattle.basis.specs.Choice.{given}
 use Rattle.basis.proofs.Places.{taken-in}
 use Rattle.basis.proofs.Walk.{part-next}
-use Rattle.sets.specs.Set.{setOf}
-use Rattle.sets.proofs.Laws.{setOf-lt}
+use Rattle.sets.specs.Set.{has, setOf}
+use Rattle.sets.proofs.Laws.{has-zero, setOf-lt}
 use Rattle.words.specs.declared.Word.{Word}
 use Rattle.policy.specs.Policy.{Rule, Policy, formulaIn}
-use Rattle.policy.specs.Value.{wordPlaces, ruleOf, rulesOf, wordsIn}
-use Rattle.policy.specs.Limits.{mostActions}
+use Rattle.policy.specs.Value.{ruleOf, rulesOf, wordsIn}
+use Rattle.policy.specs.Limits.{actions, mostActions}
 use Rattle.policy.specs.declared.value.RuleValue.{RuleValue}
 use Rattle.policy.specs.declared.value.Rules.{Rules}
+use Rattle.policy.proofs.Forms.{actions-most}
 use Rattle.formula.specs.Truth.{Sets, run, truth, grants}
 use Rattle.formula.specs.Inner.Lane.{entryBits}
 use Rattle.formula.specs.Inner.Fits.{RuleFits, RulesFit}
-use Rattle.formula.specs.Inner.Grant.{noGrant}
+use Rattle.formula.specs.Inner.Grant.{grantsAt, GrantsOf}
 use Rattle.formula.specs.declared.grant.Grant.{Grant}
+use Rattle.formula.specs.declared.grant.Grants.{Grants}
 
 -- ---- rules
 
@@ -36,8 +38,9 @@ use Rattle.formula.specs.declared.grant.Grant.{Grant}
 abbrev pub noWords : RuleValue
 noWords = record { action = 0; count = 0; words = [] }
 
-pub rule-at : (rs : Rules) → RulesFit rs → rs .count ≤ length (rs .entries) → (i : ℕ) → i < rs .count → RuleFits (getD (rs .entries) i noWords)
-rule-at rs x l i h = x .each (getD (rs .entries) i noWords) (taken-in noWords (rs .entries) (rs .count) i h l)
+pub rule-at : (n : ℕ) (rs : Rules) → RulesFit n rs → rs .count ≤ length (rs .entries) → (i : ℕ) → i < rs .count
+    → RuleFits n (getD (rs .entries) i noWords)
+rule-at n rs x l i h = x .each (getD (rs .entries) i noWords) (taken-in noWords (rs .entries) (rs .count) i h l)
 
 -- what some rules grant an action
 unfoldable pub outcome : Policy → Sets → List RuleValue → ℕ → Bool
@@ -77,36 +80,52 @@ module _ (p : Policy) (s : Sets) where
   outcome-none g a e = rw e
 
   -- all rules
-  pub outcome-all : (rs : Rules) (a : ℕ) → p .rules ≡ rulesOf rs → outcome p s (take (rs .count) (rs .entries)) a ≡ grants p a s
+  pub outcome-all : (g : Grants) (a : ℕ) → GrantsOf p g → outcome p s (take (g .rules .count) (g .rules .entries)) a ≡ grants p a s
   unfolding outcome rulesOf grants
-  outcome-all rs a e = ap (λ (l : List Rule). given (formulaIn l a) false (truth p s)) (sym e)
+  outcome-all g a x = ap (λ (l : List Rule). given (formulaIn l a) false (truth p s)) (sym (x .rules))
+
+  -- rules of n actions grant no other
+  outcome-past : (rs : List RuleValue) (n a : ℕ) → ((r : RuleValue) → List·Memᴰ r rs → RuleFits n r) → n ≤ a → outcome p s rs a ≡ false
+  unfolding outcome formulaIn
+  outcome-past [] n a f h = refl
+  outcome-past (r ∷ rs) n a f h =
+      let l = f r (List·Memᴰ·head refl) in
+      outcome-first r rs a
+      ∙ rw (ne-eqb (r .action) a (λ e. omega (arith, l .action))) (outcome-past rs n a (λ x m. f x (List·Memᴰ·tail m)) h)
+
+  pub grants-past : (g : Grants) (a : ℕ) → GrantsOf p g → actions (p .form) ≤ a → grants p a s ≡ false
+  grants-past g a x h =
+      sym (outcome-all g a x) ∙ outcome-past (take (g .rules .count) (g .rules .entries)) (actions (p .form)) a (x .fit .each) h
 
 -- ---- all actions
 
--- this grants the action by these rules
-pub record ByRules (p : Policy) (rs : List RuleValue) (a : ℕ) (g : Grant) : Type 0 where
-  pub few : g .rule .count ≤ wordPlaces
-  pub formula : (s : Sets) → truth p s (wordsIn (g .rule .count) (g .rule .words)) ≡ outcome p s rs a
+-- every rule has its place among the actions of any form
+pub rule-placed : (p : Policy) (g : Grants) → GrantsOf p g → g .rules .count ≤ length (g .rules .entries) → (i : ℕ) → i < g .rules .count
+    → RuleFits mostActions (getD (g .rules .entries) i noWords)
+rule-placed p g x l i h =
+    let f = rule-at (actions (p .form)) (g .rules) (x .fit) l i h in
+    record { action = lt-of-lt-of-le (f .action) (actions-most (p .form)); words = f .words }
 
-pub by-none : (p : Policy) (a : ℕ) (g : Grant) → g .rule .count ≡ 0 → ByRules p [] a g
-by-none p a g e = record { few = omega (arith, e); formula = λ s. outcome-none p s g a e }
+-- in lane k the vectors of all actions say what these rules grant
+abbrev pub Says : Policy → Sets → List RuleValue → List ℕ → ℕ → Type 0
+Says p s rs vectors k = (a : ℕ) → a < mostActions → has (getD vectors a 0) k ≡ outcome p s rs a
 
-module _ (p : Policy) (rs : List RuleValue) (n i : ℕ) (h : i < n) (l : n ≤ length rs) (f : RuleFits (getD rs i noWords)) where
-  -- one rule more, before the others, takes the place of its action
-  pub by-next : (each : List Grant) → length each ≡ mostActions
-      → ((a : ℕ) → a < mostActions → ByRules p (drop (i + 1) (take n rs)) a (getD each a noGrant))
-      → (a : ℕ) → a < mostActions
-      → ByRules p (drop i (take n rs)) a (getD (set each (getD rs i noWords .action) (record { rule = getD rs i noWords })) a noGrant)
-  by-next each k old a b =
-      let r = getD rs i noWords in
-      let g : Grant = record { rule = r } in
-      elim (ℕ-discrete (r .action) a) [
-        | yes e ↦ subst (λ (x : ℕ). ByRules p (drop i (take n rs)) x (getD (set each (r .action) g) x noGrant)) e
-            (subst (ByRules p (drop i (take n rs)) (r .action)) (sym (getD-set-same each (r .action) g noGrant (omega (arith, f .action, k))))
-            (record { few = f .words; formula = λ s. outcome-found p s rs n i (r .action) h l refl }))
-        | no e ↦ subst (ByRules p (drop i (take n rs)) a) (sym (getD-set-other each (r .action) a g noGrant (λ z. e (sym z))))
-            (record { few = old a b .few; formula = λ s. old a b .formula s ∙ outcome-passed p s rs n i a h l e })
-      ]
+pub says-none : (p : Policy) (s : Sets) (k : ℕ) → Says p s [] (replicate mostActions 0) k
+unfolding outcome formulaIn
+says-none p s k a h = rw (getD-replicate {A = ℕ} mostActions a 0 0 h) (has-zero k)
+
+-- one rule more, before the others, takes the place of its action
+pub says-next : (p : Policy) (s : Sets) (rs : List RuleValue) (n i : ℕ) → i < n → n ≤ length rs → RuleFits mostActions (getD rs i noWords)
+    → (vectors : List ℕ) (x k : ℕ) → length vectors ≡ mostActions
+    → has x k ≡ grantsAt p (record { rule = getD rs i noWords }) s
+    → Says p s (drop (i + 1) (take n rs)) vectors k → Says p s (drop i (take n rs)) (set vectors (getD rs i noWords .action) x) k
+says-next p s rs n i h l f vectors x k m e old a b =
+    let r = getD rs i noWords in
+    elim (ℕ-discrete (r .action) a) [
+      | yes q ↦ subst (λ (y : ℕ). has (getD (set vectors (r .action) x) y 0) k ≡ outcome p s (drop i (take n rs)) y) q
+          (ap (λ (y : ℕ). has y k) (getD-set-same vectors (r .action) x 0 (omega (arith, f .action, m))) ∙ e ∙ outcome-found p s rs n i (r .action) h l refl)
+      | no q ↦ ap (λ (y : ℕ). has y k) (getD-set-other vectors (r .action) a x 0 (λ z. q (sym z))) ∙ old a b ∙ outcome-passed p s rs n i a h l q
+    ]
 
 -- ---- entries
 

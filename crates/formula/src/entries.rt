@@ -1,5 +1,5 @@
 // What every action is granted at 64 pairs, and the same as table entries.
-ghost use Prim.Native.Nat.{ℕ, _≤_, _<_};
+ghost use Prim.Native.Nat.{ℕ, _<_};
 ghost use mathlib.Core.Path.{_≡_};
 ghost use lib.ListN.{getD};
 ghost use Rattle.sets.specs.Set.{has, setOf};
@@ -11,11 +11,12 @@ ghost use Rattle.formula.specs.Inner.Grant.{GrantsOf};
 ghost use Rattle.formula.specs.Inner.Lane.{lanes, AttributesOf, InLane};
 use crate::attributes::Attributes;
 use crate::grant;
+use crate::grant::Grant;
 use crate::grant::Grants;
 use crate::side::VECTORS;
 use policy::limits::MOST_ACTIONS;
 
-// For each action the pairs at which it is granted; none past the last action.
+// For each action the pairs at which it is granted. The last rule comes first, so an action's first one counts.
 pub fn of_pairs(
     sides: Attributes,
     users: &[u64; VECTORS],
@@ -23,14 +24,17 @@ pub fn of_pairs(
     grants: Grants,
 ) -> [u64; MOST_ACTIONS]
     requires { ⌜ ((p : Policy) × AttributesOf p sides × GrantsOf p grants) ⌝ }
-    ensures { λ r. ⌜ ((p : Policy) (k : ℕ) (s : Sets) → AttributesOf p sides → GrantsOf p grants → InLane p (now (users .entry)) (now (objects .entry)) k s → (a : ℕ) → a < grants .count → has (getD r a 0) k ≡ truth.grants p a s) × ((a : ℕ) → grants .count ≤ a → getD r a 0 ≡ 0) ⌝ }
+    ensures { λ r. ⌜ ((p : Policy) (k : ℕ) (s : Sets) → AttributesOf p sides → GrantsOf p grants → InLane p (now (users .entry)) (now (objects .entry)) k s → (a : ℕ) → a < mostActions → has (getD r a 0) k ≡ truth.grants p a s) ⌝ }
 {
-    let each = grants.each;
-    let n = grants.count;
+    let rules = grants.rules;
+    let entries = rules.entries;
     let mut r = [0u64; MOST_ACTIONS];
-    for a in 0..n {
-        let grant = each[a];
-        r[a] = grant::where_granted(sides, users, objects, grant);
+    let mut i = rules.count;
+    while 0 < i {
+        i -= 1;
+        let rule = entries[i];
+        let a = rule.action as usize;
+        r[a] = grant::where_granted(sides, users, objects, Grant { rule });
     }
     r
 }

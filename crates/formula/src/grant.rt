@@ -1,33 +1,40 @@
 // What grants an action, and where it does: the one place that says so, for 64 pairs at once.
-ghost use Prim.Native.Nat.{ℕ};
+ghost use Prim.Native.Nat.{ℕ, _≤_};
 ghost use mathlib.Core.Path.{_≡_};
 ghost use Rattle.sets.specs.Set.{has};
 ghost use Rattle.policy.specs.Policy.{Policy};
-ghost use Rattle.policy.specs.Value.{rulesOf};
-ghost use Rattle.formula.specs.Truth.{Sets, grants};
-ghost use Rattle.formula.specs.Inner.Fits.{RulesFit};
-ghost use Rattle.formula.specs.Inner.Grant.{GrantOf, GrantsOf};
+ghost use Rattle.policy.specs.Value.{wordPlaces, policyOf};
+ghost use Rattle.formula.specs.Truth.{Sets};
+ghost use Rattle.formula.specs.Inner.Fits.{ValueFits};
+ghost use Rattle.formula.specs.Inner.Grant.{grantsAt, GrantOf, GrantsOf};
 ghost use Rattle.formula.specs.Inner.Lane.{AttributesOf, InLane};
 use crate::attributes::Attributes;
 use crate::evaluate;
 use crate::side::VECTORS;
-use policy::limits;
-use policy::limits::MOST_ACTIONS;
+use policy::value::PolicyValue;
 use policy::value::RuleValue;
 use policy::value::Rules;
 use policy::value::Slot;
 use policy::value::WORD_PLACES;
 use words::Word;
 
+// What grants the actions of a policy: its rules.
+pub struct Grants {
+    pub rules: Rules,
+}
+
 // What grants one action: its rule, and one without words where it has none.
 pub struct Grant {
     pub rule: RuleValue,
 }
 
-// What grants each action of a policy.
-pub struct Grants {
-    pub count: usize,
-    pub each: [Grant; MOST_ACTIONS],
+// What grants the actions of this policy.
+pub fn of_policy(policy: PolicyValue) -> Grants
+    requires { ⌜ ValueFits policy ⌝ }
+    ensures { λ r. ⌜ GrantsOf (policyOf policy) r ⌝ }
+{
+    let rules = policy.rules;
+    Grants { rules }
 }
 
 // What grants nothing.
@@ -44,11 +51,12 @@ fn nothing() -> Grant
     }
 }
 
-// What grants an action by these rules.
-pub fn of_action(rules: Rules, action: u32) -> Grant
-    requires { ⌜ RulesFit rules ⌝ }
-    ensures { λ r. ⌜ ((p : Policy) → p .rules ≡ rulesOf rules → GrantOf p action r) ⌝ }
+// What grants an action.
+pub fn of_action(grants: Grants, action: u32) -> Grant
+    requires { ⌜ ((p : Policy) × GrantsOf p grants) ⌝ }
+    ensures { λ r. ⌜ ((p : Policy) → GrantsOf p grants → GrantOf p action r) ⌝ }
 {
+    let rules = grants.rules;
     let entries = rules.entries;
     let n = rules.count;
     let mut i: usize = 0;
@@ -62,33 +70,15 @@ pub fn of_action(rules: Rules, action: u32) -> Grant
     nothing()
 }
 
-// What grants each action of this form by these rules. The last rule comes first, so an action's first one counts.
-pub fn of_actions(form: u32, rules: Rules) -> Grants
-    requires { ⌜ RulesFit rules ⌝ }
-    ensures { λ r. ⌜ ((p : Policy) → p .form ≡ form → p .rules ≡ rulesOf rules → GrantsOf p r) ⌝ }
-{
-    let entries = rules.entries;
-    let mut each = [nothing(); MOST_ACTIONS];
-    let mut i = rules.count;
-    while 0 < i {
-        i -= 1;
-        let rule = entries[i];
-        let a = rule.action as usize;
-        each[a] = Grant { rule };
-    }
-    let n = limits::actions(form) as usize;
-    Grants { count: n, each }
-}
-
-// The pairs at which an action is granted: those at which its formula is true.
+// The pairs at which this grants: those at which its formula is true.
 pub fn where_granted(
     sides: Attributes,
     users: &[u64; VECTORS],
     objects: &[u64; VECTORS],
     grant: Grant,
 ) -> u64
-    requires { ⌜ ((p : Policy) × (a : ℕ) × AttributesOf p sides × GrantOf p a grant) ⌝ }
-    ensures { λ r. ⌜ ((p : Policy) (a k : ℕ) (s : Sets) → AttributesOf p sides → GrantOf p a grant → InLane p (now (users .entry)) (now (objects .entry)) k s → has r k ≡ grants p a s) ⌝ }
+    requires { ⌜ ((p : Policy) × AttributesOf p sides) × (grant .rule .count ≤ wordPlaces) ⌝ }
+    ensures { λ r. ⌜ ((p : Policy) (k : ℕ) (s : Sets) → AttributesOf p sides → InLane p (now (users .entry)) (now (objects .entry)) k s → has r k ≡ grantsAt p grant s) ⌝ }
 {
     let rule = grant.rule;
     if rule.count == 0 {

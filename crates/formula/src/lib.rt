@@ -42,8 +42,7 @@ fn allows(v: PolicyValue, sides: Attributes, action: u32, user: u32, object: u32
     let object_side = v.object;
     let object_lines = object_side.seniority;
     let objects = side::with_seniors(side::spread(object), object_lines, object_side.lines);
-    let rules = v.rules;
-    let grant = grant::of_action(rules, action);
+    let grant = grant::of_action(grant::of_policy(v), action);
     grant::where_granted(sides, &users, &objects, grant) % 2 == 1
 }
 

@@ -16,35 +16,38 @@ use Rattle.basis.proofs.Bools.{fails, never}
 use Rattle.basis.proofs.Counting.{first-least, first-is}
 use Rattle.basis.proofs.Same.{agree-eq, eq-agree}
 use Rattle.sets.specs.Set.{has, setOf}
-use Rattle.sets.proofs.Laws.{digit-eq, has-none, has-zero, same-below, setOf-lt, setOf-is, has-setOf, has-setOf-none}
+use Rattle.sets.proofs.Laws.{digit-eq, has-none, same-below, setOf-lt, setOf-is, has-setOf, has-setOf-none}
 use Rattle.policy.specs.Limits.{actions, mostActions}
 use Rattle.policy.specs.Policy.{Policy, sets}
 use Rattle.policy.proofs.Forms.{actions-most}
 use Rattle.formula.specs.Truth.{Sets, at, grants}
+use Rattle.formula.specs.Inner.Grant.{GrantsOf}
+use Rattle.formula.specs.declared.grant.Grants.{Grants}
+use Rattle.formula.proofs.Granting.{grants-past}
 use Rattle.labels.specs.Compile.{entryOf}
 use Rattle.labels.specs.Compile.{likeUsers}
 use Rattle.labels.specs.Apart.{Separates}
 use Rattle.labels.specs.Inner.Rows.{firstAction}
 use Rattle.labels.proofs.Alike.{alike-of, rows-alike}
 
--- the values below n that pass a test are those below more, where none of the others passes
-setOf-within : (f g : ℕ → Bool) (n m : ℕ) → n ≤ m → ((v : ℕ) → v < n → f v ≡ g v) → ((v : ℕ) → n ≤ v → f v ≡ false) → setOf f m ≡ setOf g n
-setOf-within f g n m h below past =
+-- the values below m that pass a test are those below n that pass another, where the two agree and none of the rest
+-- passes
+setOf-within : (f g : ℕ → Bool) (n m : ℕ) → n ≤ m → ((v : ℕ) → v < m → f v ≡ g v) → ((v : ℕ) → n ≤ v → g v ≡ false) → setOf f m ≡ setOf g n
+setOf-within f g n m h same past =
     setOf-is f m (setOf g n) (lt-of-lt-of-le (setOf-lt g n) (pow-mono h)) (λ v l. elim (decLt v n) [
-      | yes b ↦ has-setOf g n v b ∙ sym (below v b)
-      | no b ↦ has-setOf-none g n v (omega arith) ∙ sym (past v (omega arith))
+      | yes b ↦ has-setOf g n v b ∙ sym (same v l)
+      | no b ↦ has-setOf-none g n v (omega arith) ∙ sym (same v l ∙ past v (omega arith))
     ])
 
 -- the entry of lane k, from the vectors of all actions
 abbrev pub laneEntry : List ℕ → ℕ → ℕ
 laneEntry vectors k = setOf (λ a. has (getD vectors a 0) k) mostActions
 
-pub lane-entry : (p : Policy) (vectors : List ℕ) (n k : ℕ) (s : Sets) → n ≡ actions (p .form)
-    → ((a : ℕ) → a < n → has (getD vectors a 0) k ≡ grants p a s) → ((a : ℕ) → n ≤ a → getD vectors a 0 ≡ 0) → laneEntry vectors k ≡ entryOf p s
+pub lane-entry : (p : Policy) (g : Grants) → GrantsOf p g → (vectors : List ℕ) (k : ℕ) (s : Sets)
+    → ((a : ℕ) → a < mostActions → has (getD vectors a 0) k ≡ grants p a s) → laneEntry vectors k ≡ entryOf p s
 unfolding entryOf
-lane-entry p vectors n k s e h z =
-    setOf-within _ (λ a. grants p a s) n mostActions (omega (arith, actions-most (p .form))) h (λ a l. rw (z a l) (has-zero k))
-    ∙ ap (setOf (λ a. grants p a s)) e
+lane-entry p g x vectors k s h =
+    setOf-within _ (λ a. grants p a s) (actions (p .form)) mostActions (actions-most (p .form)) h (λ a l. grants-past p s g a x l)
 
 -- ---- the first action at which two entries differ
 

@@ -37,9 +37,8 @@ pub fn rows_of(policy: PolicyValue) -> Rows
 {
     let user = policy.user;
     let object = policy.object;
-    let rules = policy.rules;
     let source = blocks::source_of(user, object);
-    let grants = grant::of_actions(policy.form, rules);
+    let grants = grant::of_policy(policy);
     Rows { source, grants }
 }
 

@@ -97,9 +97,8 @@ module _ {p : Policy} {c : Cursor} (s : Standing p c) where
           put = y;
           stands = record {
             source = s .source;
-            rules = s .rules;
             stored = s .stored;
-            fit = s .fit;
+            grants = s .grants;
             within = s .within;
             tuples = s .tuples;
             held = record { low = omega (arith, s .held .low); high = s .held .high; long = s .held .long };
@@ -120,9 +119,8 @@ module _ {p : Policy} {c : Cursor} (s : Standing p c) where
           put = y .put;
           stands = record {
             source = s .source;
-            rules = s .rules;
             stored = s .stored;
-            fit = s .fit;
+            grants = s .grants;
             within = s .within;
             tuples = record { values = s .tuples .values; blocks = s .tuples .blocks; within = y .high };
             held = s .held;
@@ -137,7 +135,7 @@ unfolding leftOf
 handed-held {p} {c} {entry} {exit} {r} y l h =
     let s = y .stands in
     record {
-      stands = record { source = s .source; rules = s .rules; stored = s .stored; fit = s .fit; within = s .within; tuples = s .tuples; held = held-fits (y .put) l };
+      stands = record { source = s .source; stored = s .stored; grants = s .grants; within = s .within; tuples = s .tuples; held = held-fits (y .put) l };
       left = y .left ∙ rw (held-none (r .next .held) h, held-put (y .put));
     }
 
@@ -191,7 +189,7 @@ module _ {p : Policy} {c : Cursor} (s : Standing p c) (h : c .rule < c .rules .c
       let es = c .rules .entries in
       let l : c .rule < length (p .rules) = omega (arith, s .stored) in
       let g : getD (p .rules) (c .rule) (ruleOf noWords) ≡ ruleOf (ruleAt (c .rules) (c .rule)) =
-      ap (λ (rs : List Rule). getD rs (c .rule) (ruleOf noWords)) (s .rules)
+      ap (λ (rs : List Rule). getD rs (c .rule) (ruleOf noWords)) (s .grants .rules)
       ∙ List·getD-map ruleOf (take n es) (c .rule) noWords ∙ ap ruleOf (getD-take n es (c .rule) noWords h) in
       drop-cons (p .rules) (c .rule) (ruleOf noWords) l ∙ rw (g, add-one (c .rule))
 
@@ -224,9 +222,8 @@ module _ {p : Policy} {c : Cursor} (s : Standing p c) (h : c .rule < c .rules .c
         record {
           stands = record {
             source = s .source;
-            rules = s .rules;
             stored = s .stored;
-            fit = s .fit;
+            grants = s .grants;
             within = omega arith;
             tuples = record { values = s .tuples .values; blocks = k .blocks; within = omega arith };
             held = held-fits y l;

@@ -10,6 +10,7 @@ use crate::lines;
 use crate::lines::ROOM;
 use formula::blocks::Source;
 use formula::grant;
+use formula::grant::Grants;
 use formula::side::LANES;
 use policy::value::Rules;
 use tuples::blocks;
@@ -156,7 +157,7 @@ fn with_rule(c: Cursor) -> Cursor
     let rule = entries[i];
     let action = rule.action;
     let source = c.source;
-    let marks = blocks::marks(source, grant::of_action(rules, action));
+    let marks = blocks::marks(source, grant::of_action(Grants { rules }, action));
     let words = marks.words;
     let count = marks::count(&words, marks.count);
     let mut line = blank();

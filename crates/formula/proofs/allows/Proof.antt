@@ -22,14 +22,16 @@ spread-requires-2 c κs = search needs
 with-seniors-requires : tie.Need-with-seniors-requires
 with-seniors-requires c κs = search needs
 
+of-policy-requires : tie.Need-of-policy-requires
+of-policy-requires c κs = search needs
+
 of-action-requires : tie.Need-of-action-requires
-of-action-requires c κs = search needs
+of-action-requires c κs = (_, c .of-policy .ensures)
 
 where-granted-requires : tie.Need-where-granted-requires
-unfolding policyOf
 where-granted-requires c κs =
-    let t = c .before .before .before .before .before .before .before .before .before .before .before .before in let a = t .args in
-    (policyOf (a .v), a .action, t .pre .1, c .before .before .of-action .ensures (policyOf (a .v)) refl)
+    let t = c .before .before .before .before .before .before .before .before .before .before .before .before in let p = policyOf (t .args .v) in
+    ((p, t .pre .1), c .before .before .of-action .ensures p (c .before .before .before .of-policy .ensures) .few)
 
 returns : tie.Need-returns
 unfolding policyOf sideOf
@@ -38,14 +40,16 @@ returns c =
     let seniors = g .before .before in
     let juniors = seniors .before .before .before .before in
     let t = juniors .before .before .before .before in let a = t .args in
-    let x : InLane (policyOf (a .v)) (juniors .with-juniors .result) (seniors .with-seniors .result) 0 (at (a .user) (a .object)) =
+    let p = policyOf (a .v) in
+    let x : InLane p (juniors .with-juniors .result) (seniors .with-seniors .result) 0 (at (a .user) (a .object)) =
     record {
       lane = lit< tt;
       user = juniors .with-juniors .ensures 0 (a .user) (juniors .before .spread .ensures 0 (lit< tt));
       object = seniors .with-seniors .ensures 0 (a .object) (seniors .before .spread2 .ensures 0 (lit< tt));
     } in
     ap (λ (n : ℕ). eqb (n % 2) 1) (sym (div-one (c .where-granted .result)))
-    ∙ c .where-granted .ensures (policyOf (a .v)) (a .action) 0 (at (a .user) (a .object)) (t .pre .1) (g .of-action .ensures (policyOf (a .v)) refl) x
+    ∙ c .where-granted .ensures p 0 (at (a .user) (a .object)) (t .pre .1) x
+    ∙ g .of-action .ensures p (g .before .of-policy .ensures) .same (at (a .user) (a .object))
 
 pub allows-spec : {M : Type 1} → statement M
 allows-spec =
@@ -55,6 +59,7 @@ allows-spec =
     with-juniors-requires
     spread-requires-2
     with-seniors-requires
+    of-policy-requires
     of-action-requires
     where-granted-requires
     returns)

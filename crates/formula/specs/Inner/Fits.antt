@@ -1,9 +1,9 @@
 -- What the evaluator asks of a policy value, and check 11 gives.
-use Prim.Native.Nat.{_≤_, _<_}
+use Prim.Native.Nat.{ℕ, _≤_, _<_}
 use mathlib.Core.List.{List·Memᴰ}
 use lib.ListN.{take}
 use Rattle.seniority.specs.Inner.{Ordered}
-use Rattle.policy.specs.Limits.{mostValues, mostActions}
+use Rattle.policy.specs.Limits.{actions, mostValues}
 use Rattle.policy.specs.Policy.{total}
 use Rattle.policy.specs.Value.{wordPlaces, rulePlaces, sideOf, linePlaces}
 use Rattle.policy.specs.declared.value.RuleValue.{RuleValue}
@@ -16,16 +16,17 @@ pub record SideFits (s : SideValue) : Type 0 where
   pub lines : s .lines ≤ linePlaces
   pub ordered : Ordered mostValues (take (s .lines) (s .seniority))
 
-pub record RuleFits (r : RuleValue) : Type 0 where
-  pub action : r .action < mostActions
+-- of n actions
+pub record RuleFits (n : ℕ) (r : RuleValue) : Type 0 where
+  pub action : r .action < n
   pub words : r .count ≤ wordPlaces
 
 -- the rules before the count fit
-pub record RulesFit (rs : Rules) : Type 0 where
+pub record RulesFit (n : ℕ) (rs : Rules) : Type 0 where
   pub count : rs .count ≤ rulePlaces
-  pub each : (r : RuleValue) → List·Memᴰ r (take (rs .count) (rs .entries)) → RuleFits r
+  pub each : (r : RuleValue) → List·Memᴰ r (take (rs .count) (rs .entries)) → RuleFits n r
 
 pub record ValueFits (v : PolicyValue) : Type 0 where
   pub user : SideFits (v .user)
   pub object : SideFits (v .object)
-  pub rules : RulesFit (v .rules)
+  pub rules : RulesFit (actions (v .form)) (v .rules)

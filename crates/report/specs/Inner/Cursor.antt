@@ -8,8 +8,7 @@ use lib.ListN.{length, take, drop}
 use Rattle.text.specs.Parts.{textOf}
 use Rattle.policy.specs.Limits.{mostPairs}
 use Rattle.policy.specs.Policy.{Policy, total}
-use Rattle.policy.specs.Value.{rulesOf}
-use Rattle.formula.specs.Inner.Fits.{RulesFit}
+use Rattle.formula.specs.Inner.Grant.{GrantsOf}
 use Rattle.formula.specs.Inner.Lane.{lanes}
 use Rattle.formula.specs.Inner.Source.{SourceOf}
 use Rattle.tuples.specs.Inner.Marks.{mostBlocks, marked, passing}
@@ -53,9 +52,8 @@ pub record TuplesFit (p : Policy) (t : Tuples) : Type 0 where
 -- the cursor is one of this policy
 pub record Standing (p : Policy) (c : Cursor) : Type 0 where
   pub source : SourceOf p (c .source)
-  pub rules : p .rules ≡ rulesOf (c .rules)
   pub stored : length (p .rules) ≡ c .rules .count
-  pub fit : RulesFit (c .rules)
+  pub grants : GrantsOf p (record { rules = c .rules })
   pub within : c .rule ≤ c .rules .count
   pub tuples : TuplesFit p (c .tuples)
   pub held : HeldFits (c .held)

@@ -1,83 +1,81 @@
--- `formula::entries::of_pairs` meets its contract: r has the actions below a.
-use Prim.Native.Nat.{ℕ, zero, suc, _-_, _≤_, _<_}
+-- `formula::entries::of_pairs` meets its contract: in each lane r says what the rules from i on grant.
+use Prim.Native.Nat.{ℕ, _+_, _-_, _≤_, _<_}
 use mathlib.Core.Path.{_≡_, refl, _∙_}
-use native.Mathlib.Nat.{not-suc-le-zero}
 use native.Mathlib.Omega.{arith}
-use lib.ListN.{length, getD, length-set, replicate}
-use lib.Seq.{getD-set-other}
+use lib.ListN.{length, take, drop, length-set}
 use borrow.Author.Needs.{needs}
-use Rattle.basis.proofs.Places.{stored-next}
-use Rattle.sets.specs.Set.{has}
+use Rattle.basis.proofs.Lists.{long}
+use Rattle.basis.proofs.Walk.{part-end}
 use Rattle.policy.specs.Limits.{mostActions}
 use Rattle.policy.specs.Policy.{Policy}
-use Rattle.policy.proofs.Forms.{actions-most}
-use Rattle.formula.specs.Truth.{Sets, grants}
-use Rattle.formula.specs.Inner.Grant.{noGrant, GrantOf}
+use Rattle.policy.specs.Value.{rulePlaces}
+use Rattle.formula.specs.Truth.{Sets}
 use Rattle.formula.specs.Inner.Lane.{AttributesOf, InLane}
+use Rattle.formula.proofs.Granting.{outcome-all, rule-placed, Says, says-none, says-next}
 use Rattle.formula.proofs.entries.of_pairs.Statement.{statement}
 use Rattle.formula.proofs.entries.of_pairs.Tie as tie
 
--- nothing is granted at first
-zeros-at : (n b : ℕ) → _≡_ {A = ℕ} (getD (replicate n 0) b 0) 0
-zeros-at zero b = refl
-zeros-at (suc n) zero = refl
-zeros-at (suc n) (suc b) = zeros-at n b
-
 abbrev Inv-loop : tie.InvT-loop
-Inv-loop sides users objects each n r₀ a₀ r a =
-    (a ≤ n) × (n ≤ mostActions) × (length r ≡ mostActions)
-    × ((p : Policy) (k : ℕ) (s : Sets) → AttributesOf p sides → ((b : ℕ) → b < n → GrantOf p b (getD each b noGrant)) → InLane p users objects k s
-    → (b : ℕ) → b < a → has (getD r b 0) k ≡ grants p b s)
-    × ((b : ℕ) → a ≤ b → getD r b 0 ≡ 0)
+Inv-loop sides users objects entries r₀ i₀ r i =
+    (i ≤ i₀) × (i₀ ≤ length entries) × (length r ≡ mostActions)
+    × ((p : Policy) (k : ℕ) (s : Sets) → AttributesOf p sides → InLane p users objects k s → Says p s (drop i (take i₀ entries)) r k)
 
 abbrev μ-loop : tie.MeasureT-loop
-μ-loop sides users objects each n r₀ a₀ r a = n - a
+μ-loop sides users objects entries r₀ i₀ r i = i
 
 loop-holds : tie.Need-loop-holds Inv-loop μ-loop
 loop-holds c =
-    let h = c .before .pre in
-    (omega arith, omega (arith, h .2 .all, actions-most (h .0 .form)), refl, λ p k s x g l b i. absurd (not-suc-le-zero i), λ b i. zeros-at mostActions b)
+    let t = c .before .before in let rs = t .args .grants .rules in
+    let l : length (rs .entries) ≡ rulePlaces = search (needs, long) in
+    let n : rs .count ≤ rs .count = omega arith in
+    (n, omega (arith, t .pre .2 .fit .count), refl, λ p k s x y. rw (part-end (rs .entries) (rs .count) (rs .count) n) (says-none p s k))
 
-mul-grant : tie.Need-mul-grant Inv-loop μ-loop
-mul-grant c = search needs
+sub-i : tie.Need-sub-i Inv-loop μ-loop
+sub-i c = search needs
 
-array-copy-out-grant : tie.Need-array-copy-out-grant Inv-loop μ-loop
-array-copy-out-grant c = search needs
+mul-rule : tie.Need-mul-rule Inv-loop μ-loop
+mul-rule c = search needs
+
+array-copy-out-rule : tie.Need-array-copy-out-rule Inv-loop μ-loop
+array-copy-out-rule c = search needs
+
+cast-a : tie.Need-cast-a Inv-loop μ-loop
+cast-a c = search needs
 
 where-granted-requires : tie.Need-where-granted-requires Inv-loop μ-loop
 where-granted-requires c κs =
-    let h = c .before .before .before .before .pre in let a = c .before .before .loop .a in
-    (h .0, a, h .1, h .2 .each a (c .before .loop-test .taken))
+    let t = c .before .before .before .before .before .before in let l = c .before .before .before .loop in let g = t .pre in
+    ((g .0, g .1), rule-placed (g .0) (t .args .grants) (g .2) (l .inv .1) (l .i - 1) (omega arith) .words)
 
 mul-r : tie.Need-mul-r Inv-loop μ-loop
 mul-r c = search needs
 
 array-write-r : tie.Need-array-write-r Inv-loop μ-loop
-array-write-r c = search needs
-
-add-a : tie.Need-add-a Inv-loop μ-loop
-add-a c = search needs
+array-write-r c =
+    let t = c .before .before .before .before .before .before .before in let l = c .before .before .before .before .loop in let g = t .pre in
+    omega (arith, rule-placed (g .0) (t .args .grants) (g .2) (l .inv .1) (l .i - 1) (omega arith) .action, l .inv .2)
 
 loop-less : tie.Need-loop-less Inv-loop μ-loop
 loop-less c = search needs
 
 loop-again : tie.Need-loop-again Inv-loop μ-loop
 loop-again c =
-    let l = c .before .before .before .loop in let w = c .where-granted in (
+    let w = c .where-granted in let t = c .before .before .before .before .before .before .before in let l = c .before .before .before .before .loop in
+    let rs = t .args .grants .rules in
+    let h : l .i - 1 < rs .count = omega arith in
+    let e : l .i - 1 + 1 ≡ l .i = omega arith in (
       omega arith,
       l .inv .1,
       simp length-set (l .inv .2),
-      λ p k s x g y.
-          stored-next (λ b v. has v k ≡ grants p b s) 0 (l .r) (l .a) (w .result) (omega (arith, l .inv .1, l .inv .2))
-          (l .inv .3 p k s x g y) (w .ensures p (l .a) k s x (g (l .a) (c .before .before .loop-test .taken)) y),
-      λ b i. getD-set-other (l .r) (l .a) b (w .result) 0 (λ e. omega arith) ∙ l .inv .4 b (omega arith),
+      λ p k s x y.
+          says-next p s (rs .entries) (rs .count) (l .i - 1) h (l .inv .1) (rule-placed (t .pre .0) (t .args .grants) (t .pre .2) (l .inv .1) (l .i - 1) h) (l .r) (w .result) k (l .inv .2)
+          (w .ensures p k s x y) (rw e (l .inv .3 p k s x y)),
     )
 
 returns : tie.Need-returns Inv-loop μ-loop
-returns c = (
-  λ p k s x g y a h. c .before .loop .inv .3 p k s x (g .each) y a (omega arith),
-  λ a h. c .before .loop .inv .4 a (omega arith),
-)
+returns c p k s x g y a h =
+    let i : c .before .loop .i ≡ 0 = omega arith in
+    (rw i at (c .before .loop .inv .3 p k s x y a h)) ∙ outcome-all p s (c .before .before .before .before .args .grants) a g
 
 pub of-pairs-spec : {M : Type 1} → statement M
 of-pairs-spec =
@@ -86,12 +84,13 @@ of-pairs-spec =
     Inv-loop
     μ-loop
     loop-holds
-    mul-grant
-    array-copy-out-grant
+    sub-i
+    mul-rule
+    array-copy-out-rule
+    cast-a
     where-granted-requires
     mul-r
     array-write-r
-    add-a
     loop-less
     loop-again
     returns)

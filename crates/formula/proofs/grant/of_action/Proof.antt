@@ -23,9 +23,9 @@ abbrev μ-loop : tie.MeasureT-loop
 
 loop-holds : tie.Need-loop-holds Inv-loop μ-loop
 loop-holds c =
-    let rs = c .before .args .rules in
+    let rs = c .before .before .args .grants .rules in
     let l : length (rs .entries) ≡ rulePlaces = search (needs, long) in
-    (omega arith, omega (arith, c .before .pre .count), λ p s. refl)
+    (omega arith, omega (arith, c .before .before .pre .1 .fit .count), λ p s. refl)
 
 mul-rule : tie.Need-mul-rule Inv-loop μ-loop
 mul-rule c = search needs
@@ -35,12 +35,12 @@ array-copy-out-rule c = search needs
 
 returns : tie.Need-returns Inv-loop μ-loop
 returns c p e =
-    let t = c .before .before .before .before .before .before in let l = c .before .before .before .before .loop in
-    let rs = t .args .rules in let a = t .args .action in
+    let t = c .before .before .before .before .before .before .before in let l = c .before .before .before .before .loop in
+    let rs = t .args .grants .rules in let a = t .args .action in
     let h : l .i < rs .count = omega arith in
     record {
-      few = rule-at rs (t .pre) (l .inv .1) (l .i) h .words;
-      formula = λ s. outcome-found p s (rs .entries) (rs .count) (l .i) a h (l .inv .1) (c .if1 .taken) ∙ l .inv .2 p s ∙ outcome-all p s rs a e;
+      few = rule-at _ rs (e .fit) (l .inv .1) (l .i) h .words;
+      same = λ s. outcome-found p s (rs .entries) (rs .count) (l .i) a h (l .inv .1) (c .if1 .taken) ∙ l .inv .2 p s ∙ outcome-all p s (t .args .grants) a e;
     }
 
 add-i : tie.Need-add-i Inv-loop μ-loop
@@ -51,8 +51,8 @@ loop-less c = search needs
 
 loop-again : tie.Need-loop-again Inv-loop μ-loop
 loop-again c =
-    let t = c .before .before .before .before .before .before in let l = c .before .before .before .before .loop in
-    let rs = t .args .rules in (
+    let t = c .before .before .before .before .before .before .before in let l = c .before .before .before .before .loop in
+    let rs = t .args .grants .rules in (
       omega arith,
       l .inv .1,
       λ p s. outcome-passed p s (rs .entries) (rs .count) (l .i) (t .args .action) (omega arith) (l .inv .1) (c .if1 .left) ∙ l .inv .2 p s,
@@ -63,13 +63,13 @@ nothing-requires c κs = search needs
 
 returns-2 : tie.Need-returns-2 Inv-loop μ-loop
 returns-2 c p e =
-    let t = c .before .before .before .before in let l = c .before .before .loop in let g = c .nothing in
-    let rs = t .args .rules in let a = t .args .action in
+    let t = c .before .before .before .before .before in let l = c .before .before .loop in let g = c .nothing in
+    let rs = t .args .grants .rules in let a = t .args .action in
     record {
       few = omega (arith, g .ensures);
-      formula = λ s.
+      same = λ s.
           outcome-none p s (g .result) a (g .ensures)
-          ∙ (rw (part-end (rs .entries) (rs .count) (l .i) (omega arith)) at (l .inv .2 p s)) ∙ outcome-all p s rs a e;
+          ∙ (rw (part-end (rs .entries) (rs .count) (l .i) (omega arith)) at (l .inv .2 p s)) ∙ outcome-all p s (t .args .grants) a e;
     }
 
 pub of-action-spec : {M : Type 1} → statement M

@@ -60,7 +60,7 @@ returns c = (
   λ p u sides grants lane old o h.
       let g = c .before .before .of-pairs in
       c .before .loop .inv .2 (λ i. entryOf p (at u i)) old
-      (λ k l. lane-entry p (g .result) _ k _ (grants .all) (λ a b. g .ensures .0 p k _ sides grants (lane k l) a b) (g .ensures .1)) o (omega arith),
+      (λ k l. lane-entry p _ grants (g .result) k _ (g .ensures p k _ sides grants (lane k l))) o (omega arith),
 )
 
 pub put-block-spec : {M : Type 1} → statement M

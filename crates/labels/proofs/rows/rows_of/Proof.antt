@@ -8,14 +8,14 @@ use Rattle.labels.proofs.rows.rows_of.Tie as tie
 source-of-requires : tie.Need-source-of-requires
 source-of-requires c κs = search needs
 
-of-actions-requires : tie.Need-of-actions-requires
-of-actions-requires c κs = search needs
+of-policy-requires : tie.Need-of-policy-requires
+of-policy-requires c κs = search needs
 
 returns : tie.Need-returns
 unfolding policyOf
 returns c =
-    let v = c .before .before .before .before .before .args .policy in
-    record { source = c .before .source-of .ensures (policyOf v) refl refl; grants = c .of-actions .ensures (policyOf v) refl refl }
+    let v = c .before .before .before .before .args .policy in
+    record { source = c .before .source-of .ensures (policyOf v) refl refl; grants = c .of-policy .ensures }
 
 pub rows-of-spec : {M : Type 1} → statement M
-rows-of-spec = tie.close (tie.spec source-of-requires of-actions-requires returns)
+rows-of-spec = tie.close (tie.spec source-of-requires of-policy-requires returns)

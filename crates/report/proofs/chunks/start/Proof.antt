@@ -39,9 +39,8 @@ returns c =
       p,
       record {
         source = source;
-        rules = refl;
         stored = read-stored (readText t) (r .ensures);
-        fit = f .rules;
+        grants = record { fit = f .rules; rules = refl };
         within = omega arith;
         tuples = record { values = c .before .before .total .ensures (p .object) (source .sides .object); blocks = omega (arith, none); within = omega arith };
         held = held .0;

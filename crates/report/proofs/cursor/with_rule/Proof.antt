@@ -9,18 +9,18 @@ use Rattle.report.proofs.cursor.with_rule.Statement.{statement}
 use Rattle.report.proofs.cursor.with_rule.Tie as tie
 
 mul-rule : tie.Need-mul-rule
-mul-rule c = let s = c .before .before in omega (arith, s .pre, s .pre .0 .1 .fit .count)
+mul-rule c = let s = c .before .before in omega (arith, s .pre, s .pre .0 .1 .grants .fit .count)
 
 array-copy-out-rule : tie.Need-array-copy-out-rule
-array-copy-out-rule c = let s = c .before .before in omega (arith, s .pre, s .pre .0 .1 .fit .count)
+array-copy-out-rule c = let s = c .before .before in omega (arith, s .pre, s .pre .0 .1 .grants .fit .count)
 
 of-action-requires : tie.Need-of-action-requires
-of-action-requires c κs = c .before .before .before .before .pre .0 .1 .fit
+of-action-requires c κs = let x = c .before .before .before .before .pre .0 in (x .0, x .1 .grants)
 
 marks-requires : tie.Need-marks-requires
 marks-requires c κs =
     let x = c .before .before .before .before .before .pre .0 in
-    (x .0, _, x .1 .source, c .of-action .ensures (x .0) (x .1 .rules))
+    (x .0, _, x .1 .source, c .of-action .ensures (x .0) (x .1 .grants))
 
 count-requires : tie.Need-count-requires
 count-requires c κs = c .before .before .marks .ensures .0
@@ -30,7 +30,7 @@ marking : (c : tie.After-count) (p : Policy) → Standing p (c .before .before .
     → Marking p (ruleAt (c .before .before .before .before .before .before .before .before .before .args .c .rules) (c .before .before .before .before .before .before .before .before .before .args .c .rule) .action) (c .before .before .before .marks .result) (c .count .result)
 marking c p x =
     let m = c .before .before .before in
-    record { blocks = m .marks .ensures .0; tuples = m .marks .ensures .1 p _ (x .source) (m .before .of-action .ensures p (x .rules)); number = c .count .ensures }
+    record { blocks = m .marks .ensures .0; tuples = m .marks .ensures .1 p _ (x .source) (m .before .of-action .ensures p (x .grants)); number = c .count .ensures }
 
 blank-requires : tie.Need-blank-requires
 blank-requires c κs = search needs
@@ -47,7 +47,7 @@ action-line-requires : tie.Need-action-line-requires
 action-line-requires c κs = omega (arith, c .before .blank .ensures)
 
 add-t16 : tie.Need-add-t16
-add-t16 c = let s = c .before .before .before .before .before .before .before .before .before .before .before .before .before .before in omega (arith, s .pre, s .pre .0 .1 .fit .count)
+add-t16 c = let s = c .before .before .before .before .before .before .before .before .before .before .before .before .before .before in omega (arith, s .pre, s .pre .0 .1 .grants .fit .count)
 
 returns : tie.Need-returns
 returns c =
