@@ -17,7 +17,7 @@ use Rattle.words.specs.declared.Holding.{Holding}
 use Rattle.words.specs.declared.Holding.the-variants.{User, Object}
 use Rattle.words.specs.declared.Comparison.{Comparison}
 use Rattle.words.specs.declared.Comparison.the-variants.{Dominates, Equals}
-use Rattle.policy.specs.Checks.{bothThere, wordFits, widthsEqual, equalWidth, takes, balanced}
+use Rattle.policy.specs.Checks.{Sizes, bothThere, wordFits, widthsEqual, equalWidth, takes, balanced}
 use Rattle.policy.specs.Value.{slot, wordsIn}
 use Rattle.policy.specs.declared.value.Slot.{Slot}
 use Rattle.checks.specs.Inner.{sizesIn, bothIn}
@@ -127,3 +127,9 @@ module _ {slots : List Slot} {n : ℕ} where
       pub leaves-few : d < t → false ≡ balanced 0 (wordsIn n slots)
       unfolding balanced
       leaves-few g = sym (q .rest ∙ rw (word-next slots n i h k, ← e, lt-leb t d g))
+
+-- the words before place i pass both tests and leave d truth values
+pub record Checked (s : Sizes) (slots : List Slot) (n d i : ℕ) : Type 0 where
+  pub fit : Passed (wordFits s) slots n i
+  pub equal : Passed (widthsEqual s) slots n i
+  pub stack : Leaves slots n d i

@@ -160,3 +160,29 @@ pub fn balanced(slots: [Slot; WORD_PLACES], n: usize) -> bool
     }
     depth == 1
 }
+
+// Checks 6, 8 and 9 of the first n words in one pass, for check 11, which does not tell which of them is broken.
+pub fn sound(user: Shape, object: Shape, slots: [Slot; WORD_PLACES], n: usize) -> bool
+    requires { ⌜ (n ≤ wordPlaces) × (user .attributes ≤ widthPlaces) × (object .attributes ≤ widthPlaces) ⌝ }
+    ensures { λ r. ⌜ r ≡ (all (checks.wordFits (bothIn user object)) (wordsIn n slots) && (all (checks.widthsEqual (bothIn user object)) (wordsIn n slots) && checks.balanced 0 (wordsIn n slots))) ⌝ }
+{
+    let mut depth: usize = 0;
+    let mut i = 0;
+    while i < n {
+        let s = slots[i];
+        let w = s.word;
+        if !word_fits(user, object, w) {
+            return false;
+        }
+        if !widths_equal(user, object, w) {
+            return false;
+        }
+        let k = takes(w);
+        if depth < k {
+            return false;
+        }
+        depth = depth - k + 1;
+        i += 1;
+    }
+    depth == 1
+}

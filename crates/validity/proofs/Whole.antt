@@ -14,7 +14,7 @@ use lib.Seq.{length-take-le}
 use Rattle.basis.specs.Lists.{all, sum}
 use Rattle.basis.proofs.Bools.{and-left, and-right}
 use Rattle.basis.proofs.Padded.{same-padded, same-map}
-use Rattle.policy.specs.Limits.{isForm, values, actions, userNumbers, objectNumbers, mostWords, mostValues}
+use Rattle.policy.specs.Limits.{isForm, values, userNumbers, objectNumbers, mostWords, mostValues}
 use Rattle.policy.specs.Policy.{Side, total}
 use Rattle.policy.specs.Checks.{SideSizes, Sizes, sideSizes, sizes, wordFits, widthsEqual, balanced}
 use Rattle.policy.specs.Value.{widthPlaces, wordPlaces, wordsIn, rulePlaces, noRule, register, sideOf, sideValue, entriesOf, ruleOf, ruleValue, rulesOf, rulesValue, policyOf, valueOf}
@@ -30,7 +30,7 @@ use Rattle.policy.proofs.Valid.{valid-sound}
 use Rattle.checks.specs.Inner.{sizesIn, bothIn, shapeOf}
 use Rattle.checks.specs.declared.side.Shape.{Shape}
 use Rattle.checks.proofs.Laws.{shape-sizes}
-use Rattle.validity.specs.Inner.{holds, widthsValid, linesValid, sideValid, registerValid, ruleValid, rulesValid, SidesValid, listsValid}
+use Rattle.validity.specs.Inner.{holds, widthsValid, linesValid, sideValid, registerValid, ruleValid, rulesValid, listsValid}
 use Rattle.validity.proofs.Rising.{rising-map, rising-all}
 use Rattle.validity.proofs.Widths.{sound-sum}
 
@@ -66,9 +66,10 @@ widths-small most ws n k e =
     let s = and-right (leb 1 (length (take n ws))) _ (and-right (eqb (length (take n ws)) n && _) _ e) in
     record { places = omega (arith, length-take n ws); small = sound-sum most (take n ws) s }
 
-pub side-small : (most : ℕ) (x : SideValue) → length (x .widths) ≡ widthPlaces → sideValid most x ≡ true → Small most (x .widths) (x .attributes)
-side-small most x k e =
-    widths-small most (x .widths) (x .attributes) k (and-left (widthsValid most (x .widths) (x .attributes)) _ (sym (side-parts most x) ∙ e))
+pub side-small : (most : ℕ) (x : SideValue) {b : Bool} → length (x .widths) ≡ widthPlaces → b ≡ sideValid most x → not b ≡ false → Small most (x .widths) (x .attributes)
+side-small most x {b} k e h =
+    widths-small most (x .widths) (x .attributes) k
+    (and-left (widthsValid most (x .widths) (x .attributes)) _ (sym (side-parts most x) ∙ sym e ∙ not-false b h))
 
 -- ---- a rule
 
@@ -135,33 +136,12 @@ module _ {most n : ℕ} {ws : List ℕ} (h : Small most ws n) {u : Shape} (q : u
   pub shape-is : length ws ≡ widthPlaces → (s : Side) → s .widths ≡ take n ws → sizesIn u ≡ sideSizes s
   shape-is k s e = rw q (shape-sizes ws n (rw k (h .places)) s e)
 
--- the answers about the lists
-module _ (v : PolicyValue) (u : Shape) (x : sizesIn u ≡ sideSizes (sideOf (v .user)))
-    {a : Bool} (f : a ≡ registerValid userNumbers (u .total) (v .users)) where
-  users-are : a ≡ registerValid userNumbers (total (sideOf (v .user))) (v .users)
-  users-are = f ∙ ap (λ (z : SideSizes). registerValid userNumbers (z .values) (v .users)) x
-
-  pub users-not : not a ≡ true → false ≡ listsValid v
-  unfolding listsValid
-  users-not e = rw (← users-are, not-true a e)
-
-  module _ (e : not a ≡ false) (o : Shape) (y : sizesIn o ≡ sideSizes (sideOf (v .object)))
-      {b : Bool} (g : b ≡ registerValid objectNumbers (o .total) (v .objects)) where
-    objects-are : b ≡ registerValid objectNumbers (total (sideOf (v .object))) (v .objects)
-    objects-are = g ∙ ap (λ (z : SideSizes). registerValid objectNumbers (z .values) (v .objects)) y
-
-    pub objects-not : not b ≡ true → false ≡ listsValid v
-    unfolding listsValid
-    objects-not h = rw (← users-are, not-false a e, ← objects-are, not-true b h)
-
-    both-are : bothIn u o ≡ sizes (policyOf v)
-    unfolding policyOf
-    both-are = ap (λ (z : SideSizes). record { user = z; object = sizesIn o }) x ∙ ap (λ (z : SideSizes). record { user = sideSizes (sideOf (v .user)); object = z }) y
-
-    pub rules-left : not b ≡ false → {n : ℕ} {r : Bool} → n ≡ actions (v .form)
-        → r ≡ rulesValid n (bothIn u o) (v .rules) → r ≡ listsValid v
-    unfolding listsValid
-    rules-left h q t = rw (← users-are, not-false a e, ← objects-are, not-false b h, ← q, ← both-are) t
+-- the sizes of both sides
+pub both-are : (v : PolicyValue) (u o : Shape) → sizesIn u ≡ sideSizes (sideOf (v .user)) → sizesIn o ≡ sideSizes (sideOf (v .object))
+    → bothIn u o ≡ sizes (policyOf v)
+unfolding policyOf
+both-are v u o x y =
+    ap (λ (z : SideSizes). record { user = z; object = sizesIn o }) x ∙ ap (λ (z : SideSizes). record { user = sideSizes (sideOf (v .user)); object = z }) y
 
 value-order : (su so ru ro rr f lu lo ku ko eu eo er : Bool)
     → ((su && (so && (ru && (ro && rr)))) && (f && (lu && (lo && (ku && (ko && (eu && (eo && er))))))))
@@ -175,12 +155,15 @@ value-order true true true true true f false lo ku ko eu eo er = refl
 value-order true true true true true f true false ku ko eu eo er = simp and-false
 value-order true true true true true f true true ku ko eu eo er = refl
 
-value-parts : (v : PolicyValue)
-    → (sameValue (valueOf (policyOf v)) v && sound (policyOf v))
-    ≡ (isForm (v .form) && (sideValid (values (v .form)) (v .user) && (sideValid (values (v .form)) (v .object) && listsValid v)))
+valid-parts : (v : PolicyValue)
+    → valid v
+    ≡ (isForm (v .form)
+    && (sideValid (values (v .form)) (v .user)
+    && (sideValid (values (v .form)) (v .object) && listsValid (v .form) (sizes (policyOf v)) (v .users) (v .objects) (v .rules))))
 unfolding sameValue valueOf policyOf sound listsSound sideValid registerValid rulesValid listsValid
-value-parts v =
-    rw (eq-eqb (v .form) (v .form) refl)
+valid-parts v =
+    valid-sound v
+    ∙ (rw (eq-eqb (v .form) (v .form) refl)
     (value-order
     (sameSide (sideValue (sideOf (v .user))) (v .user))
     (sameSide (sideValue (sideOf (v .object))) (v .object))
@@ -194,11 +177,7 @@ value-parts v =
     (sideSound (values (v .form)) (sideOf (v .object)))
     (entriesSound userNumbers (total (sideOf (v .user))) none (entriesOf (v .users)))
     (entriesSound objectNumbers (total (sideOf (v .object))) none (entriesOf (v .objects)))
-    _)
-
-valid-parts : (v : PolicyValue)
-    → valid v ≡ (isForm (v .form) && (sideValid (values (v .form)) (v .user) && (sideValid (values (v .form)) (v .object) && listsValid v)))
-valid-parts v = valid-sound v ∙ value-parts v
+    _))
 
 -- the answers about the value
 module _ (v : PolicyValue) (a : Bool) (f : a ≡ isForm (v .form)) where
@@ -219,8 +198,6 @@ module _ (v : PolicyValue) (a : Bool) (f : a ≡ isForm (v .form)) where
       pub object-not : not d ≡ true → false ≡ valid v
       object-not l = sym (valid-parts v ∙ rw (← f, not-false a e, ← user, not-false b h, ← object, not-true d l))
 
-      pub sides-valid : not d ≡ false → SidesValid v
-      sides-valid l = record { user = sym user ∙ not-false b h; object = sym object ∙ not-false d l }
-
-      pub lists-left : not d ≡ false → (r : Bool) → r ≡ listsValid v → r ≡ valid v
-      lists-left l r q = q ∙ sym (valid-parts v ∙ rw (← f, not-false a e, ← user, not-false b h, ← object, not-false d l))
+      pub lists-left : not d ≡ false → {s : Sizes} → s ≡ sizes (policyOf v)
+          → {r : Bool} → r ≡ listsValid (v .form) s (v .users) (v .objects) (v .rules) → r ≡ valid v
+      lists-left l x q = q ∙ sym (valid-parts v ∙ rw (← f, not-false a e, ← user, not-false b h, ← object, not-false d l, ← x))

@@ -1,8 +1,7 @@
 -- The parts of check 11, a test for each list of a policy value: it is what the lists read from it are stored as, and
 -- these pass their checks.
 use Prim.Native.Nat.{ℕ}
-use mathlib.Core.Path.{_≡_}
-use mathlib.Core.Bool.{Bool, true, _&&_}
+use mathlib.Core.Bool.{Bool, _&&_}
 use mathlib.Core.List.{List}
 use mathlib.Core.Option.{none}
 use lib.Dec.{eqb, leb}
@@ -10,17 +9,15 @@ use lib.ListN.{length, take}
 use Rattle.basis.specs.Lists.{same, padded}
 use Rattle.seniority.specs.Seniority.{direct}
 use Rattle.seniority.specs.declared.Direct.{Direct}
-use Rattle.policy.specs.Limits.{values, actions, userNumbers, objectNumbers}
-use Rattle.policy.specs.Policy.{total}
-use Rattle.policy.specs.Checks.{SideSizes, Sizes, sizes}
-use Rattle.policy.specs.Value.{widthPlaces, sideValue, register, ruleValue, rulesValue, sideOf, entriesOf, ruleOf, rulesOf, policyOf, linePlaces}
+use Rattle.policy.specs.Limits.{actions, userNumbers, objectNumbers}
+use Rattle.policy.specs.Checks.{SideSizes, Sizes}
+use Rattle.policy.specs.Value.{widthPlaces, sideValue, register, ruleValue, rulesValue, sideOf, entriesOf, ruleOf, rulesOf, linePlaces}
 use Rattle.policy.specs.Valid.{sameLine, sameSide, sameRegister, sameRule, sameRules}
 use Rattle.policy.specs.Inner.Sound.{widthsSound, linesSound, sideSound, entriesSound, ruleSound, rulesSound}
 use Rattle.policy.specs.declared.value.SideValue.{SideValue}
 use Rattle.policy.specs.declared.value.Register.{Register}
 use Rattle.policy.specs.declared.value.RuleValue.{RuleValue}
 use Rattle.policy.specs.declared.value.Rules.{Rules}
-use Rattle.policy.specs.declared.value.PolicyValue.{PolicyValue}
 
 -- an array of m places holds n elements and is blank behind them
 unfoldable pub holds : {A : Type 0} → (A → A → Bool) → ℕ → A → List A → ℕ → Bool
@@ -54,11 +51,8 @@ rulesValid n s x = sameRules (rulesValue (rulesOf x)) x && rulesSound n s none (
 
 -- ---- the value
 
-pub record SidesValid (v : PolicyValue) : Type 0 where
-  pub user : sideValid (values (v .form)) (v .user) ≡ true
-  pub object : sideValid (values (v .form)) (v .object) ≡ true
-
-unfoldable pub listsValid : PolicyValue → Bool
-listsValid v =
-    registerValid userNumbers (total (sideOf (v .user))) (v .users)
-    && (registerValid objectNumbers (total (sideOf (v .object))) (v .objects) && rulesValid (actions (v .form)) (sizes (policyOf v)) (v .rules))
+-- the lists, for sides of these sizes
+unfoldable pub listsValid : ℕ → Sizes → Register → Register → Rules → Bool
+listsValid form s users objects rules =
+    registerValid userNumbers (s .user .values) users
+    && (registerValid objectNumbers (s .object .values) objects && rulesValid (actions form) s rules)

@@ -1,7 +1,11 @@
 // Check 11 on a policy value: whether it is what reading some accepted text yields.
 ghost use mathlib.Core.Path.{_≡_};
+ghost use Prim.Native.Nat.{_≤_};
+ghost use Rattle.policy.specs.Limits.{mostValues};
+ghost use Rattle.policy.specs.Value.{widthPlaces};
 ghost use Rattle.policy.specs.Valid.{valid};
-ghost use Rattle.validity.specs.Inner.{SidesValid, listsValid};
+ghost use Rattle.checks.specs.Inner.{bothIn};
+ghost use Rattle.validity.specs.Inner.{listsValid};
 
 mod behind;
 mod order;
@@ -9,30 +13,39 @@ mod register;
 mod rules;
 mod side;
 
+use checks::side::Shape;
 use policy::limits;
 use policy::value::PolicyValue;
+use policy::value::Register;
+use policy::value::Rules;
 
-// The users, the objects and the rules of a policy value with valid sides.
-fn lists_valid(v: PolicyValue) -> bool
-    requires { ⌜ SidesValid v ⌝ }
-    ensures { λ r. ⌜ r ≡ listsValid v ⌝ }
+// The users, the objects and the rules, for sides of these shapes.
+fn lists_valid(
+    form: u32,
+    u: Shape,
+    o: Shape,
+    users: Register,
+    objects: Register,
+    rules: Rules,
+) -> bool
+    requires { ⌜ (u .total ≤ mostValues) × (o .total ≤ mostValues) × (u .attributes ≤ widthPlaces) × (o .attributes ≤ widthPlaces) ⌝ }
+    ensures { λ r. ⌜ r ≡ listsValid form (bothIn u o) users objects rules ⌝ }
 {
-    let user = v.user;
-    let user_widths = user.widths;
-    let u = checks::side::measure(user_widths, user.attributes);
-    let object = v.object;
-    let object_widths = object.widths;
-    let o = checks::side::measure(object_widths, object.attributes);
-    let users = v.users;
-    if !register::register_valid(limits::USER_NUMBERS, u.total, users) {
+    let user_entries = users.entries;
+    if !register::register_valid(limits::USER_NUMBERS, u.total, user_entries, users.count) {
         return false;
     }
-    let objects = v.objects;
-    if !register::register_valid(limits::OBJECT_NUMBERS, o.total, objects) {
+    let object_entries = objects.entries;
+    if !register::register_valid(
+        limits::OBJECT_NUMBERS,
+        o.total,
+        object_entries,
+        objects.count,
+    ) {
         return false;
     }
-    let rules = v.rules;
-    rules::rules_valid(limits::actions(v.form), u, o, rules)
+    let entries = rules.entries;
+    rules::rules_valid(limits::actions(form), u, o, entries, rules.count)
 }
 
 // Check 11.
@@ -51,5 +64,12 @@ pub fn check(v: PolicyValue) -> bool
     if !side::side_valid(most, object) {
         return false;
     }
-    lists_valid(v)
+    let user_widths = user.widths;
+    let u = checks::side::measure(user_widths, user.attributes);
+    let object_widths = object.widths;
+    let o = checks::side::measure(object_widths, object.attributes);
+    let users = v.users;
+    let objects = v.objects;
+    let rules = v.rules;
+    lists_valid(v.form, u, o, users, objects, rules)
 }

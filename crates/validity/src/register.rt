@@ -7,7 +7,6 @@ ghost use Rattle.policy.specs.Valid.{sameEntry};
 ghost use Rattle.validity.specs.Inner.{registerValid};
 use policy::value::ENTRY_PLACES;
 use policy::value::Entry;
-use policy::value::Register;
 
 fn no_entry(e: Entry) -> bool
     ensures { λ r. ⌜ r ≡ sameEntry noEntry e ⌝ }
@@ -19,16 +18,13 @@ fn no_entry(e: Entry) -> bool
 }
 
 // Check 11 of the users or objects: no more than there are places, each sound, and nothing behind the last.
-pub fn register_valid(most: u32, total: u32, x: Register) -> bool
+pub fn register_valid(most: u32, total: u32, entries: [Entry; ENTRY_PLACES], n: usize) -> bool
     requires { ⌜ total ≤ mostValues ⌝ }
-    ensures { λ r. ⌜ r ≡ registerValid most total x ⌝ }
+    ensures { λ r. ⌜ r ≡ registerValid most total (record { count = n; entries = entries }) ⌝ }
 {
-    let n = x.count;
     if ENTRY_PLACES < n {
         return false;
     }
-    // Both loops look at this one copy.
-    let entries = x.entries;
     let mut last: u32 = 0;
     let mut i = 0;
     while i < n {

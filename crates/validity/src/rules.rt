@@ -12,7 +12,6 @@ ghost use Rattle.validity.specs.Inner.{ruleValid, rulesValid};
 use checks::side::Shape;
 use policy::value::RULE_PLACES;
 use policy::value::RuleValue;
-use policy::value::Rules;
 use policy::value::Slot;
 use policy::value::WORD_PLACES;
 use words::Word;
@@ -55,15 +54,8 @@ fn rule_sound(actions: u32, user: Shape, object: Shape, x: RuleValue) -> bool
     if actions <= x.action {
         return false;
     }
-    let n = x.count;
     let slots = x.words;
-    if !checks::formula::all_fit(user, object, slots, n) {
-        return false;
-    }
-    if !checks::formula::all_equal(user, object, slots, n) {
-        return false;
-    }
-    checks::formula::balanced(slots, n)
+    checks::formula::sound(user, object, slots, x.count)
 }
 
 // No more words than there are places, a sound rule, and nothing behind the last word.
@@ -96,16 +88,19 @@ fn no_rule(x: RuleValue) -> bool
 }
 
 // Check 11 of the rules: no more than there are places, each sound, and nothing behind the last.
-pub fn rules_valid(actions: u32, user: Shape, object: Shape, x: Rules) -> bool
+pub fn rules_valid(
+    actions: u32,
+    user: Shape,
+    object: Shape,
+    rules: [RuleValue; RULE_PLACES],
+    n: usize,
+) -> bool
     requires { ⌜ (user .attributes ≤ widthPlaces) × (object .attributes ≤ widthPlaces) ⌝ }
-    ensures { λ r. ⌜ r ≡ rulesValid actions (bothIn user object) x ⌝ }
+    ensures { λ r. ⌜ r ≡ rulesValid actions (bothIn user object) (record { count = n; entries = rules }) ⌝ }
 {
-    let n = x.count;
     if RULE_PLACES < n {
         return false;
     }
-    // Both loops look at this one copy.
-    let rules = x.entries;
     let mut last: u32 = 0;
     let mut i = 0;
     while i < n {
