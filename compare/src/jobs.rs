@@ -12,8 +12,10 @@ use reference::machine::Call;
 use std::hint::black_box;
 
 /// The names of the jobs, in the order in which both lists below have them.
-pub const NAMES: [&str; 12] = [
+pub const NAMES: [&str; 14] = [
     "read",
+    "read, refused by 5 in line 0",
+    "read, refused by 6 in line 0",
     "read, refused at its end",
     "read, too long",
     "check 11",
@@ -38,7 +40,9 @@ pub fn of_engine<'a, E: Engine>(engine: &'a E, sample: &'a Sample) -> [Job<'a>; 
     let mut table = [0; MOST_TABLE];
     [
         job(move || engine.read(black_box(&sample.text))),
-        job(move || engine.read(black_box(&sample.refused))),
+        job(move || engine.read(black_box(&sample.misspelt))),
+        job(move || engine.read(black_box(&sample.no_form))),
+        job(move || engine.read(black_box(&sample.endless))),
         job(move || engine.read(black_box(&sample.too_long))),
         job(move || engine.valid(black_box(packed))),
         job(move || engine.write(black_box(packed), &mut text)),
@@ -64,7 +68,9 @@ pub fn by_reference(sample: &Sample) -> [Job<'_>; NAMES.len()] {
     let mut table = [0; MOST_TABLE];
     [
         job(move || plain::reader::read(black_box(&sample.text))),
-        job(move || plain::reader::read(black_box(&sample.refused))),
+        job(move || plain::reader::read(black_box(&sample.misspelt))),
+        job(move || plain::reader::read(black_box(&sample.no_form))),
+        job(move || plain::reader::read(black_box(&sample.endless))),
         job(move || plain::reader::read(black_box(&sample.too_long))),
         job(move || plain::checks::valid(black_box(policy))),
         job(move || plain::writer::write(black_box(policy), &mut text)),

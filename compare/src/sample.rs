@@ -50,8 +50,11 @@ pub const SIZES: [Size; 3] = [
 pub struct Sample {
     pub size: Size,
     pub text: Vec<u8>,
+    /// The text with a word for its form, and with a form that there is none of: refused in line 0.
+    pub misspelt: Vec<u8>,
+    pub no_form: Vec<u8>,
     /// The text without its end line, which is refused for that.
-    pub refused: Vec<u8>,
+    pub endless: Vec<u8>,
     /// A text of one byte more than any may have.
     pub too_long: Vec<u8>,
     pub packed: PackedPolicy,
@@ -95,7 +98,9 @@ impl Sample {
         assert_eq!(plain::reader::read(&text), Ok(policy));
         Sample {
             size,
-            refused: text[..text.len() - "end\n".len()].to_vec(),
+            misspelt: in_place_of_form(&text, b"one"),
+            no_form: in_place_of_form(&text, b"0"),
+            endless: text[..text.len() - "end\n".len()].to_vec(),
             too_long: vec![b'\n'; TEXT_BYTES + 1],
             text,
             packed,
@@ -122,6 +127,12 @@ impl Sample {
             table: &compiled.table,
         }
     }
+}
+
+/// A text with something else for its form's number.
+fn in_place_of_form(text: &[u8], form: &[u8]) -> Vec<u8> {
+    let (before, after) = ("policy,".len(), "policy,1".len());
+    [&text[..before], form, &text[after..]].concat()
 }
 
 fn text(size: Size) -> String {
