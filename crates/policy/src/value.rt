@@ -1,4 +1,7 @@
 // The policy value: what the text says, line by line and in text order; every place past a count is blank.
+ghost use mathlib.Core.Path.{_≡_};
+ghost use Rattle.policy.specs.Policy.{blank};
+ghost use Rattle.policy.specs.Value.{valueOf};
 use crate::limits;
 use seniority::Direct;
 use words::Word;
@@ -61,6 +64,44 @@ pub struct PolicyValue {
     pub users: Register,
     pub objects: Register,
     pub rules: Rules,
+}
+
+// The blank value, which stands beside a refusal: no line of any kind.
+pub fn blank() -> PolicyValue
+    ensures { λ r. ⌜ r ≡ valueOf blank ⌝ }
+{
+    let pair = Direct {
+        senior: 0,
+        junior: 0,
+    };
+    let side = SideValue {
+        attributes: 0,
+        widths: [0; WIDTH_PLACES],
+        lines: 0,
+        seniority: [pair; LINE_PLACES],
+    };
+    let register = Register {
+        count: 0,
+        entries: [Entry { number: 0, set: 0 }; ENTRY_PLACES],
+    };
+    let words = [Slot { word: Word::True }; WORD_PLACES];
+    let rule = RuleValue {
+        action: 0,
+        count: 0,
+        words,
+    };
+    let rules = Rules {
+        count: 0,
+        entries: [rule; RULE_PLACES],
+    };
+    PolicyValue {
+        form: 0,
+        user: side,
+        object: side,
+        users: register,
+        objects: register,
+        rules,
+    }
 }
 
 // What reading a text finds: the refusal and its line, or that the text is accepted.

@@ -34,7 +34,7 @@ use Rattle.line.specs.declared.head.Before.the-variants.{Start, After}
 use Rattle.line.specs.declared.head.Head.{Head}
 use Rattle.line.specs.declared.head.Head.the-variants.{Line as LineHead, Fault as FaultHead}
 use Rattle.line.proofs.Heads.{head-fault, head-known}
-use Rattle.reader.specs.Inner.Cursor.{fieldsAt, refusalAt, leftBy, left, bareAt, LineAt, Stands, Past, Bare, Leads, LookedAt, FirstOf, NextOf, aheadIs}
+use Rattle.reader.specs.Inner.Cursor.{fieldsAt, refusalAt, leftBy, left, bareAt, LineAt, Stands, Past, Bare, LookedAt, FirstOf, NextOf, aheadIs}
 use Rattle.reader.specs.declared.cursor.Ahead.{Ahead}
 use Rattle.reader.specs.declared.cursor.Ahead.the-variants.{Line, Over, Fault}
 use Rattle.reader.specs.declared.cursor.Cursor.{Cursor}
@@ -199,22 +199,6 @@ module _ (t : List ℕ) (c : Cursor) (k : Kind) (a : Bool) (o : a ≡ aheadIs (c
 
   pub stop-less : (r : Refusal) → d ≡ bareAt (c .at) (c .line) (Fault r) → toRead t d < toRead t c
   stop-less r q = rw (e, q) (omega arith)
-
--- ---- from cursor to cursor
-
-module _ (t : List ℕ) where
-  -- nothing is read
-  pub stays : (c : Cursor) (p q : Policy) → p ≡ q → Leads t c p c q
-  stays c p q e = record { left = ap (left t c) e; none = λ b. (e, b) }
-
-  -- a line is
-  pub moves : {c : Cursor} {k : Kind} → c .ahead ≡ Line k → {p : Policy} {d : Cursor} {q : Policy} → left t c p ≡ left t d q → Leads t c p d q
-  moves {k = k} e f = record { left = f; none = λ b. absurd (b k e) }
-
-  -- one behind the other
-  pub leads-on : {c d e : Cursor} {p q r : Policy} → Leads t c p d q → Leads t d q e r → Leads t c p e r
-  leads-on f g =
-      record { left = f .left ∙ g .left; none = λ b. let x = f .none b in let y = g .none (x .1) in (x .0 ∙ y .0, y .1) }
 
 -- ---- the line at the cursor
 

@@ -17,7 +17,7 @@ use Rattle.reader.specs.Inner.Cursor.{left, bareAt, Stands, NextOf, ahea
 use Rattle.reader.specs.Inner.Lists.{FormFrom}
 use Rattle.reader.specs.declared.cursor.Ahead.the-variants.{Line, Fault}
 use Rattle.reader.specs.declared.cursor.Cursor.{Cursor}
-use Rattle.reader.proofs.Cursors.{fault-bare, ahead-not, stays, moves, left-taken, left-refused}
+use Rattle.reader.proofs.Cursors.{fault-bare, ahead-not, left-taken, left-refused}
 use Rattle.reader.proofs.Runs.{one-refusal}
 
 -- before the policy line the form is 0
@@ -33,10 +33,9 @@ module _ (t : List ℕ) (c : Cursor) (s : Stands t c) where
         record {
           stands = n .stands;
           past = λ k q. let z : placeOf k ≡ 0 → ⊥ = λ z. omega (arith, allowed-order _ k (n .order k q) .first z) in omega (arith, z);
-          leads = λ p z.
-              moves t e
-              (left-taken t c PolicyKind d e n p (one-refusal t c PolicyKind l p true true refl f refl)
-              ∙ ap (λ (m : Numbers). left t d (withForm (m .first) p)) (sym (l .numbers)));
+          left = λ p z.
+              left-taken t c PolicyKind d e n p (one-refusal t c PolicyKind l p true true refl f refl)
+              ∙ ap (λ (m : Numbers). left t d (withForm (m .first) p)) (sym (l .numbers));
         }
 
     pub form-refused : isForm (c .numbers .first) ≡ false → d ≡ bareAt (c .at) (c .line) (Fault OutOfRange) → FormFrom t c (record { form = 0; cursor = d })
@@ -45,10 +44,9 @@ module _ (t : List ℕ) (c : Cursor) (s : Stands t c) where
         record {
           stands = rw q (λ k z. absurd (fault-bare OutOfRange k z));
           past = rw q (λ k z. absurd (fault-bare OutOfRange k z));
-          leads = λ p z.
-              moves t e
-              (left-refused t c PolicyKind OutOfRange d e q p (one-refusal t c PolicyKind (s PolicyKind e) p false true refl f refl)
-              ∙ ap (left t d) (unformed p z));
+          left = λ p z.
+              left-refused t c PolicyKind OutOfRange d e q p (one-refusal t c PolicyKind (s PolicyKind e) p false true refl f refl)
+              ∙ ap (left t d) (unformed p z);
         }
 
   pub form-none : aheadIs (c .ahead) PolicyKind ≡ false → FormFrom t c (record { form = 0; cursor = c })
@@ -56,5 +54,5 @@ module _ (t : List ℕ) (c : Cursor) (s : Stands t c) where
       record {
         stands = s;
         past = λ k q. ahead-not (c .ahead) PolicyKind k e q (omega arith);
-        leads = λ p z. stays t c p (withForm 0 p) (unformed p z);
+        left = λ p z. ap (left t c) (unformed p z);
       }

@@ -20,7 +20,7 @@ use Rattle.reader.specs.Inner.Cursor.{fieldsAt, refusalAt, left, bareAt,
 use Rattle.reader.specs.Inner.Lists.{Listed, ReadBy}
 use Rattle.reader.specs.declared.cursor.Ahead.the-variants.{Line, Fault}
 use Rattle.reader.specs.declared.cursor.Cursor.{Cursor}
-use Rattle.reader.proofs.Cursors.{fault-bare, ahead-not, next-past, stays, moves, leads-on, left-taken, left-refused}
+use Rattle.reader.proofs.Cursors.{fault-bare, ahead-not, next-past, left-taken, left-refused}
 
 -- ---- a line without words
 
@@ -62,12 +62,12 @@ module _ (t : List ℕ) (k : Kind) {A : Type 0} (Fits : Listed k A → Policy �
       record {
         stands = s;
         past = λ h. h;
-        leads = λ x p f e. stays t c p (x .with [] p) (sym (x .same p) ∙ ap (λ (xs : List A). x .with xs p) e);
+        left = λ x p f e. ap (left t c) (sym (x .same p) ∙ ap (λ (xs : List A). x .with xs p) e);
       }
 
   module _ {c d : Cursor} {xs : List A} (i : ReadBy t k Fits (placeOf k) c d xs) where
     pub all-read : aheadIs (d .ahead) k ≡ false → ReadBy t k Fits (suc (placeOf k)) c d xs
-    all-read e = record { stands = i .stands; past = λ h j q. ahead-not (d .ahead) k j e q (i .past h j q); leads = i .leads }
+    all-read e = record { stands = i .stands; past = λ h j q. ahead-not (d .ahead) k j e q (i .past h j q); left = i .left }
 
     module _ (e : d .ahead ≡ Line k) (b : Cursor) where
       -- the line at d is taken, and says a
@@ -79,12 +79,12 @@ module _ (t : List ℕ) (k : Kind) {A : Type 0} (Fits : Listed k A → Policy �
           record {
             stands = n .stands;
             past = λ h. next-past t d k b n;
-            leads = λ x p g z.
+            left = λ x p g z.
                 let r = f x p g z in
                 let l = lineOf k (fieldsAt t d) in
                 let q : withLineOf l (x .with xs p) ≡ x .with (xs ++ (a ∷ [])) p =
                 x .extends (x .with xs p) (l .numbers) (l .words) ∙ rw (x .got xs p, r .1) (x .again xs (xs ++ (a ∷ [])) p) in
-                leads-on t (i .leads x p g z) (moves t e (left-taken t d k b e n (x .with xs p) (r .0) ∙ ap (left t b) q));
+                i .left x p g z ∙ left-taken t d k b e n (x .with xs p) (r .0) ∙ ap (left t b) q;
           }
 
       -- or it is refused
@@ -95,7 +95,7 @@ module _ (t : List ℕ) (k : Kind) {A : Type 0} (Fits : Listed k A → Policy �
           record {
             stands = rw q (λ j z. absurd (fault-bare r j z));
             past = rw q (λ h j z. absurd (fault-bare r j z));
-            leads = λ x p g z. leads-on t (i .leads x p g z) (moves t e (left-refused t d k r b e q (x .with xs p) (f x p g z)));
+            left = λ x p g z. i .left x p g z ∙ left-refused t d k r b e q (x .with xs p) (f x p g z);
           }
 
 -- ---- one list behind others
@@ -103,4 +103,4 @@ module _ (t : List ℕ) (k : Kind) {A : Type 0} (Fits : Listed k A → Policy �
 module _ {t : List ℕ} {c d e : Cursor} {k : Kind} {A : Type 0} {Fits : Listed k A → Policy → Type 0} {xs : List A} {p : Policy} where
   pub then : Reads t c (placeOf k) d p → ReadBy t k Fits (suc (placeOf k)) d e xs → (x : Listed k A) → Fits x p → x .items p ≡ []
       → Reads t c (suc (placeOf k)) e (x .with xs p)
-  then r l x f z = record { stands = l .stands; past = l .past (r .past); leads = leads-on t (r .leads) (l .leads x p f z) }
+  then r l x f z = record { stands = l .stands; past = l .past (r .past); left = r .left ∙ l .left x p f z }

@@ -7,13 +7,14 @@ use Rattle.basis.proofs.Padded.{take-padded}
 use Rattle.text.specs.Kind.{placeOf}
 use Rattle.text.specs.declared.kind.Kind.{Kind}
 use Rattle.text.specs.declared.kind.Kind.the-variants.{Uattr, Oattr, Usen, Osen, User, Object, End}
-use Rattle.policy.specs.Answers.{ReadAs, valueIn}
+use Rattle.policy.specs.Answers.{numberOf, ReadAs, valueIn}
 use Rattle.policy.specs.Checks.{sideSizes}
 use Rattle.policy.specs.Limits.{mostValues, values, userNumbers, objectNumbers}
 use Rattle.policy.specs.Policy.{Side, Policy, blank, total}
-use Rattle.policy.specs.Read.{readText}
+use Rattle.policy.specs.Read.{Refused, readText}
 use Rattle.policy.specs.Value.{widthPlaces, sideValue, register, rulesValue, valueOf}
 use Rattle.policy.specs.declared.refusal.Refusal.{Refusal}
+use Rattle.policy.specs.declared.value.Reading.{Reading}
 use Rattle.policy.specs.declared.value.Verdict.{Verdict}
 use Rattle.policy.specs.declared.value.Verdict.the-variants.{Accepted as AcceptedText, Refused as RefusedText}
 use Rattle.policy.specs.declared.value.Register.{Register}
@@ -22,8 +23,9 @@ use Rattle.policy.specs.declared.value.SideValue.{SideValue}
 use Rattle.policy.proofs.Forms.{values-most}
 use Rattle.checks.specs.Inner.{sizesIn}
 use Rattle.checks.specs.declared.side.Shape.{Shape}
-use Rattle.reader.specs.Inner.Cursor.{left, outcomeOf, Bare, Reads, FirstOf}
+use Rattle.reader.specs.Inner.Cursor.{left, outcomeOf, Reads, FirstOf}
 use Rattle.reader.specs.Inner.Lists.{shapeWith, withSides, Sized, WidthsFrom, SenioritiesFrom, EntriesFrom, RulesFrom, FormFrom, SidesFrom, ListsFrom}
+use Rattle.reader.specs.declared.cursor.Ahead.the-variants.{Fault}
 use Rattle.reader.specs.declared.cursor.Cursor.{Cursor}
 use Rattle.reader.specs.declared.entries.EntriesRead.{EntriesRead}
 use Rattle.reader.specs.declared.form.FormRead.{FormRead}
@@ -32,6 +34,7 @@ use Rattle.reader.specs.declared.rules.RulesRead.{RulesRead}
 use Rattle.reader.specs.declared.seniorities.SenioritiesRead.{SenioritiesRead}
 use Rattle.reader.specs.declared.sides.SidesRead.{SidesRead}
 use Rattle.reader.specs.declared.widths.WidthsRead.{WidthsRead}
+use Rattle.reader.proofs.Answers.{said-fault}
 use Rattle.reader.proofs.Runs.{then}
 use Rattle.reader.proofs.Sections.{user-widths, object-widths, uattr, oattr, user-pairs, object-pairs, usen, osen, users, objects, user, object, rules, rule}
 
@@ -81,7 +84,7 @@ module _ {t : List ℕ} {c : Cursor} {f : FormRead} (g : FormFrom t c f) {most :
   sides-lines =
       let side : List ℕ → Side = λ ws. record { widths = ws; lines = [] } in
       let none : Reads t c (placeOf Uattr) (f .cursor) (withSides (f .form) (side []) (side [])) =
-      record { stands = g .stands; past = g .past; leads = g .leads blank refl } in
+      record { stands = g .stands; past = g .past; left = g .left blank refl } in
       let us = then none (w .lines) user-widths (record { kind = uattr; most = sym m }) refl in
       let os = then us (v .lines) object-widths (record { kind = oattr; most = sym m }) refl in
       let ul = then os (p .lines) user-pairs (record { kind = usen; side = shape-sizes (side (w .widths)) (u .shape) (w .shape) }) refl in
@@ -135,16 +138,19 @@ module _ {t : List ℕ} {c : Cursor} {s : SidesRead} (h : SidesFrom t c s)
 
 -- ---- the text
 
-module _ {t : List ℕ} {c : Cursor} (f : FirstOf t c) {r : ListsRead} (l : ListsFrom t c r) (d : Cursor) (e : ((p : Policy) → left t (r .cursor) p ≡ left t d p) × Bare d)
-    (v : Verdict) (s : (t : List ℕ) (p : Policy) → left t d p ≡ outcomeOf v p) where
-  outcome : readText t ≡ outcomeOf v (l .policy)
-  outcome = f .left ∙ l .lines .leads .left ∙ e .0 (l .policy) ∙ s t (l .policy)
+module _ {t : List ℕ} {c : Cursor} (f : FirstOf t c) where
+  -- refused at its start
+  pub start-refused : (w : Refusal) → c .ahead ≡ Fault w → {x : Reading} → ReadAs (Refused (numberOf w) (c .line)) x → ReadAs (readText t) x
+  start-refused w q = rw (f .left, said-fault c t blank w q) (λ h. h)
 
-  pub text-read : v ≡ AcceptedText → ReadAs (readText t) (record { verdict = v; policy = r .policy })
-  unfolding valueIn
-  text-read q = rw (outcome, q) (record { verdict = refl; value = l .value })
+  module _ {r : ListsRead} (l : ListsFrom t c r) (d : Cursor) (e : (p : Policy) → left t (r .cursor) p ≡ left t d p)
+      (v : Verdict) (s : (t : List ℕ) (p : Policy) → left t d p ≡ outcomeOf v p) where
+    outcome : readText t ≡ outcomeOf v (l .policy)
+    outcome = f .left ∙ l .lines .left ∙ e (l .policy) ∙ s t (l .policy)
 
-  -- the lists behind a refusal are blank
-  pub text-refused : (w : Refusal) (n : ℕ) → v ≡ RefusedText w n → {o : ListsRead} → ListsFrom t d o → ReadAs (readText t) (record { verdict = v; policy = o .policy })
-  unfolding valueIn
-  text-refused w n q m = rw (outcome, q) (record { verdict = refl; value = m .value ∙ ap valueOf (sym (m .lines .leads .none (e .1) .0)) })
+    pub text-read : v ≡ AcceptedText → ReadAs (readText t) (record { verdict = v; policy = r .policy })
+    unfolding valueIn
+    text-read q = rw (outcome, q) (record { verdict = refl; value = l .value })
+
+    pub text-refused : (w : Refusal) (n : ℕ) → v ≡ RefusedText w n → {x : Reading} → ReadAs (Refused (numberOf w) n) x → ReadAs (readText t) x
+    text-refused w n q = rw (outcome, q) (λ h. h)

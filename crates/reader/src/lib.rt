@@ -4,9 +4,9 @@ ghost use mathlib.Core.List.{List};
 ghost use Prim.Native.Nat.{ℕ};
 ghost use Rattle.text.specs.Kind.{placeOf};
 ghost use Rattle.text.specs.declared.kind.Kind.the-variants as kind;
-ghost use Rattle.policy.specs.Answers.{ReadAs};
+ghost use Rattle.policy.specs.Answers.{numberOf, ReadAs};
 ghost use Rattle.policy.specs.Policy.{Policy};
-ghost use Rattle.policy.specs.Read.{readText};
+ghost use Rattle.policy.specs.Read.{Refused, readText};
 ghost use Rattle.reader.specs.Inner.Cursor.{Stands, Past, Bare, left, outcomeOf};
 
 mod cursor;
@@ -50,20 +50,33 @@ fn said(c: Cursor) -> Verdict
     }
 }
 
+// A refused text: the refusal and its line, and the blank value beside them.
+fn refused(why: Refusal, line: usize) -> Reading
+    ensures { λ r. ⌜ ReadAs (Refused (numberOf why) line) r ⌝ }
+{
+    let policy = policy::value::blank();
+    Reading {
+        verdict: Verdict::Refused(why, line),
+        policy,
+    }
+}
+
 // The policy value of a text, or the refusal and its line.
 pub fn read(text: &[u8]) -> Reading
     ensures { λ r. ⌜ ReadAs (readText (now (text .entry))) r ⌝ }
 {
     let c = cursor::first(text);
+    // A text that is refused at its start has no list to read.
+    let a = c.ahead;
+    if let Ahead::Fault(why) = a {
+        return refused(why, c.line);
+    }
     let all = lists::read(text, c);
     let c = all.cursor;
     let end = pass_end(text, c);
     let verdict = said(end);
-    if let Verdict::Refused(_, _) = verdict {
-        // Nothing is left to read there, so every list is blank.
-        let none = lists::read(text, end);
-        let policy = none.policy;
-        return Reading { verdict, policy };
+    if let Verdict::Refused(why, line) = verdict {
+        return refused(why, line);
     }
     let policy = all.policy;
     Reading { verdict, policy }

@@ -78,16 +78,11 @@ Past i c = (k : Kind) → c .ahead ≡ Line k → i ≤ placeOf k
 abbrev pub Bare : Cursor → Type 0
 Bare c = (k : Kind) → c .ahead ≡ Line k → ⊥
 
--- from c, behind lines that say p, to d, behind lines that say q; where no line is ahead, nothing is read
-pub record Leads (t : List ℕ) (c : Cursor) (p : Policy) (d : Cursor) (q : Policy) : Type 0 where
-  pub left : left t c p ≡ left t d q
-  pub none : Bare c → (p ≡ q) × Bare d
-
 -- what is read from c, before which stands nothing, to d: no line of a kind before place i is ahead there
 pub record Reads (t : List ℕ) (c : Cursor) (i : ℕ) (d : Cursor) (p : Policy) : Type 0 where
   pub stands : Stands t d
   pub past : Past i d
-  pub leads : Leads t c blank d p
+  pub left : left t c blank ≡ left t d p
 
 -- the cursor at a place where line n starts
 pub record LookedAt (t : List ℕ) (at n : ℕ) (before : Before) (c : Cursor) : Type 0 where

@@ -22,7 +22,7 @@ use Rattle.policy.specs.Value.{widthPlaces, linePlaces, sideValue, register, ru
 use Rattle.policy.specs.declared.value.Entry.{Entry}
 use Rattle.checks.specs.Inner.{sizesIn, bothIn}
 use Rattle.checks.specs.declared.side.Shape.{Shape}
-use Rattle.reader.specs.Inner.Cursor.{Stands, Past, Leads, Reads}
+use Rattle.reader.specs.Inner.Cursor.{left, Stands, Past, Reads}
 use Rattle.reader.specs.declared.cursor.Cursor.{Cursor}
 use Rattle.reader.specs.declared.entries.EntriesRead.{EntriesRead}
 use Rattle.reader.specs.declared.form.FormRead.{FormRead}
@@ -48,7 +48,7 @@ pub record Listed (k : Kind) (A : Type 0) : Type 0 where
 pub record ReadBy (t : List ℕ) (k : Kind) {A : Type 0} (Fits : Listed k A → Policy → Type 0) (i : ℕ) (c d : Cursor) (xs : List A) : Type 0 where
   pub stands : Stands t d
   pub past : Past (placeOf k) c → Past i d
-  pub leads : (x : Listed k A) (p : Policy) → Fits x p → x .items p ≡ [] → Leads t c p d (x .with xs p)
+  pub left : (x : Listed k A) (p : Policy) → Fits x p → x .items p ≡ [] → left t c p ≡ left t d (x .with xs p)
 
 -- ---- widths
 
@@ -139,7 +139,7 @@ pub record RulesFrom (t : List ℕ) (form : ℕ) (user object : Shape) (c : Curs
 pub record FormFrom (t : List ℕ) (c : Cursor) (r : FormRead) : Type 0 where
   pub stands : Stands t (r .cursor)
   pub past : Past (suc (placeOf PolicyKind)) (r .cursor)
-  pub leads : (p : Policy) → p .form ≡ 0 → Leads t c p (r .cursor) (withForm (r .form) p)
+  pub left : (p : Policy) → p .form ≡ 0 → left t c p ≡ left t (r .cursor) (withForm (r .form) p)
 
 -- ---- the form and both sides
 
