@@ -1,9 +1,8 @@
-//! Two versions of the engine in turns: `versions BEFORE AFTER [STARTS]`, each the
-//! path of a version's program `turns`.
+//! Two versions of the engine in turns: `versions BEFORE AFTER [BEFORE AFTER ..]`, each
+//! the path of a version's program `turns`. `versions.sh` makes them and starts this.
 //!
-//! Both programs are started so many times, since where code and stack come to lie
-//! differs from start to start. In each, every job takes turns in both, and a time is
-//! the tenth percentile of its turns. The table has the middle one of the starts, the
+//! The programs are run two by two. Every job takes turns in both, and a time is the
+//! tenth percentile of its turns. The table has the middle time of all pairs, the
 //! middle ratio, and the least and the greatest ratio.
 
 #![deny(unsafe_code)]
@@ -12,8 +11,8 @@ use helvemoik_compare::timing::shown;
 use std::io::{BufRead, BufReader, Write};
 use std::process::{Child, ChildStdin, ChildStdout, Command, Stdio};
 
+/// How many turns a job takes in each program.
 const TURNS: usize = 200;
-const STARTS: usize = 9;
 
 /// A turn lasts so many nanoseconds, or one call.
 const TURN: f64 = 100_000.0;
@@ -97,16 +96,15 @@ fn race(versions: &mut [Version; 2], job: usize) -> [f64; 2] {
 }
 
 fn main() {
-    let arguments: Vec<String> = std::env::args().skip(1).collect();
-    let (programs, starts) = match arguments.as_slice() {
-        [before, after] => ([before, after], STARTS),
-        [before, after, starts] => ([before, after], starts.parse().expect("a number")),
-        _ => panic!("versions BEFORE AFTER [STARTS]"),
-    };
+    let programs: Vec<String> = std::env::args().skip(1).collect();
+    assert!(
+        !programs.is_empty() && programs.len().is_multiple_of(2),
+        "versions BEFORE AFTER [BEFORE AFTER ..]"
+    );
     let mut names = Vec::new();
     let mut times: Vec<Vec<[f64; 2]>> = Vec::new();
-    for _ in 0..starts {
-        let mut versions = programs.map(|program| Version::start(program));
+    for pair in programs.chunks_exact(2) {
+        let mut versions = [0, 1].map(|k| Version::start(&pair[k]));
         names = versions[0].jobs.clone();
         assert_eq!(names, versions[1].jobs, "the same jobs");
         times.resize(names.len(), Vec::new());
@@ -121,8 +119,6 @@ fn main() {
         let [before, after] = [0, 1].map(|k| shown(at(0.5, times.iter().map(|t| t[k]))));
         let ratio = |part| at(part, times.iter().map(|t| t[1] / t[0]));
         let [least, middle, greatest] = [0.0, 0.5, 1.0].map(ratio);
-        println!(
-            "| {name} | {before} | {after} | {middle:.2} | {least:.2} | {greatest:.2} |"
-        );
+        println!("| {name} | {before} | {after} | {middle:.2} | {least:.2} | {greatest:.2} |");
     }
 }

@@ -155,14 +155,9 @@ module _ (t : List ℕ) (at n : ℕ) (b : Before) (e : ℕ) (f : Found t at line
 
 -- ---- the start of a text
 
-module _ (t : List ℕ) (c : Cursor) where
-  pub first-long : textBytes < length t → c ≡ bareAt 0 0 (Fault TextTooLong) → FirstOf t c
-  unfolding readText left
-  first-long h q = rw q (record { left = rw (lt-ltb textBytes (length t) h); stands = λ k z. absurd (fault-bare TextTooLong k z) })
-
-  pub first-looked : length t ≤ textBytes → LookedAt t 0 0 Start c → FirstOf t c
-  unfolding readText
-  first-looked h l = record { left = rw (le-ltb textBytes (length t) h) (l .left blank); stands = l .stands }
+pub first-looked : (t : List ℕ) (c : Cursor) → length t ≤ textBytes → LookedAt t 0 0 Start c → FirstOf t c
+unfolding readText
+first-looked t c h l = record { left = rw (le-ltb textBytes (length t) h) (l .left blank); stands = l .stands }
 
 -- ---- the next line
 

@@ -1,19 +1,22 @@
 -- The lists of a text, one behind the other, make its policy.
-use Prim.Native.Nat.{ℕ, suc, _≤_}
+use Prim.Native.Nat.{ℕ, suc, _≤_, _<_}
 use mathlib.Core.Path.{_≡_, refl, sym, ap, _∙_}
 use mathlib.Core.List.{List, []}
 use native.Mathlib.Omega.{arith}
+use lib.ListN.{length}
+use borrow.Author.Tests.{lt-ltb}
 use Rattle.basis.proofs.Padded.{take-padded}
 use Rattle.text.specs.Kind.{placeOf}
 use Rattle.text.specs.declared.kind.Kind.{Kind}
 use Rattle.text.specs.declared.kind.Kind.the-variants.{Uattr, Oattr, Usen, Osen, User, Object, End}
 use Rattle.policy.specs.Answers.{numberOf, ReadAs, valueIn}
 use Rattle.policy.specs.Checks.{sideSizes}
-use Rattle.policy.specs.Limits.{mostValues, values, userNumbers, objectNumbers}
+use Rattle.policy.specs.Limits.{textBytes, mostValues, values, userNumbers, objectNumbers}
 use Rattle.policy.specs.Policy.{Side, Policy, blank, total}
 use Rattle.policy.specs.Read.{Refused, readText}
 use Rattle.policy.specs.Value.{widthPlaces, sideValue, register, rulesValue, valueOf}
 use Rattle.policy.specs.declared.refusal.Refusal.{Refusal}
+use Rattle.policy.specs.declared.refusal.Refusal.the-variants.{TextTooLong}
 use Rattle.policy.specs.declared.value.Reading.{Reading}
 use Rattle.policy.specs.declared.value.Verdict.{Verdict}
 use Rattle.policy.specs.declared.value.Verdict.the-variants.{Accepted as AcceptedText, Refused as RefusedText}
@@ -138,10 +141,14 @@ module _ {t : List ℕ} {c : Cursor} {s : SidesRead} (h : SidesFrom t c s)
 
 -- ---- the text
 
+pub long-refused : (t : List ℕ) → textBytes < length t → {x : Reading} → ReadAs (Refused (numberOf TextTooLong) 0) x → ReadAs (readText t) x
+unfolding readText
+long-refused t h = rw (lt-ltb textBytes (length t) h) (λ x. x)
+
 module _ {t : List ℕ} {c : Cursor} (f : FirstOf t c) where
-  -- refused at its start
-  pub start-refused : (w : Refusal) → c .ahead ≡ Fault w → {x : Reading} → ReadAs (Refused (numberOf w) (c .line)) x → ReadAs (readText t) x
-  start-refused w q = rw (f .left, said-fault c t blank w q) (λ h. h)
+  pub sides-refused : {s : SidesRead} → SidesFrom t c s → (w : Refusal) → s .cursor .ahead ≡ Fault w
+      → {x : Reading} → ReadAs (Refused (numberOf w) (s .cursor .line)) x → ReadAs (readText t) x
+  sides-refused {s} h w q = rw (f .left, h .lines .left, said-fault (s .cursor) t (withSides (s .form) (h .user) (h .object)) w q) (λ x. x)
 
   module _ {r : ListsRead} (l : ListsFrom t c r) (d : Cursor) (e : (p : Policy) → left t (r .cursor) p ≡ left t d p)
       (v : Verdict) (s : (t : List ℕ) (p : Policy) → left t d p ≡ outcomeOf v p) where

@@ -2,11 +2,11 @@
 ghost use mathlib.Core.Path.{_≡_};
 ghost use Prim.Native.Nat.{_≤_};
 ghost use lib.ListN.{length};
+ghost use Rattle.policy.specs.Limits.{textBytes};
 ghost use Rattle.reader.specs.Inner.Cursor.{Stands, LookedAt, FirstOf, NextOf, bareAt, aheadIs};
 ghost use Rattle.reader.specs.declared.cursor.Ahead.the-variants as ahead;
 use line::head::Before;
 use line::head::Head;
-use policy::limits::TEXT_BYTES;
 use policy::refusal::Refusal;
 use text::kind::Kind;
 use text::number::Numbers;
@@ -84,13 +84,11 @@ fn look(text: &[u8], at: usize, n: usize, before: Before) -> Cursor
     }
 }
 
-// The cursor at the start of a text, which is refused where it is too long.
+// The cursor at the start of a text that is not too long.
 pub fn first(text: &[u8]) -> Cursor
+    requires { ⌜ length (now text) ≤ textBytes ⌝ }
     ensures { λ r. ⌜ FirstOf (now (text .entry)) r ⌝ }
 {
-    if TEXT_BYTES < text.len() {
-        return bare(0, 0, Ahead::Fault(Refusal::TextTooLong));
-    }
     look(text, 0, 0, Before::Start)
 }
 

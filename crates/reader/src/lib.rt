@@ -20,6 +20,7 @@ mod widths;
 
 use crate::cursor::Ahead;
 use crate::cursor::Cursor;
+use policy::limits::TEXT_BYTES;
 use policy::refusal::Refusal;
 use policy::value::Reading;
 use policy::value::Verdict;
@@ -65,13 +66,18 @@ fn refused(why: Refusal, line: usize) -> Reading
 pub fn read(text: &[u8]) -> Reading
     ensures { λ r. ⌜ ReadAs (readText (now (text .entry))) r ⌝ }
 {
+    if TEXT_BYTES < text.len() {
+        return refused(Refusal::TextTooLong, 0);
+    }
     let c = cursor::first(text);
-    // A text that is refused at its start has no list to read.
+    let s = sides::read(text, c);
+    let c = s.cursor;
+    // Where the sides are refused, there is no list to make room for.
     let a = c.ahead;
     if let Ahead::Fault(why) = a {
         return refused(why, c.line);
     }
-    let all = lists::read(text, c);
+    let all = lists::read(text, s);
     let c = all.cursor;
     let end = pass_end(text, c);
     let verdict = said(end);

@@ -1,7 +1,8 @@
-// The lists of a text.
-ghost use Rattle.reader.specs.Inner.Cursor.{Stands};
-ghost use Rattle.reader.specs.Inner.Lists.{ListsFrom};
+// The lists of a text behind its sides.
+ghost use Rattle.reader.specs.Inner.Lists.{SidesFrom, ListsFrom};
+ghost use Rattle.reader.specs.declared.cursor.Cursor.{Cursor};
 use crate::cursor::Cursor;
+use crate::sides::SidesRead;
 use policy::limits::OBJECT_NUMBERS;
 use policy::limits::USER_NUMBERS;
 use policy::value::PolicyValue;
@@ -12,12 +13,11 @@ pub struct ListsRead {
     pub cursor: Cursor,
 }
 
-// All lists from the cursor on, each read where the one before it ends.
-pub fn read(text: &[u8], cursor: Cursor) -> ListsRead
-    requires { ⌜ Stands (now text) cursor ⌝ }
-    ensures { λ r. ⌜ ListsFrom (now (text .entry)) cursor r ⌝ }
+// All lists behind these sides, each read where the one before it ends.
+pub fn read(text: &[u8], s: SidesRead) -> ListsRead
+    requires { ⌜ ((c : Cursor) × SidesFrom (now text) c s) ⌝ }
+    ensures { λ r. ⌜ ((c : Cursor) → SidesFrom (now (text .entry)) c s → ListsFrom (now (text .entry)) c r) ⌝ }
 {
-    let s = crate::sides::read(text, cursor);
     let us = s.ushape;
     let os = s.oshape;
     let c = s.cursor;

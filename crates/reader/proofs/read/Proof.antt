@@ -1,26 +1,39 @@
 -- `reader::read` meets its contract.
-use Rattle.reader.proofs.Whole.{start-refused, text-read, text-refused}
+use Rattle.reader.proofs.Whole.{long-refused, sides-refused, text-read, text-refused}
 use borrow.Author.Needs.{needs}
 use Rattle.reader.proofs.read.Statement.{statement}
 use Rattle.reader.proofs.read.Tie as tie
-
-first-requires : tie.Need-first-requires
-first-requires c κs = search needs
-
-enum-known-a : tie.Need-enum-known-a
-enum-known-a c = search needs
 
 refused-requires : tie.Need-refused-requires
 refused-requires c κs = search needs
 
 returns : tie.Need-returns
-returns c = start-refused (c .before .before .before .before .first .ensures) _ (c .before .before .a .given .1) (c .refused .ensures)
+returns c = long-refused _ (c .before .if1 .taken) (c .refused .ensures)
+
+first-requires : tie.Need-first-requires
+first-requires c κs = search needs
 
 read-requires : tie.Need-read-requires
 read-requires c κs = search needs
 
+enum-known-a : tie.Need-enum-known-a
+enum-known-a c = search needs
+
+refused-requires-2 : tie.Need-refused-requires-2
+refused-requires-2 c κs = search needs
+
+returns-2 : tie.Need-returns-2
+returns-2 c =
+    let s = c .before .before .before .before .before in
+    sides-refused (s .before .first .ensures) (s .read .ensures) _ (c .before .before .a .given .1) (c .refused2 .ensures)
+
+read-requires-2 : tie.Need-read-requires-2
+read-requires-2 c κs = search needs
+
 pass-end-requires : tie.Need-pass-end-requires
-pass-end-requires c κs = search needs
+pass-end-requires c κs =
+    let l = c .before .read2 .ensures _ (c .before .before .before .before .read .ensures) .lines in
+    (l .stands, l .past)
 
 said-requires : tie.Need-said-requires
 said-requires c κs = search needs
@@ -28,37 +41,44 @@ said-requires c κs = search needs
 enum-known-verdict : tie.Need-enum-known-verdict
 enum-known-verdict c = search needs
 
-refused-requires-2 : tie.Need-refused-requires-2
-refused-requires-2 c κs = search needs
+refused-requires-3 : tie.Need-refused-requires-3
+refused-requires-3 c κs = search needs
 
-returns-2 : tie.Need-returns-2
-returns-2 c =
-    let s = c .before .before .before .before in
-    let l = s .before .before .before in
-    text-refused (l .before .before .first .ensures) (l .read .ensures) _ (s .before .pass-end .ensures .0) _ (s .said .ensures) _ _ (c .before .before .verdict .given .1) (c .refused2 .ensures)
+returns-3 : tie.Need-returns-3
+returns-3 c =
+    let v = c .before .before .before .before in
+    let l = v .before .before .before in
+    let s = l .before .before .before in
+    text-refused (s .before .first .ensures) (l .read2 .ensures _ (s .read .ensures)) _ (v .before .pass-end .ensures .0) _ (v .said .ensures) _ _
+    (c .before .before .verdict .given .1) (c .refused3 .ensures)
 
 enum-told : tie.Need-enum-told
 enum-told c = search needs
 
-returns-3 : tie.Need-returns-3
-returns-3 c =
-    let s = c .before .before .before in
-    let l = s .before .before .before in
-    text-read (l .before .before .first .ensures) (l .read .ensures) _ (s .before .pass-end .ensures .0) _ (s .said .ensures) (c .before .enum-told .given .1)
+returns-4 : tie.Need-returns-4
+returns-4 c =
+    let v = c .before .before .before in
+    let l = v .before .before .before in
+    let s = l .before .before .before in
+    text-read (s .before .first .ensures) (l .read2 .ensures _ (s .read .ensures)) _ (v .before .pass-end .ensures .0) _ (v .said .ensures)
+    (c .before .enum-told .given .1)
 
 pub read-spec : {M : Type 1} → statement M
 read-spec =
     tie.close
     (tie.spec
-    first-requires
-    enum-known-a
     refused-requires
     returns
+    first-requires
     read-requires
+    enum-known-a
+    refused-requires-2
+    returns-2
+    read-requires-2
     pass-end-requires
     said-requires
     enum-known-verdict
-    refused-requires-2
-    returns-2
+    refused-requires-3
+    returns-3
     enum-told
-    returns-3)
+    returns-4)
