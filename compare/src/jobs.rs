@@ -1,8 +1,6 @@
 //! The jobs that are measured: one call each, on one sample, or a list of calls.
 
-use crate::boundary::{
-    Board, PackedPolicy, DONE, MOST_LABELS, MOST_TABLE, SESSIONS, TEXT_BYTES,
-};
+use crate::boundary::{Board, PackedPolicy, DONE, MOST_LABELS, MOST_TABLE, SESSIONS, TEXT_BYTES};
 use crate::engine::{Engine, Labels};
 use crate::plain;
 use crate::plain::policy::Policy;

@@ -12,6 +12,7 @@ use board::Board;
 use board::Session;
 use labels::Counts;
 use policy::refusal::number_of;
+use runner::Ran;
 use runner::Verdict;
 
 // The sessions of a board.
@@ -66,6 +67,29 @@ fn first(answers: usize, sessions: usize) -> usize {
     std::num::wrapping_add_usize(sessions, CALLS)
 }
 
+// Compares what a run left with the answers due, which stand from `from` on, and the sessions due behind them.
+fn compared(ran: Ran, answers: &[u8; CALLS], a: &[u32; NUMBERS], from: usize, n: usize) -> Found {
+    let end = std::num::wrapping_add_usize(from, cursor::size(a[7]));
+    let board = ran.board;
+    let place = first(
+        buffers::unlike(cursor::part(a, from, end), answers),
+        unlike(board, cursor::part(a, end, n)),
+    );
+    let verdict = ran.verdict;
+    match verdict {
+        Verdict::Answered(count) => Found {
+            answer: found::DONE,
+            count,
+            place,
+        },
+        Verdict::Refused(why) => Found {
+            answer: number_of(why),
+            count: 0,
+            place,
+        },
+    }
+}
+
 // Runs the calls with parts of these buffers.
 fn run(
     a: &[u32; NUMBERS],
@@ -80,7 +104,6 @@ fn run(
         objects: a[3],
     };
     let to = 8 + 4 * cursor::size(a[7]);
-    let end = 8 + 5 * cursor::size(a[7]);
     let mut answers = [BLANK; CALLS];
     let ran = runner::run(
         policy_of(text),
@@ -91,24 +114,7 @@ fn run(
         cursor::part(a, 8, to),
         &mut answers,
     );
-    let verdict = ran.verdict;
-    let board = ran.board;
-    let place = first(
-        buffers::unlike(cursor::part(a, to, end), &answers),
-        unlike(board, cursor::part(a, end, n)),
-    );
-    match verdict {
-        Verdict::Answered(count) => Found {
-            answer: found::DONE,
-            count,
-            place,
-        },
-        Verdict::Refused(why) => Found {
-            answer: number_of(why),
-            count: 0,
-            place,
-        },
-    }
+    compared(ran, &answers, a, to, n)
 }
 
 // `S`: a list of calls, with the compiler's buffers.
