@@ -97,6 +97,10 @@ put-same a b bs cs e h (suc j) = h .same j
 put-alike : {a b : Bool} {bs cs : List Bool} → a ≡ b → Alike bs cs → Alike (a ∷ bs) (b ∷ cs)
 put-alike e h = record { same = put-same _ _ _ _ e h }
 
+none-same : (j : ℕ) → getD (false ∷ []) j false ≡ false
+none-same zero = refl
+none-same (suc j) = refl
+
 module _ (p : Policy) (s : Sets) where
   step-alike : (w : Word) (bs cs : List Bool) → Alike bs cs → Alike (step p s w bs) (step p s w cs)
   unfolding step
@@ -114,10 +118,6 @@ module _ (p : Policy) (s : Sets) where
   unfolding run
   run-alike [] bs cs h = h
   run-alike (w ∷ ws) bs cs h = run-alike ws (step p s w bs) (step p s w cs) (step-alike w bs cs h)
-
-  none-same : (j : ℕ) → getD (false ∷ []) j false ≡ false
-  none-same zero = refl
-  none-same (suc j) = refl
 
   -- the truth of a formula, from a stack on which false lies
   pub truth-from : (ws : List Word) → top (run p s ws (false ∷ [])) ≡ truth p s ws

@@ -6,7 +6,7 @@ use mathlib.Core.List.{List}
 use mathlib.Core.Option.{Option, none, some}
 use native.Mathlib.Numerals.{add-one}
 use native.Mathlib.Omega.{arith}
-use borrow.Author.Tests.{eqb-true, eqb-false, lt-ltb, le-ltb}
+use borrow.Author.Tests.{eqb-true, eqb-false, le-ltb}
 use lib.ListN.{length, drop}
 use Rattle.basis.specs.Choice.{lowest}
 use Rattle.basis.specs.Lists.{all}
@@ -26,7 +26,7 @@ use Rattle.policy.specs.Limits.{textBytes}
 use Rattle.policy.specs.Policy.{Policy, blank}
 use Rattle.policy.specs.Read.{Outcome, kindOf, checksOf, checksFor, refusalOf, after, ending, readLines, readText}
 use Rattle.policy.specs.declared.refusal.Refusal.{Refusal}
-use Rattle.policy.specs.declared.refusal.Refusal.the-variants.{TextTooLong, LineFeedMissing, EndMissing}
+use Rattle.policy.specs.declared.refusal.Refusal.the-variants.{LineFeedMissing, EndMissing}
 use Rattle.policy.proofs.Order.{allowed-order}
 use Rattle.line.specs.Inner.Head.{beforeOf, between, numbersFit, parsedAs}
 use Rattle.line.specs.declared.head.Before.{Before}
