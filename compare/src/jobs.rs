@@ -147,6 +147,51 @@ mod tests {
     use crate::plain::Plain;
     use crate::sample::SIZES;
 
+    /// What writing, listing and compiling leave in their buffers.
+    type Left = (
+        [u8; TEXT_BYTES],
+        [u16; MOST_TABLE],
+        [u8; MOST_LABELS],
+        [u8; MOST_LABELS],
+        [u8; MOST_TABLE],
+    );
+
+    const EMPTY: Left = (
+        [0; TEXT_BYTES],
+        [0; MOST_TABLE],
+        [0; MOST_LABELS],
+        [0; MOST_LABELS],
+        [0; MOST_TABLE],
+    );
+
+    fn left_by_engine<E: Engine>(engine: &E, policy: &PackedPolicy) -> Box<Left> {
+        let mut left = Box::new(EMPTY);
+        let (text, tuples, users, objects, table) = &mut *left;
+        assert_eq!(engine.write(policy, text).refusal, 0);
+        assert_eq!(engine.list(policy, 0, tuples).refusal, 0);
+        assert_eq!(engine.compile(policy, users, objects, table).refusal, 0);
+        left
+    }
+
+    fn left_by_reference(policy: &Policy) -> Box<Left> {
+        let mut left = Box::new(EMPTY);
+        let (text, tuples, users, objects, table) = &mut *left;
+        assert!(plain::writer::write(policy, text).is_ok());
+        assert!(plain::tuples::list(policy, 0, tuples).is_ok());
+        assert!(plain::labels::compile(policy, users, objects, table).is_ok());
+        left
+    }
+
+    #[test]
+    fn all_sides_leave_the_same_in_buffers() {
+        for size in SIZES {
+            let sample = Sample::of(size);
+            let due = left_by_reference(&sample.policy);
+            assert!(left_by_engine(&Archive, &sample.packed) == due);
+            assert!(left_by_engine(&Plain, &sample.packed) == due);
+        }
+    }
+
     #[test]
     fn all_sides_answer_a_list_alike() {
         for size in SIZES {
@@ -155,6 +200,24 @@ mod tests {
             let due = list_by_reference(&sample.policy, labels, calls);
             assert_eq!(list_by_engine(&Archive, &sample.packed, labels, calls), due);
             assert_eq!(list_by_engine(&Plain, &sample.packed, labels, calls), due);
+        }
+    }
+
+    #[test]
+    fn refused_texts_are_refused_as_they_are_called() {
+        for size in SIZES {
+            let sample = Sample::of(size);
+            let lines = sample.endless.iter().filter(|&&byte| byte == 10).count();
+            for (text, refusal, line) in [
+                (&sample.misspelt, 5, 0),
+                (&sample.no_form, 6, 0),
+                (&sample.endless, 10, lines),
+                (&sample.too_long, 1, 0),
+            ] {
+                let reading = Archive.read(text);
+                assert_eq!((reading.refusal, reading.line), (refusal, line));
+                assert_eq!(Plain.read(text), reading);
+            }
         }
     }
 }

@@ -27,7 +27,10 @@ pub fn job<'a, T>(mut call: impl FnMut() -> T + 'a) -> Job<'a> {
 /// tenth of its turns stayed below. The turns above it are those that other
 /// work of the machine came between.
 pub fn race<const N: usize>(mut jobs: [Job; N]) -> [f64; N] {
-    let counts = jobs.each_mut().map(calls_in_a_turn);
+    let turn = TURN.as_nanos() as f64;
+    let counts = jobs
+        .each_mut()
+        .map(|job| calls_in_a_turn(turn, |count| time(job, count)));
     let mut times = [const { Vec::new() }; N];
     let start = Instant::now();
     for _ in 0..ROUNDS {
@@ -38,18 +41,24 @@ pub fn race<const N: usize>(mut jobs: [Job; N]) -> [f64; N] {
             break;
         }
     }
-    times.map(|mut times: Vec<f64>| {
-        times.sort_by(f64::total_cmp);
-        times[times.len() / 10]
-    })
+    times.map(|times| at(0.1, times))
 }
 
-fn calls_in_a_turn(job: &mut Job) -> u32 {
+/// How many calls last so many nanoseconds, where this is the time of one call
+/// of so many.
+pub fn calls_in_a_turn(turn: f64, mut time: impl FnMut(u32) -> f64) -> u32 {
     let mut count = 1;
-    while time(job, count) * f64::from(count) < TURN.as_nanos() as f64 {
+    while time(count) * f64::from(count) < turn {
         count *= 2;
     }
     count
+}
+
+/// What lies so far up in the sorted numbers, from 0, the least, to 1.
+pub fn at(part: f64, numbers: impl IntoIterator<Item = f64>) -> f64 {
+    let mut sorted: Vec<f64> = numbers.into_iter().collect();
+    sorted.sort_by(f64::total_cmp);
+    sorted[((sorted.len() - 1) as f64 * part) as usize]
 }
 
 /// The time of one call of so many, in nanoseconds.

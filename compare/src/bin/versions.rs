@@ -7,7 +7,7 @@
 
 #![deny(unsafe_code)]
 
-use helvemoik_compare::timing::shown;
+use helvemoik_compare::timing::{at, calls_in_a_turn, shown};
 use std::io::{BufRead, BufReader, Write};
 use std::process::{Child, ChildStdin, ChildStdout, Command, Stdio};
 
@@ -62,30 +62,17 @@ impl Version {
         self.line().parse().expect("a time")
     }
 
-    fn calls_in_a_turn(&mut self, job: usize) -> u32 {
-        let mut count = 1;
-        while self.time(job, count) * f64::from(count) < TURN {
-            count *= 2;
-        }
-        count
-    }
-
     fn stop(mut self) {
         drop(self.input);
         self.child.wait().expect("a program that ends");
     }
 }
 
-/// What lies so far up in the sorted numbers.
-fn at(part: f64, numbers: impl IntoIterator<Item = f64>) -> f64 {
-    let mut sorted: Vec<f64> = numbers.into_iter().collect();
-    sorted.sort_by(f64::total_cmp);
-    sorted[((sorted.len() - 1) as f64 * part).round() as usize]
-}
-
 /// The times of a job in both versions, turn by turn.
 fn race(versions: &mut [Version; 2], job: usize) -> [f64; 2] {
-    let counts = [0, 1].map(|k| versions[k].calls_in_a_turn(job));
+    let counts = versions
+        .each_mut()
+        .map(|version| calls_in_a_turn(TURN, |count| version.time(job, count)));
     let mut times = [Vec::new(), Vec::new()];
     for _ in 0..TURNS {
         for k in [0, 1] {

@@ -127,8 +127,8 @@ fn below_top(d: usize) -> usize
 // The top that a word leaves, and above how many places.
 pub struct Put(pub u64, pub usize);
 
-// One word at a stack whose top lies above d places. The top is handed from word to word and stored only to lie below
-// the next one, so that no word waits for a store.
+// One word at a stack whose top lies above d places, and is stored there too in case the word pushes. The top is handed
+// from word to word, and its place is read only once another lies on it, so that no word waits for a store.
 fn worked(
     sides: Attributes,
     users: &[u64; VECTORS],
