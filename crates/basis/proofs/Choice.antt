@@ -1,19 +1,19 @@
--- The lowest broken check, by induction over the checks: of two lists one behind the other, and where none is broken.
+-- The first broken check, by induction over the checks: of two lists one behind the other, and where none is broken.
 use mathlib.Core.Path.{_≡_, refl}
 use mathlib.Core.Bool.{Bool, true, false, cond}
 use mathlib.Core.List.{List, [], _∷_, _++_}
 use mathlib.Core.Option.{none, some}
 use Prim.Native.Nat.{ℕ}
 use native.Mathlib.Omega.{arith}
-use Rattle.basis.specs.Choice.{given, Check, lowest}
+use Rattle.basis.specs.Choice.{given, Check, firstBroken}
 
-pub lowest-append : (cs ds : List Check) → lowest (cs ++ ds) ≡ given (lowest cs) (lowest ds) some
-unfolding lowest
-lowest-append [] ds = refl
-lowest-append (c ∷ cs) ds = go (c .broken) (lowest-append cs ds)
+pub first-broken-append : (cs ds : List Check) → firstBroken (cs ++ ds) ≡ given (firstBroken cs) (firstBroken ds) some
+unfolding firstBroken
+first-broken-append [] ds = refl
+first-broken-append (c ∷ cs) ds = go (c .broken) (first-broken-append cs ds)
   where
-    go : (b : Bool) → lowest (cs ++ ds) ≡ given (lowest cs) (lowest ds) some
-        → cond b (some (c .number)) (lowest (cs ++ ds)) ≡ given (cond b (some (c .number)) (lowest cs)) (lowest ds) some
+    go : (b : Bool) → firstBroken (cs ++ ds) ≡ given (firstBroken cs) (firstBroken ds) some
+        → cond b (some (c .number)) (firstBroken (cs ++ ds)) ≡ given (cond b (some (c .number)) (firstBroken cs)) (firstBroken ds) some
     go true h = refl
     go false h = h
 
@@ -22,12 +22,12 @@ abbrev pub Unbroken : List Check → Type 0
 Unbroken [] = Unit {0}
 Unbroken (c ∷ cs) = (c .broken ≡ false) × Unbroken cs
 
-pub unbroken : (cs : List Check) → lowest cs ≡ none → Unbroken cs
-unfolding lowest
+pub unbroken : (cs : List Check) → firstBroken cs ≡ none → Unbroken cs
+unfolding firstBroken
 unbroken [] e = tt
 unbroken (c ∷ cs) e = go (c .broken) refl (unbroken cs) e
   where
-    go : (b : Bool) → c .broken ≡ b → (lowest cs ≡ none → Unbroken cs) → cond b (some (c .number)) (lowest cs) ≡ none
+    go : (b : Bool) → c .broken ≡ b → (firstBroken cs ≡ none → Unbroken cs) → cond b (some (c .number)) (firstBroken cs) ≡ none
         → (c .broken ≡ false) × Unbroken cs
     go true q h f = let z : _≡_ {A = ℕ} 0 1 = cc in absurd (omega arith)
     go false q h f = (q, h f)

@@ -27,11 +27,12 @@ pub record Check : Type 0 where
 abbrev pub check : ℕ → Bool → Check
 check n b = record { number = n; broken = b }
 
--- "the lowest that applies": the first of the checks, which stand in rising order, that is broken
-unfoldable pub lowest : List Check → Option ℕ
-lowest [] = none
-lowest (c ∷ cs) = cond (c .broken) (some (c .number)) (lowest cs)
+-- the refusal: the first of the checks, which stand in the order of testing, that is broken. Document 01 tests in the order
+-- of the numbers ("the lowest that applies"); document 02 tests a higher number between two of these where it says so
+unfoldable pub firstBroken : List Check → Option ℕ
+firstBroken [] = none
+firstBroken (c ∷ cs) = cond (c .broken) (some (c .number)) (firstBroken cs)
 
--- what a call gives where no check is broken, and else the lowest refusal
+-- what a call gives where no check is broken, and else the refusal
 abbrev pub unlessRefused : {A : Type 0} → List Check → A → Result A
-unlessRefused cs a = given (lowest cs) (gives a) refuses
+unlessRefused cs a = given (firstBroken cs) (gives a) refuses

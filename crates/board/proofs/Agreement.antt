@@ -13,7 +13,7 @@ use lib.ListN.{length, getD, set, length-set, length-replicate}
 use lib.Pow.{pow-pos}
 use lib.Seq.{getD-set-same, getD-set-other}
 use borrow.Author.Tests.{eqb-true, eqb-false, leb-false, not-false}
-use Rattle.basis.specs.Choice.{given, there, lowest}
+use Rattle.basis.specs.Choice.{given, there, firstBroken}
 use Rattle.basis.proofs.Bools.{and-left, and-right, and-both}
 use Rattle.basis.proofs.Choice.{unbroken}
 use Rattle.basis.proofs.Lists.{all-getD, all-set, all-replicate, getD-blank}
@@ -73,7 +73,7 @@ held-lt p (some x) h =
     lt-of-le-of-lt (within-le (x .held) (reachOf p (x .user)) (and-right (there (setOfNumber (p .users) (x .user))) _ h)) (reachOf-lt p (x .user))
 
 -- a call that is not refused names one of the session numbers
-pub near : (p : Policy) (c : Call) (e : Option Entry) → lowest (checks p c e) ≡ none → sessionOf c < sessionNumbers
+pub near : (p : Policy) (c : Call) (e : Option Entry) → firstBroken (checks p c e) ≡ none → sessionOf c < sessionNumbers
 unfolding checks
 near p (opens u s set) e h = leb-false sessionNumbers s (unbroken (checks p (opens u s set) e) h .0)
 near p (adds u s set) e h = leb-false sessionNumbers s (unbroken (checks p (adds u s set) e) h .0)
@@ -82,7 +82,7 @@ near p (closes u s) e h = leb-false sessionNumbers s (unbroken (checks p (closes
 near p (requests s a n) e h = leb-false sessionNumbers s (unbroken (checks p (requests s a n) e) h .1 .0)
 
 -- and leaves its session's entry fitting
-pub kept : (p : Policy) (c : Call) (e : Option Entry) → fitting p e ≡ true → lowest (checks p c e) ≡ none → fitting p (entryAfter c e) ≡ true
+pub kept : (p : Policy) (c : Call) (e : Option Entry) → fitting p e ≡ true → firstBroken (checks p c e) ≡ none → fitting p (entryAfter c e) ≡ true
 unfolding checks entryAfter
 kept p (opens u s set) e f h =
     let t = unbroken (checks p (opens u s set) e) h in
@@ -148,7 +148,7 @@ module _ (p : Policy) (b : Board) (h : Sound p b) where
       }
 
   -- what a call that is not refused leaves
-  module _ (c : Call) (q : lowest (checks p c (entryAt b (sessionOf c))) ≡ none) where
+  module _ (c : Call) (q : firstBroken (checks p c (entryAt b (sessionOf c))) ≡ none) where
     sound-done : Sound p (store b (sessionOf c) (entryAfter c (entryAt b (sessionOf c))))
     sound-done = sound-stored (sessionOf c) _ (kept p c (entryAt b (sessionOf c)) (sound-entry (sessionOf c)) q)
 
@@ -157,7 +157,7 @@ module _ (p : Policy) (b : Board) (h : Sound p b) where
         ≡ put (entryAt b) (sessionOf c) (entryAfter c (entryAt b (sessionOf c))) k
     entries-done = stored-at (sessionOf c) _ (near p c (entryAt b (sessionOf c)) q)
 
-  sound-after : (c : Call) → lowest (checks p c (entryAt b (sessionOf c))) ≡ none → Sound p (boardAfter c b)
+  sound-after : (c : Call) → firstBroken (checks p c (entryAt b (sessionOf c))) ≡ none → Sound p (boardAfter c b)
   unfolding boardAfter
   sound-after (opens u s set) q = sound-done (opens u s set) q
   sound-after (adds u s set) q = sound-done (adds u s set) q
@@ -165,7 +165,7 @@ module _ (p : Policy) (b : Board) (h : Sound p b) where
   sound-after (closes u s) q = sound-done (closes u s) q
   sound-after (requests s a n) q = h
 
-  entries-after : (c : Call) → lowest (checks p c (entryAt b (sessionOf c))) ≡ none → (k : ℕ)
+  entries-after : (c : Call) → firstBroken (checks p c (entryAt b (sessionOf c))) ≡ none → (k : ℕ)
       → entryAt (boardAfter c b) k ≡ put (entryAt b) (sessionOf c) (entryAfter c (entryAt b (sessionOf c))) k
   unfolding boardAfter entryAfter
   entries-after (opens u s set) q k = entries-done (opens u s set) q k
@@ -178,15 +178,15 @@ module _ (p : Policy) (b : Board) (h : Sound p b) where
 
 module _ (p : Policy) (l : Labels) (objects : ObjectsFit p) (serves : Serves p l) where
   -- a call that the machine does not refuse finds its places, and is answered alike
-  found : (c : Call) (e : Option Entry) → fitting p e ≡ true → lowest (lookUp p l c e) ≡ none
-  unfolding lookUp lowest
+  found : (c : Call) (e : Option Entry) → fitting p e ≡ true → firstBroken (lookUp p l c e) ≡ none
+  unfolding lookUp firstBroken
   found (opens u s set) e f = refl
   found (adds u s set) e f = refl
   found (drops u s set) e f = refl
   found (closes u s) e f = refl
   found (requests s a n) e f = rw (serves .inside (setsAsked p n e) (held-lt p e f) (objectSet-lt p objects n))
 
-  answered : (c : Call) (e : Option Entry) → fitting p e ≡ true → lowest (checks p c e) ≡ none → boardReply p l c e ≡ reply p c e
+  answered : (c : Call) (e : Option Entry) → fitting p e ≡ true → firstBroken (checks p c e) ≡ none → boardReply p l c e ≡ reply p c e
   unfolding boardReply reply checks
   answered (opens u s set) e f q = refl
   answered (adds u s set) e f q = refl
@@ -199,7 +199,7 @@ module _ (p : Policy) (l : Labels) (objects : ObjectsFit p) (serves : Serves p l
 
   module _ (v : PolicyValue) (e : policyOf v ≡ p) (ok : valid v ≡ true) where
     module _ (c : Call) (b : Board) (h : Sound p b) where
-      let-through : lowest (checks p c (entryAt b (sessionOf c))) ≡ none
+      let-through : firstBroken (checks p c (entryAt b (sessionOf c))) ≡ none
           → allowed v l c b ≡ record { reply = reply p c (entryAt b (sessionOf c)); state = boardAfter c b }
       unfolding allowed
       let-through q =
@@ -207,11 +207,11 @@ module _ (p : Policy) (l : Labels) (objects : ObjectsFit p) (serves : Serves p l
           rw (e, found c (entryAt b (sessionOf c)) f, answered c (entryAt b (sessionOf c)) f q)
 
       -- a step is its machine's refusal, or let through
-      stepped : (r : Option ℕ) → lowest (checks p c (entryAt b (sessionOf c))) ≡ r
+      stepped : (r : Option ℕ) → firstBroken (checks p c (entryAt b (sessionOf c))) ≡ r
           → boardStep v l c b ≡ ended r (reply p c (entryAt b (sessionOf c))) (boardAfter c b) b
       stepped r q = step-is v l c b ∙ rw (lower-good v c b (sound-fits p b h v e ok), e, q) (go r q)
         where
-          go : (r : Option ℕ) → lowest (checks p c (entryAt b (sessionOf c))) ≡ r
+          go : (r : Option ℕ) → firstBroken (checks p c (entryAt b (sessionOf c))) ≡ r
               → given {B = Out Board} r (allowed v l c b) (λ n. record { reply = refused n; state = b })
               ≡ ended r (reply p c (entryAt b (sessionOf c))) (boardAfter c b) b
           go none q = let-through q
@@ -222,22 +222,22 @@ module _ (p : Policy) (l : Labels) (objects : ObjectsFit p) (serves : Serves p l
     unfolding entryStep
     board-by-entry =
         record {
-          reply = λ c b h. replied c b h (lowest (checks p c (entryAt b (sessionOf c)))) refl;
-          entries = λ c b h k. changed c b h k (lowest (checks p c (entryAt b (sessionOf c)))) refl;
-          sound = λ c b h. stays c b h (lowest (checks p c (entryAt b (sessionOf c)))) refl;
+          reply = λ c b h. replied c b h (firstBroken (checks p c (entryAt b (sessionOf c)))) refl;
+          entries = λ c b h k. changed c b h k (firstBroken (checks p c (entryAt b (sessionOf c)))) refl;
+          sound = λ c b h. stays c b h (firstBroken (checks p c (entryAt b (sessionOf c)))) refl;
         }
       where
-        replied : (c : Call) (b : Board) → Sound p b → (r : Option ℕ) → lowest (checks p c (entryAt b (sessionOf c))) ≡ r
+        replied : (c : Call) (b : Board) → Sound p b → (r : Option ℕ) → firstBroken (checks p c (entryAt b (sessionOf c))) ≡ r
             → boardStep v l c b .reply ≡ entryStep p c (entryAt b (sessionOf c)) .reply
         replied c b h none q = rw (stepped c b h none q, q)
         replied c b h (some n) q = rw (stepped c b h (some n) q, q)
 
-        changed : (c : Call) (b : Board) → Sound p b → (k : ℕ) (r : Option ℕ) → lowest (checks p c (entryAt b (sessionOf c))) ≡ r
+        changed : (c : Call) (b : Board) → Sound p b → (k : ℕ) (r : Option ℕ) → firstBroken (checks p c (entryAt b (sessionOf c))) ≡ r
             → entryAt (boardStep v l c b .state) k ≡ put (entryAt b) (sessionOf c) (entryStep p c (entryAt b (sessionOf c)) .state) k
         changed c b h k none q = rw (stepped c b h none q, q) (entries-after p b h c q k)
         changed c b h k (some n) q = rw (stepped c b h (some n) q, q) (put-same (entryAt b) (sessionOf c) k)
 
-        stays : (c : Call) (b : Board) → Sound p b → (r : Option ℕ) → lowest (checks p c (entryAt b (sessionOf c))) ≡ r
+        stays : (c : Call) (b : Board) → Sound p b → (r : Option ℕ) → firstBroken (checks p c (entryAt b (sessionOf c))) ≡ r
             → Sound p (boardStep v l c b .state)
         stays c b h none q = rw (stepped c b h none q) (sound-after p b h c q)
         stays c b h (some n) q = rw (stepped c b h (some n) q) h

@@ -5,7 +5,7 @@ use mathlib.Core.Bool.{Bool, false, not}
 use mathlib.Core.Option.{Option, none, some}
 use borrow.Author.Tests.{not-false}
 use lib.ListN.{getD}
-use Rattle.basis.specs.Choice.{given, Result, gives, refuses, lowest}
+use Rattle.basis.specs.Choice.{given, Result, gives, refuses, firstBroken}
 use Rattle.policy.specs.Limits.{actions}
 use Rattle.policy.specs.Policy.{Policy}
 use Rattle.policy.specs.Value.{policyOf, entriesOf}
@@ -30,7 +30,7 @@ module _ (v : PolicyValue) (l : Labels) (b : Board) (s a n : ℕ) where
   unfolding allowed boardAfter
   stays =
       ap (λ (o : Out Board). o .state) (step-is v l (requests s a n) b)
-      ∙ kept (lower v (requests s a n) b) (allowed v l (requests s a n) b) (kept (lowest (lookUp (policyOf v) l (requests s a n) (entryAt b s))) _ refl)
+      ∙ kept (lower v (requests s a n) b) (allowed v l (requests s a n) b) (kept (firstBroken (lookUp (policyOf v) l (requests s a n) (entryAt b s))) _ refl)
 
   -- a refusal, or what the sets' labels say
   answered-by : (r : Option ℕ) (x : Sets) → answered l a (given {B = Result Sets} r (gives x) refuses) ≡ given r (lookedUp l a x) refused
@@ -41,7 +41,7 @@ module _ (v : PolicyValue) (l : Labels) (b : Board) (s a n : ℕ) where
     answered-is : answered l a (asked (policyOf v) s a n (entryAt b s)) ≡ answer v l b s a n
     unfolding asked
     answered-is =
-        answered-by (lowest (checks (policyOf v) (requests s a n) (entryAt b s))) (setsOf v b s n)
+        answered-by (firstBroken (checks (policyOf v) (requests s a n) (entryAt b s))) (setsOf v b s n)
         ∙ sym (answer-is v l b s a n ∙ rw (lower-good v (requests s a n) b (sym ht ∙ not-false t h)))
 
     pub asked-step : (k : ℕ) → k ≡ actions (v .form) → (y : Asked)

@@ -7,7 +7,7 @@ use mathlib.Core.List.{List}
 use mathlib.Core.Option.{Option, none, some}
 use lib.Dec.{eqb}
 use borrow.Author.Tests.{eqb-true}
-use Rattle.basis.specs.Choice.{given, lowest}
+use Rattle.basis.specs.Choice.{given, firstBroken}
 use Rattle.policy.specs.Policy.{Policy}
 use Rattle.policy.specs.Answers.{Reply, refused}
 use Rattle.board.specs.Machine.{Entry, Map, put, Call, sessionOf, checks, entryAfter, reply, Out, step, run}
@@ -19,7 +19,7 @@ ended r y after before = given r (record { reply = y; state = after }) (λ n. re
 
 -- what a call answers and makes of its session's entry
 unfoldable pub entryStep : Policy → Call → Option Entry → Out (Option Entry)
-entryStep p c e = ended (lowest (checks p c e)) (reply p c e) (entryAfter c e) e
+entryStep p c e = ended (firstBroken (checks p c e)) (reply p c e) (entryAfter c e) e
 
 -- the calls f go by entries, on states that are sound
 pub record ByEntry (p : Policy) {S : Type 0} (Sound : S → Type 0) (at : S → Map) (f : Call → S → Out S) : Type 0 where
@@ -42,9 +42,9 @@ pub machine-by-entry : (p : Policy) → ByEntry p {S = Map} (λ m. Unit {0}) (λ
 unfolding step entryStep
 machine-by-entry p =
     record {
-      reply = λ c m u. replied (lowest (checks p c (m (sessionOf c)))) (reply p c (m (sessionOf c))) _ _ _ _;
+      reply = λ c m u. replied (firstBroken (checks p c (m (sessionOf c)))) (reply p c (m (sessionOf c))) _ _ _ _;
       entries = λ c m u k.
-          changed (lowest (checks p c (m (sessionOf c)))) (reply p c (m (sessionOf c))) m (sessionOf c) (entryAfter c (m (sessionOf c))) k;
+          changed (firstBroken (checks p c (m (sessionOf c)))) (reply p c (m (sessionOf c))) m (sessionOf c) (entryAfter c (m (sessionOf c))) k;
       sound = λ c m u. tt;
     }
   where

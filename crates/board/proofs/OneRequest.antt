@@ -9,7 +9,7 @@ use mathlib.Core.Option.{Option, none, some}
 use lib.Dec.{leb}
 use lib.ListN.{length}
 use borrow.Author.Tests.{le-leb, leb-true}
-use Rattle.basis.specs.Choice.{given, lowest}
+use Rattle.basis.specs.Choice.{given, firstBroken}
 use Rattle.basis.proofs.Bools.{or-cases, or-left, or-right}
 use Rattle.policy.specs.Value.{policyOf}
 use Rattle.policy.specs.Answers.{Reply, granted, refused, decided}
@@ -69,7 +69,7 @@ decided-only (some k) t g h = absurd (h k refl)
 module _ (v : PolicyValue) (l : Labels) (b : Board) (s a n : ℕ) where
   looked-up : (t : Bool) → pastEnd l (setsOf v b s n) ≡ t
       → allowed v l (requests s a n) b .reply ≡ cond t (refused 20) (decided (grantsByLabels l a (setsOf v b s n)))
-  unfolding allowed lookUp boardReply lowest
+  unfolding allowed lookUp boardReply firstBroken
   looked-up true e = rw e
   looked-up false e = rw e
 

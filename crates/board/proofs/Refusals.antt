@@ -4,8 +4,8 @@ use mathlib.Core.Bool.{true, false, not}
 use mathlib.Core.List.{_∷_}
 use mathlib.Core.Option.{Option, none, some}
 use Prim.Native.Nat.{ℕ}
-use Rattle.basis.specs.Choice.{given, check, lowest}
-use Rattle.basis.proofs.Choice.{lowest-append}
+use Rattle.basis.specs.Choice.{given, check, firstBroken}
+use Rattle.basis.proofs.Choice.{first-broken-append}
 use Rattle.policy.specs.Value.{policyOf}
 use Rattle.policy.specs.Answers.{refused}
 use Rattle.policy.specs.declared.value.PolicyValue.{PolicyValue}
@@ -16,17 +16,17 @@ use Rattle.board.specs.Board.{entryAt, fits, Labels, lookUp, boardReply,
 
 module _ (v : PolicyValue) (c : Call) (b : Board) where
   pub lower-bad : fits v b ≡ false → lower v c b ≡ some 11
-  unfolding lower lowest
+  unfolding lower firstBroken
   lower-bad f = rw f
 
-  pub lower-good : fits v b ≡ true → lower v c b ≡ lowest (checks (policyOf v) c (entryAt b (sessionOf c)))
-  unfolding lower lowest
+  pub lower-good : fits v b ≡ true → lower v c b ≡ firstBroken (checks (policyOf v) c (entryAt b (sessionOf c)))
+  unfolding lower firstBroken
   lower-good f = rw f
 
 -- what a call gives where no refusal below 20 applies
 unfoldable pub allowed : PolicyValue → Labels → Call → Board → Out Board
 allowed v l c b =
-    given (lowest (lookUp (policyOf v) l c (entryAt b (sessionOf c))))
+    given (firstBroken (lookUp (policyOf v) l c (entryAt b (sessionOf c))))
     (record { reply = boardReply (policyOf v) l c (entryAt b (sessionOf c)); state = boardAfter c b })
     (λ n. record { reply = refused n; state = b })
 
@@ -41,5 +41,5 @@ step-is v l c b =
     ap
     (λ (r : Option ℕ).
     given r (record { reply = boardReply (policyOf v) l c (entryAt b (sessionOf c)); state = boardAfter c b }) (λ n. record { reply = refused n; state = b }))
-    (lowest-append (check 11 (not (fits v b)) ∷ checks (policyOf v) c (entryAt b (sessionOf c))) (lookUp (policyOf v) l c (entryAt b (sessionOf c))))
-    ∙ then (lower v c b) (lowest (lookUp (policyOf v) l c (entryAt b (sessionOf c)))) _ _
+    (first-broken-append (check 11 (not (fits v b)) ∷ checks (policyOf v) c (entryAt b (sessionOf c))) (lookUp (policyOf v) l c (entryAt b (sessionOf c))))
+    ∙ then (lower v c b) (firstBroken (lookUp (policyOf v) l c (entryAt b (sessionOf c)))) _ _

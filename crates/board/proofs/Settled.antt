@@ -7,7 +7,7 @@ use native.Mathlib.Omega.{arith}
 use borrow.Author.Tests.{not-true, not-false}
 use lib.Dec.{eqb}
 use lib.ListN.{getD, set}
-use Rattle.basis.specs.Choice.{given, there, lowest}
+use Rattle.basis.specs.Choice.{given, there, firstBroken}
 use Rattle.basis.proofs.Choice.{unbroken}
 use Rattle.sets.specs.Set.{union, minus}
 use Rattle.policy.specs.Limits.{sessionNumbers}
@@ -28,12 +28,12 @@ use Rattle.board.proofs.Agreement.{near}
 use Rattle.board.proofs.Valid.{reachable, objects-within}
 
 -- what passes the checks passes the machine's
-lower-none : (v : PolicyValue) (c : Call) (b : Board) → lower v c b ≡ none → lowest (checks (policyOf v) c (entryAt b (sessionOf c))) ≡ none
-unfolding lower lowest
+lower-none : (v : PolicyValue) (c : Call) (b : Board) → lower v c b ≡ none → firstBroken (checks (policyOf v) c (entryAt b (sessionOf c))) ≡ none
+unfolding lower firstBroken
 lower-none v c b e = go (not (fits v b)) e
   where
-    go : (t : Bool) → _≡_ {A = Option ℕ} (cond t (some 11) (lowest (checks (policyOf v) c (entryAt b (sessionOf c))))) none
-        → lowest (checks (policyOf v) c (entryAt b (sessionOf c))) ≡ none
+    go : (t : Bool) → _≡_ {A = Option ℕ} (cond t (some 11) (firstBroken (checks (policyOf v) c (entryAt b (sessionOf c))))) none
+        → firstBroken (checks (policyOf v) c (entryAt b (sessionOf c))) ≡ none
     go true f = let z : _≡_ {A = ℕ} 0 1 = cc in absurd (omega arith)
     go false f = f
 
@@ -87,24 +87,24 @@ module _ (v : PolicyValue) (b : Board) (u s set : ℕ) (x : Session) (hx : x ≡
 module _ (l : Labels) (v : PolicyValue) (b : Board) (u s : ℕ) (r : Option ℕ) where
   pub opened : (set : ℕ) → r ≡ lower v (opens u s set) b
       → settled b s r (record { live = 1; user = u; held = set }) ≡ boardStep v l (opens u s set) b
-  unfolding allowed lookUp boardReply boardAfter entryAfter lowest
+  unfolding allowed lookUp boardReply boardAfter entryAfter firstBroken
   opened set h = settled-step v (opens u s set) b r h l refl _ (λ e. refl)
 
   pub closed-again : r ≡ lower v (closes u s) b → (x : Session) → x ≡ closed → settled b s r x ≡ boardStep v l (closes u s) b
-  unfolding allowed lookUp boardReply boardAfter entryAfter lowest
+  unfolding allowed lookUp boardReply boardAfter entryAfter firstBroken
   closed-again h x e = settled-step v (closes u s) b r h l refl x (λ q. e)
 
   module _ (set : ℕ) (x : Session) (hx : x ≡ getD (b .sessions) s closed) (held : ℕ) where
     pub added : r ≡ lower v (adds u s set) b → held ≡ union (x .held) set
         → settled b s r (record { live = 1; user = x .user; held = held }) ≡ boardStep v l (adds u s set) b
-    unfolding allowed lookUp boardReply boardAfter entryAfter lowest
+    unfolding allowed lookUp boardReply boardAfter entryAfter firstBroken
     added h e =
         settled-step v (adds u s set) b r h l refl _
         (λ q. rw (← at-entry v b u s set x hx, live-add v b u s set x hx (sym h ∙ q), e))
 
     pub dropped : r ≡ lower v (drops u s set) b → held ≡ minus (x .held) set
         → settled b s r (record { live = 1; user = x .user; held = held }) ≡ boardStep v l (drops u s set) b
-    unfolding allowed lookUp boardReply boardAfter entryAfter lowest
+    unfolding allowed lookUp boardReply boardAfter entryAfter firstBroken
     dropped h e =
         settled-step v (drops u s set) b r h l refl _
         (λ q. rw (← at-entry v b u s set x hx, live-drop v b u s set x hx (sym h ∙ q), e))
@@ -124,24 +124,24 @@ module _ (v : PolicyValue) (b : Board) (t : Bool) (ht : t ≡ fits v b) where
 
     -- then the machine's checks, on the session's entry
     ruled : (c : Call) (x : Session) → x ≡ getD (b .sessions) (sessionOf c) closed
-        → (r : Option ℕ) → r ≡ lowest (checks (policyOf v) c (entryOf x)) → r ≡ lower v c b
+        → (r : Option ℕ) → r ≡ firstBroken (checks (policyOf v) c (entryOf x)) → r ≡ lower v c b
     unfolding entryAt
     ruled c x h r e = e ∙ rw h (sym (lower-good v c b (sym ht ∙ not-false t n)))
 
     module _ (u s : ℕ) (x : Session) (hx : x ≡ getD (b .sessions) s closed) (y : Ruling) where
       pub close-ruled : (f : Found) → FoundAs (setOfNumber (entriesOf (v .users)) u) f
-          → ((p : Policy) → f .registered ≡ there (setOfNumber (p .users) u) → refusalOf y ≡ lowest (checks p (closes u s) (entryOf x)))
+          → ((p : Policy) → f .registered ≡ there (setOfNumber (p .users) u) → refusalOf y ≡ firstBroken (checks p (closes u s) (entryOf x)))
           → refusalOf y ≡ lower v (closes u s) b
       unfolding policyOf
       close-ruled f hf hy = ruled (closes u s) x hx (refusalOf y) (hy (policyOf v) (hf .registered))
 
       module _ (f : Found) (hf : (p : Policy) → p .users ≡ entriesOf (v .users) → p .user ≡ sideOf (v .user) → Reaches p u f) where
-        pub open-ruled : (set : ℕ) → ((p : Policy) (w : ℕ) → Reaches p w f → refusalOf y ≡ lowest (checks p (opens w s set) (entryOf x)))
+        pub open-ruled : (set : ℕ) → ((p : Policy) (w : ℕ) → Reaches p w f → refusalOf y ≡ firstBroken (checks p (opens w s set) (entryOf x)))
             → refusalOf y ≡ lower v (opens u s set) b
         unfolding policyOf
         open-ruled set hy = ruled (opens u s set) x hx (refusalOf y) (hy (policyOf v) u (hf (policyOf v) refl refl))
 
-        pub change-ruled : (c : Call) → sessionOf c ≡ s → ((p : Policy) → Reaches p u f → refusalOf y ≡ lowest (checks p c (entryOf x)))
+        pub change-ruled : (c : Call) → sessionOf c ≡ s → ((p : Policy) → Reaches p u f → refusalOf y ≡ firstBroken (checks p c (entryOf x)))
             → refusalOf y ≡ lower v c b
         unfolding policyOf
         change-ruled c e hy = ruled c x (rw e hx) (refusalOf y) (hy (policyOf v) (hf (policyOf v) refl refl))

@@ -5,7 +5,7 @@ use mathlib.Core.List.{List, [], _∷_, _++_}
 use mathlib.Core.Option.{Option, none, some}
 use lib.Dec.{eqb, leb}
 use lib.ListN.{length, getD, set, replicate}
-use Rattle.basis.specs.Choice.{given, there, Check, check, lowest}
+use Rattle.basis.specs.Choice.{given, there, Check, check, firstBroken}
 use Rattle.basis.specs.Lists.{all}
 use Rattle.sets.specs.Set.{has, within}
 use Rattle.policy.specs.Limits.{sessionNumbers}
@@ -145,6 +145,6 @@ boardAfter (requests s a n) b = b
 
 unfoldable pub boardStep : PolicyValue → Labels → Call → Board → Out Board
 boardStep v l c b =
-    given (lowest (boardChecks v l c b))
+    given (firstBroken (boardChecks v l c b))
     (record { reply = boardReply (policyOf v) l c (entryAt b (sessionOf c)); state = boardAfter c b })
     (λ n. record { reply = refused n; state = b })

@@ -6,7 +6,7 @@ use mathlib.Core.List.{List, [], _∷_, _++_}
 use mathlib.Core.Option.{Option, none, some}
 use lib.Dec.{ltb}
 use lib.ListN.{length, getD, set}
-use Rattle.basis.specs.Choice.{given, there, Result, gives, refuses, Check, check, lowest, unlessRefused}
+use Rattle.basis.specs.Choice.{given, there, Result, gives, refuses, Check, check, firstBroken, unlessRefused}
 use Rattle.seniority.specs.Inner.{Ordered, wordBits}
 use Rattle.policy.specs.Limits.{userNumbers}
 use Rattle.policy.specs.Policy.{Policy, total, sets, setOfNumber}
@@ -103,7 +103,7 @@ answered l a (refuses n) = refused n
 
 -- the lowest refusal of a call below 20: 11, then the machine's
 unfoldable pub lower : PolicyValue → Call → Board → Option ℕ
-lower v c b = lowest (check 11 (not (fits v b)) ∷ checks (policyOf v) c (entryAt b (sessionOf c)))
+lower v c b = firstBroken (check 11 (not (fits v b)) ∷ checks (policyOf v) c (entryAt b (sessionOf c)))
 
 -- the step of a call that check 11 refuses
 abbrev pub invalid : Board → Out Board

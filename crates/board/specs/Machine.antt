@@ -5,7 +5,7 @@ use mathlib.Core.Bool.{Bool, false, cond, not}
 use mathlib.Core.List.{List, [], _∷_}
 use mathlib.Core.Option.{Option, none, some}
 use lib.Dec.{eqb, leb}
-use Rattle.basis.specs.Choice.{given, there, Check, check, lowest}
+use Rattle.basis.specs.Choice.{given, there, Check, check, firstBroken}
 use Rattle.sets.specs.Set.{union, minus, within}
 use Rattle.seniority.specs.Seniority.{reach}
 use Rattle.policy.specs.Limits.{sessionNumbers}
@@ -144,7 +144,7 @@ pub record Out (S : Type 0) : Type 0 where
 -- "The machine refuses by 12 to 19, the lowest that applies first, and then keeps its map."
 unfoldable pub step : Policy → Call → Map → Out Map
 step p c m =
-    given (lowest (checks p c (m (sessionOf c))))
+    given (firstBroken (checks p c (m (sessionOf c))))
     (record { reply = reply p c (m (sessionOf c)); state = put m (sessionOf c) (entryAfter c (m (sessionOf c))) })
     (λ n. record { reply = refused n; state = m })
 

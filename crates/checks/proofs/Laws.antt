@@ -16,7 +16,7 @@ use Rattle.basis.proofs.Walk.{part-next, part-end}
 use Rattle.sets.specs.Set.{mask}
 use Rattle.seniority.specs.declared.Direct.{Direct}
 use Rattle.policy.specs.Policy.{Side, total, attributeOf}
-use Rattle.policy.specs.Checks.{sideSizes, widthFits, pairFits, pairAbove, entryFits}
+use Rattle.policy.specs.Checks.{sideSizes, widthFits, directFits, directAbove, entryFits}
 use Rattle.checks.specs.Inner.{sizesIn, shapeOf}
 use Rattle.checks.specs.declared.side.Shape.{Shape}
 
@@ -73,26 +73,26 @@ shape-sizes ws n h s e = rw (e, length-take-le n ws h)
 -- ---- a pair
 
 module _ (x : Shape) (v j : ℕ) where
-  pub pair-attributes : (a b : ℕ) → v < x .total → j < v
+  pub direct-attributes : (a b : ℕ) → v < x .total → j < v
       → a ≡ attributeOf (take (x .attributes) (x .widths)) v → b ≡ attributeOf (take (x .attributes) (x .widths)) j
-      → eqb a b ≡ pairFits (sizesIn x) v j
-  unfolding pairFits
-  pair-attributes a b h k p q =
+      → eqb a b ≡ directFits (sizesIn x) v j
+  unfolding directFits
+  direct-attributes a b h k p q =
       rw (← p, ← q, lt-ltb v (x .total) h, lt-ltb j (x .total) (omega arith), lt-ltb j v k, and-true)
 
-  pub pair-level : v ≤ j → false ≡ pairFits (sizesIn x) v j
-  unfolding pairFits
-  pair-level h = rw (le-ltb j v h, and-false, and-false, and-false)
+  pub direct-level : v ≤ j → false ≡ directFits (sizesIn x) v j
+  unfolding directFits
+  direct-level h = rw (le-ltb j v h, and-false, and-false, and-false)
 
-  pub pair-out : x .total ≤ v → false ≡ pairFits (sizesIn x) v j
-  unfolding pairFits
-  pair-out h = rw (le-ltb v (x .total) h)
+  pub direct-out : x .total ≤ v → false ≡ directFits (sizesIn x) v j
+  unfolding directFits
+  direct-out h = rw (le-ltb v (x .total) h)
 
 module _ (l : Direct) (v j : ℕ) where
-  pub above-junior : l .senior ≡ v → ltb (l .junior) j ≡ pairAbove v j l
+  pub above-junior : l .senior ≡ v → ltb (l .junior) j ≡ directAbove v j l
   above-junior e = rw (e, le-ltb v v (omega arith), eq-eqb v v refl)
 
-  pub above-senior : (l .senior ≡ v → ⊥) → ltb (l .senior) v ≡ pairAbove v j l
+  pub above-senior : (l .senior ≡ v → ⊥) → ltb (l .senior) v ≡ directAbove v j l
   above-senior e = rw (ne-eqb (l .senior) v e, or-false)
 
 -- ---- a user or an object

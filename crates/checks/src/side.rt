@@ -5,7 +5,7 @@ ghost use lib.ListN.{take};
 ghost use Rattle.basis.specs.Lists.{sum};
 ghost use Rattle.policy.specs.Limits.{mostValues};
 ghost use Rattle.policy.specs.Policy.{attributeOf};
-ghost use Rattle.policy.specs.Checks.{widthFits, pairFits, pairAbove, entryFits};
+ghost use Rattle.policy.specs.Checks.{widthFits, directFits, directAbove, entryFits};
 ghost use Rattle.policy.specs.Value.{widthPlaces};
 ghost use Rattle.checks.specs.Inner.{sizesIn, shapeOf};
 use policy::value::WIDTH_PLACES;
@@ -77,9 +77,9 @@ fn attribute_of(widths: [u32; WIDTH_PLACES], attributes: usize, v: u32) -> usize
 }
 
 // Check 6 of a direct seniority.
-pub fn pair_fits(side: Shape, v: u32, j: u32) -> bool
+pub fn direct_fits(side: Shape, v: u32, j: u32) -> bool
     requires { ⌜ side .attributes ≤ widthPlaces ⌝ }
-    ensures { λ r. ⌜ r ≡ pairFits (sizesIn side) v j ⌝ }
+    ensures { λ r. ⌜ r ≡ directFits (sizesIn side) v j ⌝ }
 {
     if v < side.total {
         if j < v {
@@ -95,8 +95,8 @@ pub fn pair_fits(side: Shape, v: u32, j: u32) -> bool
 }
 
 // Check 7 of a direct seniority after another.
-pub fn pair_above(last: Direct, v: u32, j: u32) -> bool
-    ensures { λ r. ⌜ r ≡ pairAbove v j last ⌝ }
+pub fn direct_above(last: Direct, v: u32, j: u32) -> bool
+    ensures { λ r. ⌜ r ≡ directAbove v j last ⌝ }
 {
     if last.senior == v {
         return last.junior < j;

@@ -7,17 +7,17 @@ use mathlib.Core.List.{List, [], _∷_, _++_, map}
 use mathlib.Core.Logic.{_⊎_, inl, inr, ⊎-elim}
 use mathlib.Core.Option.{Option, none, some}
 use native.Mathlib.Omega.{arith}
-use Rattle.basis.specs.Choice.{given, Check, check, lowest}
+use Rattle.basis.specs.Choice.{given, Check, check, firstBroken}
 use Rattle.basis.specs.Lists.{all}
 use Rattle.basis.proofs.Bools.{and-left, and-right}
 use Rattle.claims.specs.Answers.{Unmet, Met, Answers}
 
-pub unmet : (cs : List Check) → lowest cs ≡ none → Unmet cs
-unfolding lowest all
+pub unmet : (cs : List Check) → firstBroken cs ≡ none → Unmet cs
+unfolding firstBroken all
 unmet [] e = refl
 unmet (c ∷ cs) e = go (c .broken) (unmet cs) e
   where
-    go : (b : Bool) → (lowest cs ≡ none → Unmet cs) → cond b (some (c .number)) (lowest cs) ≡ none
+    go : (b : Bool) → (firstBroken cs ≡ none → Unmet cs) → cond b (some (c .number)) (firstBroken cs) ≡ none
         → (not b && all (λ c. not (c .broken)) cs) ≡ true
     go true h f = let z : _≡_ {A = ℕ} 0 1 = cc in absurd (omega arith)
     go false h f = h f
@@ -27,12 +27,12 @@ later : (m n : ℕ) (cs : List Check) → Met cs n → Met (check m false ∷ cs
 unfolding all
 later m n cs w = record { before = check m false ∷ w .before; behind = w .behind; listed = rw (w .listed); lower = w .lower }
 
-pub met : (cs : List Check) (n : ℕ) → lowest cs ≡ some n → Met cs n
-unfolding lowest all
+pub met : (cs : List Check) (n : ℕ) → firstBroken cs ≡ some n → Met cs n
+unfolding firstBroken all
 met [] n e = let z : _≡_ {A = ℕ} 0 1 = cc in absurd (omega arith)
 met (c ∷ cs) n e = go (c .number) (c .broken) (met cs n) e
   where
-    go : (m : ℕ) (b : Bool) → (lowest cs ≡ some n → Met cs n) → cond b (some m) (lowest cs) ≡ some n → Met (check m b ∷ cs) n
+    go : (m : ℕ) (b : Bool) → (firstBroken cs ≡ some n → Met cs n) → cond b (some m) (firstBroken cs) ≡ some n → Met (check m b ∷ cs) n
     go m true h f = let q : m ≡ n = cc in record { before = []; behind = cs; listed = rw q; lower = refl }
     go m false h f = later m n cs (h f)
 
@@ -46,10 +46,10 @@ met-all f cs n e w = go (w .before) (rw (w .listed) at e)
     go (x ∷ xs) h = go xs (and-right (f x) _ h)
 
 pub answers : {Result : Type 0} {Refusal : ℕ → Type 0} (ns : List ℕ) (cs : List Check) → map (λ c. c .number) cs ≡ ns
-    → (lowest cs ≡ none → Result) → ((n : ℕ) → lowest cs ≡ some n → Refusal n) → Answers ns cs Result Refusal
-answers {Result = R} {Refusal = F} ns cs q f g = record { refusals = q; answer = go (lowest cs) refl }
+    → (firstBroken cs ≡ none → Result) → ((n : ℕ) → firstBroken cs ≡ some n → Refusal n) → Answers ns cs Result Refusal
+answers {Result = R} {Refusal = F} ns cs q f g = record { refusals = q; answer = go (firstBroken cs) refl }
   where
-    go : (o : Option ℕ) → lowest cs ≡ o → (Unmet cs × R) ⊎ ((n : ℕ) × Met cs n × F n)
+    go : (o : Option ℕ) → firstBroken cs ≡ o → (Unmet cs × R) ⊎ ((n : ℕ) × Met cs n × F n)
     go none e = inl (unmet cs e, f e)
     go (some n) e = inr (n, met cs n e, g n e)
 

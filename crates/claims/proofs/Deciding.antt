@@ -11,7 +11,7 @@ use borrow.Author.Tests.{eqb-true, eq-eqb, le-ltb, lt-leb}
 use lib.Arith.{digits-div, digits-mod}
 use lib.Dec.{eqb}
 use lib.ListN.{length, getD, take}
-use Rattle.basis.specs.Choice.{given, lowest}
+use Rattle.basis.specs.Choice.{given, firstBroken}
 use Rattle.basis.specs.Lists.{any}
 use Rattle.basis.proofs.Lists.{any-of}
 use Rattle.basis.proofs.Places.{taken-in}
@@ -82,7 +82,7 @@ among-iff listing n x h = (
 module _ (t : List ℕ) (p : Policy) (e : readText t ≡ Accepted p) where
   pub by-formula : (a : ℕ) → a < actions (p .form) → (s : Sets) → s .user < sets (p .user) → s .object < sets (p .object)
       → decide (valueOf p) a s ≡ decided (grants p a s)
-  unfolding decide lowest
+  unfolding decide firstBroken
   by-formula a ha s hu ho =
       rw (policy-value p, yielded-valid t p e, lt-leb (actions (p .form)) a ha, lt-leb (sets (p .user)) (s .user) hu, lt-leb (sets (p .object)) (s .object) ho)
 
@@ -95,7 +95,7 @@ module _ (t : List ℕ) (p : Policy) (e : readText t ≡ Accepted p) where
 
   by-listing : (s : Sets) → OfSides p s → (listing : List ℕ) (n : ℕ) → n ≤ length listing
       → decideByTuples (valueOf p) s listing n ≡ decided (any (eqb (stored p s)) (take n listing))
-  unfolding decideByTuples lowest
+  unfolding decideByTuples firstBroken
   by-listing s h listing n l =
       rw (policy-value p, yielded-valid t p e, lt-leb (sets (p .user)) (s .user) (h .0), lt-leb (sets (p .object)) (s .object) (h .1), le-ltb (length listing) n l)
 

@@ -9,7 +9,7 @@ use borrow.Author.Tests.{le-ltb}
 use lib.Dec.{eqb}
 use lib.ListN.{length, drop}
 use lib.Seq.{take-append-seam}
-use Rattle.basis.specs.Choice.{given, there, lowest}
+use Rattle.basis.specs.Choice.{given, there, firstBroken}
 use Rattle.basis.specs.Lists.{over}
 use Rattle.basis.proofs.Bools.{and-left, and-right, never}
 use Rattle.policy.specs.Policy.{Policy, setOfNumber}
@@ -48,9 +48,9 @@ put-fitting p m s e h f k = go (eqb k s)
 
 step-fitting : (p : Policy) (c : Call) (m : Map) → Fitting p m → Fitting p (step p c m .state)
 unfolding step
-step-fitting p c m h = go (lowest (checks p c (m (sessionOf c)))) refl
+step-fitting p c m h = go (firstBroken (checks p c (m (sessionOf c)))) refl
   where
-    go : (r : Option ℕ) → lowest (checks p c (m (sessionOf c))) ≡ r
+    go : (r : Option ℕ) → firstBroken (checks p c (m (sessionOf c))) ≡ r
         → Fitting p (given {B = Out Map} r
         (record { reply = reply p c (m (sessionOf c)); state = put m (sessionOf c) (entryAfter c (m (sessionOf c))) })
         (λ n. record { reply = refused n; state = m })
@@ -105,13 +105,13 @@ told p u w (Refused y) n x = let z : _≡_ {A = ℕ} 0 1 = cc in absurd (omega a
 
 module _ (t : List ℕ) (p : Policy) (e : readText t ≡ Accepted p) (buffer : List ℕ) (room : length t ≤ length buffer) where
   written-back : WrittenBack t p buffer
-  unfolding write writeBuffer lowest
+  unfolding write writeBuffer firstBroken
   written-back =
       let h = le-ltb (length buffer) (length t) room in
       record { count = rw (policy-value p, yielded-valid t p e, read-text t p e, h); bytes = rw (policy-value p, yielded-valid t p e, read-text t p e, h) }
 
 pub write-read : WriteClaim
-unfolding write writeBuffer lowest over
+unfolding write writeBuffer firstBroken over
 write-read v e buffer room =
     let p = policyOf v in
     let s = valid-stored v e in

@@ -5,7 +5,7 @@ use mathlib.Core.Bool.{true, false}
 use mathlib.Core.List.{List}
 use borrow.Author.Tests.{le-ltb, lt-leb}
 use lib.ListN.{length}
-use Rattle.basis.specs.Choice.{gives, lowest}
+use Rattle.basis.specs.Choice.{gives, firstBroken}
 use Rattle.basis.specs.Lists.{over}
 use Rattle.policy.specs.Limits.{actions, objectNumbers}
 use Rattle.policy.specs.Policy.{Policy}
@@ -36,11 +36,11 @@ module _ (t : List ℕ) (p : Policy) (e : readText t ≡ Accepted p) where
 
   module _ (a : ℕ) (ha : a < actions (p .form)) (buffer : List ℕ) (room : length (tuples p a) ≤ length buffer) where
     is-listed : list (valueOf p) a buffer ≡ gives (length (tuples p a))
-    unfolding list lowest
+    unfolding list firstBroken
     is-listed = rw (policy-value p, ok, lt-leb (actions (p .form)) a ha, le-ltb (length buffer) (length (tuples p a)) room)
 
     is-stored : listBuffer (valueOf p) a buffer ≡ over (tuples p a) buffer
-    unfolding listBuffer lowest
+    unfolding listBuffer firstBroken
     is-stored = rw (policy-value p, ok, lt-leb (actions (p .form)) a ha, le-ltb (length buffer) (length (tuples p a)) room)
 
   listed : (a : ℕ) → a < actions (p .form) → Tuples p a
@@ -57,11 +57,11 @@ module _ (t : List ℕ) (p : Policy) (e : readText t ≡ Accepted p) where
 
   module _ (b : Buffers) (room : tooShort p b ≡ false) where
     is-compiled : compile (valueOf p) b ≡ gives (counts p)
-    unfolding compile lowest
+    unfolding compile firstBroken
     is-compiled = rw (policy-value p, ok, room)
 
     buffers-are : compileBuffers (valueOf p) b ≡ filled p b
-    unfolding compileBuffers lowest
+    unfolding compileBuffers firstBroken
     buffers-are = rw (policy-value p, ok, room)
 
     compiled-to : Compiled p b

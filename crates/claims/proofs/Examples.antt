@@ -1,7 +1,7 @@
 -- The table of examples holds, by one computation.
 use mathlib.Core.Path.{_≡_, refl}
 use mathlib.Core.Bool.{true}
-use Rattle.basis.specs.Choice.{lowest}
+use Rattle.basis.specs.Choice.{firstBroken}
 use Rattle.basis.specs.Lists.{all, any, same, last, sum, padded, over}
 use Rattle.basis.specs.Numbers.{every, first, count, select, upTo}
 use Rattle.sets.specs.Set.{setOf}
@@ -10,7 +10,7 @@ use Rattle.text.specs.Kind.{namedIn, follows}
 use Rattle.text.specs.Number.{valueFrom, isNumber, numeral, digitsBefore, decimal}
 use Rattle.text.specs.Parts.{split, join, linesOf, textOf}
 use Rattle.words.specs.Word.{letter, holding, comparison, parsed, written}
-use Rattle.policy.specs.Checks.{widthFits, pairFits, entryFits, inRange, pairRises, entryRises, ruleRises, rises, balanced, balances, extended}
+use Rattle.policy.specs.Checks.{widthFits, directFits, entryFits, inRange, directRises, entryRises, ruleRises, rises, balanced, balances, extended}
 use Rattle.policy.specs.Limits.{values, actions}
 use Rattle.policy.specs.Line.{allowed, countFits, formFits, numbersOf, wordsOf}
 use Rattle.policy.specs.Policy.{blank, total, start, attributeOf, setOfNumber, formulaIn}
@@ -29,5 +29,5 @@ use Rattle.board.specs.Machine.{empty, put, reachOf, objectSet, checks, entryAf
 use Rattle.claims.specs.Examples.{table, holds}
 
 pub examples-hold : all holds table ≡ true
-unfolding lowest all any same last sum padded over every first count select upTo setOf chain senior heldOrSenior heldOrJunior reach values actions namedIn follows valueFrom isNumber numeral digitsBefore decimal split join linesOf textOf letter holding comparison parsed written widthFits pairFits entryFits inRange pairRises entryRises ruleRises rises balanced balances extended allowed countFits formFits numbersOf wordsOf blank total start attributeOf setOfNumber formulaIn checksOf checksFor refusalOf after ending readLines readText linesOf-text laterFields lineText textOf-text sameSide sameRegister sameRule sameRules sameValue valid sideValue register noRule ruleValue rulesValue valueOf sideOf entriesOf ruleOf rulesOf policyOf step run truth grants tuples decideByTuples likeUsers likeObjects NU NO entryOf entry userResult objectResult tableResult usersAlike objectsAlike lowestLike leads labelCount label leader rulesLines report entryAt store fresh boardFits fits pastEnd grantsByLabels lookUp boardReply boardChecks boardAfter boardStep empty put reachOf objectSet checks entryAfter reply step-machine run-machine machine
+unfolding firstBroken all any same last sum padded over every first count select upTo setOf chain senior heldOrSenior heldOrJunior reach values actions namedIn follows valueFrom isNumber numeral digitsBefore decimal split join linesOf textOf letter holding comparison parsed written widthFits directFits entryFits inRange directRises entryRises ruleRises rises balanced balances extended allowed countFits formFits numbersOf wordsOf blank total start attributeOf setOfNumber formulaIn checksOf checksFor refusalOf after ending readLines readText linesOf-text laterFields lineText textOf-text sameSide sameRegister sameRule sameRules sameValue valid sideValue register noRule ruleValue rulesValue valueOf sideOf entriesOf ruleOf rulesOf policyOf step run truth grants tuples decideByTuples likeUsers likeObjects NU NO entryOf entry userResult objectResult tableResult usersAlike objectsAlike lowestLike leads labelCount label leader rulesLines report entryAt store fresh boardFits fits pastEnd grantsByLabels lookUp boardReply boardChecks boardAfter boardStep empty put reachOf objectSet checks entryAfter reply step-machine run-machine machine
 examples-hold = refl

@@ -9,7 +9,7 @@ use mathlib.Core.Option.{Option, none, some}
 use native.Mathlib.Omega.{arith}
 use borrow.Author.Tests.{leb-true, ne-eqb}
 use lib.Dec.{leb}
-use Rattle.basis.specs.Choice.{given, Check, lowest}
+use Rattle.basis.specs.Choice.{given, Check, firstBroken}
 use Rattle.basis.specs.Lists.{all}
 use Rattle.basis.proofs.Bools.{and-left, and-right, and-both}
 use Rattle.basis.proofs.Lists.{getD-blank}
@@ -154,9 +154,9 @@ reply-telling p (requests s a n) e = decided-telling (grants p a (setsAsked p n 
 
 step-telling : (p : Policy) (c : Call) (m : Map) → telling (step p c m .reply) ≡ true
 unfolding step
-step-telling p c m = go (lowest (checks p c (m (sessionOf c)))) refl
+step-telling p c m = go (firstBroken (checks p c (m (sessionOf c)))) refl
   where
-    go : (r : Option ℕ) → lowest (checks p c (m (sessionOf c))) ≡ r
+    go : (r : Option ℕ) → firstBroken (checks p c (m (sessionOf c))) ≡ r
         → telling (given {B = Out Map} r
         (record { reply = reply p c (m (sessionOf c)); state = put m (sessionOf c) (entryAfter c (m (sessionOf c))) })
         (λ n. record { reply = refused n; state = m })
@@ -192,7 +192,7 @@ board-run p l (c ∷ cs) b = board-run p l cs (called p l c b .board)
 module _ (t : List ℕ) (p : Policy) (e : readText t ≡ Accepted p) (b : Buffers) where
   -- a compilation that is not refused has room
   room : packedCounts (compile (valueOf p) b) .refusal ≡ 0 → tooShort p b ≡ false
-  unfolding compile lowest
+  unfolding compile firstBroken
   room h = go (tooShort p b) refl
     where
       go : (s : Bool) → tooShort p b ≡ s → s ≡ false

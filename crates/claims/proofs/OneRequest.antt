@@ -2,7 +2,7 @@
 use Prim.Native.Nat.{ℕ}
 use mathlib.Core.Path.{_≡_, refl}
 use mathlib.Core.Option.{Option, none, some}
-use Rattle.basis.specs.Choice.{given, lowest}
+use Rattle.basis.specs.Choice.{given, firstBroken}
 use Rattle.policy.specs.Answers.{Reply, refused}
 use Rattle.policy.specs.declared.value.PolicyValue.{PolicyValue}
 use Rattle.board.specs.Machine.{requests, Out}
@@ -20,7 +20,7 @@ state-kept (some n) r b = refl
 
 board-kept : (v : PolicyValue) (l : Labels) (b : Board) (s a n : ℕ) → answered v l b s a n .state ≡ b
 unfolding boardStep boardAfter
-board-kept v l b s a n = state-kept (lowest (boardChecks v l (requests s a n) b)) _ b
+board-kept v l b s a n = state-kept (firstBroken (boardChecks v l (requests s a n) b)) _ b
 
 pub one-request : RequestClaim
 unfolding lower

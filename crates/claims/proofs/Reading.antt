@@ -9,7 +9,7 @@ use native.Mathlib.Omega.{arith}
 use borrow.Author.Tests.{ltb-true, ltb-false, leb-true}
 use lib.Dec.{leb, ltb}
 use lib.ListN.{length}
-use Rattle.basis.specs.Choice.{given, Check, lowest}
+use Rattle.basis.specs.Choice.{given, Check, firstBroken}
 use Rattle.basis.specs.Lists.{all}
 use Rattle.basis.proofs.Bools.{and-left, and-right}
 use Rattle.text.specs.Parts.{TextLine, lines}
@@ -48,7 +48,7 @@ record FaultyFrom (s : State) (m : ℕ) (ls : List TextLine) (n line : ℕ) : Ty
   parted : ls ≡ before ++ (at ∷ behind)
   place : m + length before ≡ line
   sound : passes s before ≡ true
-  lowest : Met (lineChecks (afterLines s before) at) n
+  firstBroken : Met (lineChecks (afterLines s before) at) n
 
 record EndlessFrom (s : State) (m : ℕ) (ls : List TextLine) (n line : ℕ) : Type 0 where
   number : n ≡ 10
@@ -86,7 +86,7 @@ behind-line s m l ls (Refused n line) e (inl w) =
       parted = rw (w .parted);
       place = omega (arith, w .place);
       sound = rw e (w .sound);
-      lowest = w .lowest;
+      met = w .met;
     })
 behind-line s m l ls (Refused n line) e (inr w) =
     inr (record { number = w .number; count = omega (arith, w .count); sound = rw e (w .sound); unended = w .unended })
@@ -107,7 +107,7 @@ from (l ∷ ls) s m = go (lineRefusal s l) refl (from ls (lineAfter s l) (suc m)
           parted = refl;
           place = omega arith;
           sound = refl;
-          lowest = met (lineChecks s l) n e;
+          firstBroken = met (lineChecks s l) n e;
         })
 
 -- ---- a text
@@ -123,8 +123,8 @@ of-lines t (Refused n line) h (inl w) =
       parted = w .parted;
       place = omega (arith, w .place);
       sound = w .sound;
-      lowest = w .lowest;
-      number = line-number (afterLines start (w .before)) (w .at) n (w .lowest);
+      met = w .met;
+      number = line-number (afterLines start (w .before)) (w .at) n (w .met);
     }))
 of-lines t (Refused n line) h (inr w) =
     inr (inr (record { short = h; number = w .number; count = omega (arith, w .count); sound = w .sound; unended = w .unended }))

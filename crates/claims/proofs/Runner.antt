@@ -3,7 +3,7 @@ use mathlib.Core.Path.{ap}
 use mathlib.Core.List.{List, map}
 use borrow.Author.Tests.{le-ltb}
 use lib.ListN.{length}
-use Rattle.basis.specs.Choice.{lowest}
+use Rattle.basis.specs.Choice.{firstBroken}
 use Rattle.basis.specs.Lists.{over}
 use Rattle.policy.specs.Answers.{Reply, replyNumber}
 use Rattle.runner.specs.Calls.{itemsIn, callsIn}
@@ -12,7 +12,7 @@ use Rattle.claims.specs.Runner.{Claim}
 use Rattle.claims.proofs.Demand3.{demand3}
 
 pub list-run : Claim
-unfolding answerCount answerBuffer boardAfterRun lowest
+unfolding answerCount answerBuffer boardAfterRun firstBroken
 list-run t p e b room numbers buffer h =
     let d = demand3 t p e .sessions b room (callsIn (itemsIn numbers)) in
     let fits = le-ltb (length buffer) (length (itemsIn numbers)) h in

@@ -8,7 +8,7 @@ use mathlib.Core.List.{List, _∷_}
 use mathlib.Core.Logic.{_↔_}
 use mathlib.Core.Option.{none}
 use lib.ListN.{length, getD}
-use Rattle.basis.specs.Choice.{gives, check, lowest}
+use Rattle.basis.specs.Choice.{gives, check, firstBroken}
 use Rattle.basis.specs.Lists.{over}
 use Rattle.policy.specs.Limits.{actions}
 use Rattle.policy.specs.Policy.{Policy, sets}
@@ -99,7 +99,7 @@ pub record OneRequest (v : PolicyValue) (l : Labels) (b : Board) (s a n : ℕ) :
   pub by-bit : ((k : ℕ) → answered v l b s a n .reply ≡ refused k → ⊥)
       → (answered v l b s a n .reply ≡ granted) ↔ (grantsByLabels l a (setsAt v b s n) ≡ true)
   -- where no lower refusal applies, it gets 20 exactly when one of the three places lies past its buffer's end
-  pub past-end : lowest (check 11 (not (fits v b)) ∷ checks (policyOf v) (requests s a n) (entryAt b s)) ≡ none
+  pub past-end : firstBroken (check 11 (not (fits v b)) ∷ checks (policyOf v) (requests s a n) (entryAt b s)) ≡ none
       → (answered v l b s a n .reply ≡ refused 20) ↔ (pastEnd l (setsAt v b s n) ≡ true)
   -- and the board stays
   pub kept : answered v l b s a n .state ≡ b

@@ -6,7 +6,7 @@ use native.Mathlib.Nat.{lt-of-lt-of-le}
 use lib.Dec.{leb}
 use lib.Pow.{pow-mono}
 use borrow.Author.Tests.{le-leb, lt-leb, leb-false}
-use Rattle.basis.specs.Choice.{lowest}
+use Rattle.basis.specs.Choice.{firstBroken}
 use Rattle.basis.proofs.Bools.{or-neither}
 use Rattle.policy.specs.Policy.{Policy, sets}
 use Rattle.policy.specs.Value.{policyOf}
@@ -30,19 +30,19 @@ sets-fit p x h s e =
 
 module _ (v : PolicyValue) (a : ℕ) (s : Sets) where
   pub invalid : valid v ≡ false → refused 11 ≡ decide v a s
-  unfolding decide lowest
+  unfolding decide firstBroken
   invalid e = rw e
 
   module _ (e : valid v ≡ true) where
     pub no-action : actions (v .form) ≤ a → refused 12 ≡ decide v a s
-    unfolding decide lowest policyOf
+    unfolding decide firstBroken policyOf
     no-action h = rw (e, le-leb (actions (v .form)) a h)
 
     pub no-set : a < actions (v .form) → lacking (policyOf v) s ≡ true → refused 19 ≡ decide v a s
-    unfolding decide lowest policyOf
+    unfolding decide firstBroken policyOf
     no-set h l = rw (e, lt-leb (actions (v .form)) a h, l)
 
     pub by-formula : a < actions (v .form) → lacking (policyOf v) s ≡ false
         → (r b : Bool) → r ≡ grants (policyOf v) a s → r ≡ b → decided b ≡ decide v a s
-    unfolding decide lowest policyOf
+    unfolding decide firstBroken policyOf
     by-formula h l r b g q = rw (e, lt-leb (actions (v .form)) a h, l, ← g, q)

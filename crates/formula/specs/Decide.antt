@@ -3,7 +3,7 @@ use Prim.Native.Nat.{ℕ}
 use mathlib.Core.Bool.{Bool, not, _||_}
 use mathlib.Core.List.{List, [], _∷_}
 use lib.Dec.{leb}
-use Rattle.basis.specs.Choice.{given, Check, check, lowest}
+use Rattle.basis.specs.Choice.{given, Check, check, firstBroken}
 use Rattle.policy.specs.Limits.{actions}
 use Rattle.policy.specs.Policy.{Policy, sets}
 use Rattle.policy.specs.Value.{policyOf}
@@ -34,4 +34,4 @@ decideChecks v a s =
     check 11 (not (valid v)) ∷ check 12 (noAction (policyOf v) a) ∷ check 19 (lacking (policyOf v) s) ∷ []
 
 unfoldable pub decide : PolicyValue → ℕ → Sets → Reply
-decide v a s = given (lowest (decideChecks v a s)) (decided (grants (policyOf v) a s)) refused
+decide v a s = given (firstBroken (decideChecks v a s)) (decided (grants (policyOf v) a s)) refused

@@ -1,8 +1,10 @@
--- The meaning of a formula at a user set and an object set. "Words work on a stack, in text order."
+-- When an action is granted at a user set and an object set: by its formula, or by one of its pairs.
 use Prim.Native.Nat.{ℕ, _+_}
 use mathlib.Core.Bool.{Bool, true, false, not, _&&_, _||_}
 use mathlib.Core.List.{List, [], _∷_}
+use lib.Dec.{eqb}
 use Rattle.basis.specs.Choice.{given}
+use Rattle.basis.specs.Lists.{any}
 use Rattle.basis.specs.Numbers.{every, agree, implies}
 use Rattle.sets.specs.Set.{has}
 use Rattle.seniority.specs.Seniority.{heldOrSenior, heldOrJunior}
@@ -14,8 +16,9 @@ use Rattle.words.specs.declared.Comparison.{Comparison}
 use Rattle.words.specs.declared.Comparison.the-variants.{Dominates, Equals}
 use Rattle.policy.specs.Policy.{Side, Policy, width, start, formulaIn}
 use Rattle.policy.specs.Checks.{sizes, equalWidth}
+use Rattle.policy.specs.declared.value.Pair.{Pair}
 
--- the sets at which a formula is judged: a user set and an object set
+-- the sets at which an action is granted or denied: a user set and an object set
 pub record Sets : Type 0 where
   pub user : ℕ
   pub object : ℕ
@@ -51,7 +54,7 @@ abbrev pub below : List Bool → List Bool
 below [] = []
 below (b ∷ bs) = bs
 
--- "`t`, `f`: push true, false. `n`: not. `a`, `r`: and, or of the top two."
+-- "Words work on a stack, in text order." "`t`, `f`: push true, false. `n`: not. `a`, `r`: and, or of the top two."
 unfoldable pub step : Policy → Sets → Word → List Bool → List Bool
 step p s True bs = true ∷ bs
 step p s False bs = false ∷ bs
@@ -69,6 +72,18 @@ run p s (w ∷ ws) bs = run p s ws (step p s w bs)
 unfoldable pub truth : Policy → Sets → List Word → Bool
 truth p s ws = top (run p s ws [])
 
--- "An action without a rule is denied: its formula counts as false."
+-- "An action without a rule: its formula counts as false."
+unfoldable pub formulaTrue : Policy → ℕ → Sets → Bool
+formulaTrue p a s = given (formulaIn (p .rules) a) false (truth p s)
+
+-- "the user set holds V or a senior of it and the object set W or a junior of it"
+abbrev pub pairHolds : Policy → Sets → Pair → Bool
+pairHolds p s x = holds p s (User (x .user)) && holds p s (Object (x .object))
+
+-- a pair line of the action holds
+unfoldable pub pairTrue : Policy → ℕ → Sets → Bool
+pairTrue p a s = any (λ x. eqb (x .action) a && pairHolds p s x) (p .pairs)
+
+-- "Action A is granted when its formula is true, or when" one of its pairs holds
 unfoldable pub grants : Policy → ℕ → Sets → Bool
-grants p a s = given (formulaIn (p .rules) a) false (truth p s)
+grants p a s = formulaTrue p a s || pairTrue p a s

@@ -9,7 +9,7 @@ use lib.ListN.{length, getD, set, length-set}
 use lib.Pow.{pow-mono}
 use Rattle.basis.proofs.Places.{stored-next}
 use Rattle.policy.specs.Policy.{Policy, sets}
-use Rattle.policy.specs.Limits.{mostSets, mostPairs}
+use Rattle.policy.specs.Limits.{mostSets, mostTuples}
 use Rattle.formula.specs.Truth.{at}
 use Rattle.labels.specs.Compile.{entryOf}
 use Rattle.labels.specs.Inner.Rows.{RowsOf}
@@ -18,7 +18,7 @@ use Rattle.labels.specs.declared.rows.Rows.{Rows}
 use Rattle.labels.specs.declared.grid.View.{View}
 
 -- the place of row u and column o
-pub place-below : (m n u o : ℕ) → m ≤ mostSets → n ≤ mostSets → u < m → o < n → u * n + o < mostPairs
+pub place-below : (m n u o : ℕ) → m ≤ mostSets → n ≤ mostSets → u < m → o < n → u * n + o < mostTuples
 place-below m n u o hm hn hu ho = omega (arith, digits-lt hu ho, mul-le-mul hm hn)
 
 module _ {p : Policy} {view : View} (v : ViewOf p view) where
@@ -45,10 +45,10 @@ columns-few p from x n e = rw e (pow-mono (x .source .sides .object .most))
 
 -- the first k places have their entries, in rows of n
 pub record Entered (from : Rows) (n k : ℕ) (grid : List ℕ) : Type 0 where
-  pub long : length grid ≡ mostPairs
+  pub long : length grid ≡ mostTuples
   pub entries : (p : Policy) → RowsOf p from → n ≤ sets (p .object) → (i : ℕ) → i < k → getD grid i 0 ≡ entryOf p (at (i / n) (i % n))
 
-pub entered-more : {from : Rows} {n x : ℕ} {grid : List ℕ} (u o : ℕ) → Entered from n (u * n + o) grid → o < n → u * n + o < mostPairs
+pub entered-more : {from : Rows} {n x : ℕ} {grid : List ℕ} (u o : ℕ) → Entered from n (u * n + o) grid → o < n → u * n + o < mostTuples
     → ((p : Policy) → RowsOf p from → n ≤ sets (p .object) → x ≡ entryOf p (at u o)) → Entered from n (u * n + (o + 1)) (set grid (u * n + o) x)
 entered-more {from} {n} {x} {grid} u o F h l e =
     let s = F .long in

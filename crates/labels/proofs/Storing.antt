@@ -8,7 +8,7 @@ use native.Mathlib.Omega.{arith}
 use lib.Dec.{ltb}
 use lib.ListN.{length, getD}
 use borrow.Author.Tests.{lt-ltb, le-ltb}
-use Rattle.basis.specs.Choice.{lowest}
+use Rattle.basis.specs.Choice.{firstBroken}
 use Rattle.basis.specs.Lists.{over}
 use Rattle.basis.specs.Numbers.{upTo}
 use Rattle.basis.proofs.Bools.{or-right}
@@ -78,19 +78,19 @@ module _ (p : Policy) (us os ts : List ℕ) where
 
 -- a refusal changes nothing
 pub refused-value : (v : PolicyValue) (us os ts : List ℕ) → valid v ≡ false → Compiles v (lent us os ts) (Refused InvalidState) (lent us os ts)
-unfolding compile compileBuffers lowest
+unfolding compile compileBuffers firstBroken
 refused-value v us os ts e = record { answer = rw e; buffers = rw e }
 
 module _ (v : PolicyValue) (ok : valid v ≡ true) (us os ts : List ℕ) where
   refused-short : tooShort (policyOf v) (lent us os ts) ≡ true → Compiles v (lent us os ts) (Refused BufferTooShort) (lent us os ts)
-  unfolding compile compileBuffers lowest
+  unfolding compile compileBuffers firstBroken
   refused-short e = record { answer = rw (ok, e); buffers = rw (ok, e) }
 
   stored-long : (c : Counts) (us′ os′ ts′ : List ℕ) → tooShort (policyOf v) (lent us os ts) ≡ false
       → c .users ≡ NU (policyOf v) → c .objects ≡ NO (policyOf v)
       → us′ ≡ over (userResult (policyOf v)) us → os′ ≡ over (objectResult (policyOf v)) os → ts′ ≡ over (tableResult (policyOf v)) ts
       → Compiles v (lent us os ts) (Stored c) (lent us′ os′ ts′)
-  unfolding compile compileBuffers lowest
+  unfolding compile compileBuffers firstBroken
   stored-long c us′ os′ ts′ e a b qu qo qt = record { answer = rw (ok, e, ← a, ← b); buffers = rw (ok, e, qu, qo, qt) }
 
 -- ---- a grid whose rows and columns are labelled

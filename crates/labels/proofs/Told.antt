@@ -8,7 +8,7 @@ use native.Mathlib.Omega.{arith}
 use lib.Dec.{leb}
 use lib.ListN.{getD}
 use borrow.Author.Tests.{le-leb, lt-leb}
-use Rattle.basis.specs.Choice.{lowest}
+use Rattle.basis.specs.Choice.{firstBroken}
 use Rattle.basis.proofs.Bools.{or-right}
 use Rattle.policy.specs.Policy.{Policy, sets}
 use Rattle.policy.specs.Value.{policyOf}
@@ -26,21 +26,21 @@ use Rattle.labels.proofs.Entries.{entries-alike, entries-separate}
 
 module _ (v : PolicyValue) (u w : ℕ) where
   pub refused-value : valid v ≡ false → apartRefusal v u w ≡ some 11
-  unfolding lowest
+  unfolding firstBroken
   refused-value e = rw e
 
   module _ (e : valid v ≡ true) where
     pub refused-first : sets (policyOf v .user) ≤ u → apartRefusal v u w ≡ some 19
-    unfolding lowest
+    unfolding firstBroken
     refused-first h = rw (e, le-leb (sets (policyOf v .user)) u h)
 
     pub refused-second : sets (policyOf v .user) ≤ w → apartRefusal v u w ≡ some 19
-    unfolding lowest
+    unfolding firstBroken
     refused-second h =
         rw (e, or-right (leb (sets (policyOf v .user)) u) (leb (sets (policyOf v .user)) w) (le-leb (sets (policyOf v .user)) w h))
 
     pub not-refused : u < sets (policyOf v .user) → w < sets (policyOf v .user) → apartRefusal v u w ≡ none
-    unfolding lowest
+    unfolding firstBroken
     not-refused a b = rw (e, lt-leb (sets (policyOf v .user)) u a, lt-leb (sets (policyOf v .user)) w b)
 
 -- ---- the rows of two user sets

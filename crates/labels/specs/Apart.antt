@@ -6,7 +6,7 @@ use mathlib.Core.Bool.{true, false, not, _||_}
 use mathlib.Core.List.{List, [], _∷_}
 use mathlib.Core.Option.{Option, none, some}
 use lib.Dec.{leb}
-use Rattle.basis.specs.Choice.{Check, check, lowest}
+use Rattle.basis.specs.Choice.{Check, check, firstBroken}
 use Rattle.basis.specs.Numbers.{agree}
 use Rattle.policy.specs.Limits.{actions}
 use Rattle.policy.specs.Policy.{Policy, sets}
@@ -31,7 +31,7 @@ apartChecks value u v =
     check 11 (not (valid value)) ∷ check 19 (leb (sets (policyOf value .user)) u || leb (sets (policyOf value .user)) v) ∷ []
 
 abbrev pub apartRefusal : PolicyValue → ℕ → ℕ → Option ℕ
-apartRefusal value u v = lowest (apartChecks value u v)
+apartRefusal value u v = firstBroken (apartChecks value u v)
 
 -- what each answer says: a refusal is the lowest that applies, 'alike' is true, and a witness truly separates
 abbrev pub Tells : PolicyValue → ℕ → ℕ → Apartness → Type 0

@@ -5,7 +5,7 @@ use mathlib.Core.Bool.{Bool, not, _||_}
 use mathlib.Core.List.{List, [], _∷_}
 use lib.Dec.{ltb}
 use lib.ListN.{length, getD}
-use Rattle.basis.specs.Choice.{given, Result, gives, refuses, Check, check, lowest, unlessRefused}
+use Rattle.basis.specs.Choice.{given, Result, gives, refuses, Check, check, firstBroken, unlessRefused}
 use Rattle.basis.specs.Lists.{over}
 use Rattle.basis.specs.Numbers.{upTo}
 use Rattle.sets.specs.Set.{has, setOf}
@@ -107,7 +107,7 @@ filled p b = lent (over (userResult p) (b .users)) (over (objectResult p) (b .ob
 
 -- the buffers afterwards; a refusal changes nothing
 unfoldable pub compileBuffers : PolicyValue → Buffers → Buffers
-compileBuffers v b = given (lowest (compileChecks v b)) (filled (policyOf v) b) (λ n. b)
+compileBuffers v b = given (firstBroken (compileChecks v b)) (filled (policyOf v) b) (λ n. b)
 
 -- what a call answers and leaves in the buffers
 pub record Compiles (v : PolicyValue) (before : Buffers) (r : Compiled) (after : Buffers) : Type 0 where

@@ -19,7 +19,7 @@ use crate::grid::View;
 use crate::sorts;
 use crate::sorts::ObjectClasses;
 use crate::sorts::UserClasses;
-use policy::limits::MOST_PAIRS;
+use policy::limits::MOST_TUPLES;
 use policy::refusal::Refusal;
 
 // Puts the labels of the first n user sets at the start of a lent buffer.
@@ -49,7 +49,7 @@ fn put_object_labels(buffer: &mut [u8], objects: ObjectClasses, n: usize)
 // Puts the table at the start of a lent buffer: at two labels, the entry of their leaders.
 fn put_table(
     buffer: &mut [u8],
-    grid: &[u8; MOST_PAIRS],
+    grid: &[u8; MOST_TUPLES],
     view: View,
     users: UserClasses,
     objects: ObjectClasses,
@@ -79,7 +79,7 @@ fn put_table(
 
 // The labels of a valid policy's grid and their table, into the three buffers if these are long enough.
 pub fn store(
-    grid: &[u8; MOST_PAIRS],
+    grid: &[u8; MOST_TUPLES],
     view: View,
     users: &mut [u8],
     objects: &mut [u8],

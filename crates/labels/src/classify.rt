@@ -7,8 +7,8 @@ ghost use Rattle.policy.specs.Limits.{mostSets};
 ghost use Rattle.labels.specs.Inner.Grid.{likeRows, Inside, Labelled};
 use crate::grid;
 use crate::grid::View;
-use policy::limits::MOST_PAIRS;
 use policy::limits::MOST_SETS;
+use policy::limits::MOST_TUPLES;
 
 // The label of each row, the lowest row of each label, and how many labels there are.
 pub struct Classes {
@@ -19,7 +19,7 @@ pub struct Classes {
 
 // The first of `count` labels whose leader is like row u, or `count` where none is.
 fn label_of(
-    grid: &[u8; MOST_PAIRS],
+    grid: &[u8; MOST_TUPLES],
     view: View,
     leaders: &[u8; MOST_SETS],
     count: usize,
@@ -41,7 +41,7 @@ fn label_of(
     count
 }
 
-pub fn classify(grid: &[u8; MOST_PAIRS], view: View) -> Classes
+pub fn classify(grid: &[u8; MOST_TUPLES], view: View) -> Classes
     requires { ⌜ Inside view ⌝ }
     ensures { λ r. ⌜ Labelled (likeRows (now (grid .entry)) view) (view .rows) (r .labels) (r .leaders) (r .count) ⌝ }
 {

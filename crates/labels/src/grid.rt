@@ -2,7 +2,7 @@
 ghost use Prim.Native.Nat.{_<_};
 ghost use mathlib.Core.Path.{_≡_};
 ghost use lib.ListN.{length};
-ghost use Rattle.policy.specs.Limits.{mostPairs};
+ghost use Rattle.policy.specs.Limits.{mostTuples};
 ghost use Rattle.policy.specs.Policy.{Policy};
 ghost use Rattle.formula.specs.Inner.Lane.{AttributesOf};
 ghost use Rattle.labels.specs.Inner.Rows.{RowsOf};
@@ -11,7 +11,7 @@ use crate::rows;
 use crate::rows::Rows;
 use formula::attributes;
 use formula::attributes::Attributes;
-use policy::limits::MOST_PAIRS;
+use policy::limits::MOST_TUPLES;
 
 // A grid as seen from one side: its sets are the rows and those of the other side the columns. A row starts `down`
 // places after the one before, and in it a column lies `along` places after the one before.
@@ -52,8 +52,8 @@ pub fn turned(view: View) -> View
 }
 
 // Fills a grid, which the caller owns because it is large, with the entries of a policy.
-pub fn fill(grid: &mut [u8; MOST_PAIRS], from: Rows, view: View)
-    requires { ⌜ ((p : Policy) × RowsOf p from × ViewOf p view) × (length (now grid) ≡ mostPairs) ⌝ }
+pub fn fill(grid: &mut [u8; MOST_TUPLES], from: Rows, view: View)
+    requires { ⌜ ((p : Policy) × RowsOf p from × ViewOf p view) × (length (now grid) ≡ mostTuples) ⌝ }
     ensures { λ _. ⌜ ((p : Policy) → RowsOf p from → ViewOf p view → GridOf p (now (grid .exit)) view) ⌝ }
 {
     let m = view.rows;
@@ -74,7 +74,7 @@ pub fn wide(x: u8) -> usize
 }
 
 // The entry in row u and column o.
-pub fn entry(grid: &[u8; MOST_PAIRS], view: View, u: usize, o: usize) -> u8
+pub fn entry(grid: &[u8; MOST_TUPLES], view: View, u: usize, o: usize) -> u8
     requires { ⌜ Inside view × (u < view .rows) × (o < view .columns) ⌝ }
     ensures { λ r. ⌜ r ≡ cell (now (grid .entry)) view u o ⌝ }
 {

@@ -11,7 +11,7 @@ mod rows;
 mod sorts;
 mod telling;
 
-use policy::limits::MOST_PAIRS;
+use policy::limits::MOST_TUPLES;
 use policy::refusal::Refusal;
 use policy::value::PolicyValue;
 
@@ -68,7 +68,7 @@ pub fn compile(
     let source = from.source;
     let sides = source.sides;
     let view = grid::view_of(sides);
-    let mut entries = [0u8; MOST_PAIRS];
+    let mut entries = [0u8; MOST_TUPLES];
     grid::fill(&mut entries, from, view);
     buffers::store(&entries, view, users, objects, table)
 }

@@ -6,7 +6,7 @@ use mathlib.Core.List.{List, _∷_}
 use mathlib.Core.Option.{Option, none, some}
 use native.Mathlib.Omega.{arith}
 use lib.ListN.{length, drop}
-use Rattle.basis.specs.Choice.{Check, check, lowest}
+use Rattle.basis.specs.Choice.{Check, check, firstBroken}
 use Rattle.text.specs.Kind.{layoutOf}
 use Rattle.text.specs.declared.kind.Kind.{Kind}
 use Rattle.text.specs.declared.kind.Kind.the-variants.{End}
@@ -48,13 +48,13 @@ module _ (k : Kind) (n : Numbers) where
   abbrev tested : Bool → Bool → Bool → Head
   tested a c f = cond a (formed c f (Line k n)) (Fault KindNotAllowed)
 
-  fault-lowest : (a c f g : Bool) (cs : List Check) → (f ≡ false → g ≡ false) → (r : Refusal) → tested a c f ≡ Fault r
-      → lowest (check 2 false ∷ check 3 (not a) ∷ check 4 (not c) ∷ check 5 (not g) ∷ cs) ≡ some (numberOf r)
-  unfolding lowest
-  fault-lowest false c f g cs h r e = ap numberIn e
-  fault-lowest true false f g cs h r e = ap numberIn e
-  fault-lowest true true false g cs h r e = rw (h refl) (ap numberIn e)
-  fault-lowest true true true g cs h r e = never k n r _ e
+  fault-first-broken : (a c f g : Bool) (cs : List Check) → (f ≡ false → g ≡ false) → (r : Refusal) → tested a c f ≡ Fault r
+      → firstBroken (check 2 false ∷ check 3 (not a) ∷ check 4 (not c) ∷ check 5 (not g) ∷ cs) ≡ some (numberOf r)
+  unfolding firstBroken
+  fault-first-broken false c f g cs h r e = ap numberIn e
+  fault-first-broken true false f g cs h r e = ap numberIn e
+  fault-first-broken true true false g cs h r e = rw (h refl) (ap numberIn e)
+  fault-first-broken true true true g cs h r e = never k n r _ e
 
   record Passed (a c f : Bool) (j : Kind) (m : Numbers) : Type 0 where
     order : a ≡ true
@@ -89,10 +89,10 @@ pub record Known (before : Option Kind) (named : Named) (fs : List (List ℕ)) (
 
 module _ (before : Option Kind) (fs : List (List ℕ)) where
   pub head-fault : (named : Named) (p : Policy) (r : Refusal) → parsedAs before named fs ≡ Fault r → refusalOf before p true named fs ≡ some (numberOf r)
-  unfolding parsedAs headAs refusalOf checksFor checksOf lowest
+  unfolding parsedAs headAs refusalOf checksFor checksOf firstBroken
   head-fault Unknown p r e = ap numberIn e
   head-fault (Is k) p r e =
-      fault-lowest k (numbersOf (layoutOf k) fs) (allowed before k) (countFits (layoutOf k) (length fs)) (numbersFit (layoutOf k) fs) (formFits (layoutOf k) fs)
+      fault-first-broken k (numbersOf (layoutOf k) fs) (allowed before k) (countFits (layoutOf k) (length fs)) (numbersFit (layoutOf k) fs) (formFits (layoutOf k) fs)
       (drop 4 (checksOf before p true k fs)) (unformed (layoutOf k) fs) r e
 
   pub head-known : (named : Named) (k : Kind) (n : Numbers) → parsedAs before named fs ≡ Line k n → Known before named fs k n

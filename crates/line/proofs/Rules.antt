@@ -8,7 +8,7 @@ use native.Mathlib.Omega.{arith}
 use borrow.Author.Tests.{lt-ltb, le-ltb, lt-leb, le-leb, leb-true, ltb-true}
 use lib.Dec.{leb}
 use lib.ListN.{length, drop, set, length-append, length-map, length-drop}
-use Rattle.basis.specs.Choice.{check, lowest}
+use Rattle.basis.specs.Choice.{check, firstBroken}
 use Rattle.basis.specs.Lists.{all, padded}
 use Rattle.basis.proofs.Bools.{and-left, and-right}
 use Rattle.basis.proofs.Padded.{padded-more-map}
@@ -215,15 +215,15 @@ module _ (x : Rule) where
       orElse (cond w (heldRule x) (faultyRule MalformedField) .fault)
       (cond i (cond s (cond e (cond b None (Is UnbalancedFormula)) (Is UnequalWidths)) (Is NotRising)) (Is OutOfRange))
 
-  tested-lowest : (w i s e b : Bool)
-      → numberIn (tested w i s e b) ≡ lowest (check 5 (not w) ∷ check 6 (not i) ∷ check 7 (not s) ∷ check 8 (not e) ∷ check 9 (not b) ∷ [])
-  unfolding lowest
-  tested-lowest false i s e b = refl
-  tested-lowest true false s e b = refl
-  tested-lowest true true false e b = refl
-  tested-lowest true true true false b = refl
-  tested-lowest true true true true false = refl
-  tested-lowest true true true true true = refl
+  tested-first-broken : (w i s e b : Bool)
+      → numberIn (tested w i s e b) ≡ firstBroken (check 5 (not w) ∷ check 6 (not i) ∷ check 7 (not s) ∷ check 8 (not e) ∷ check 9 (not b) ∷ [])
+  unfolding firstBroken
+  tested-first-broken false i s e b = refl
+  tested-first-broken true false s e b = refl
+  tested-first-broken true true false e b = refl
+  tested-first-broken true true true false b = refl
+  tested-first-broken true true true true false = refl
+  tested-first-broken true true true true true = refl
 
   faulty : (r : Refusal) (A : Type 0) → Is r ≡ None → A
   faulty r A e = let c : _≡_ {A = ℕ} 0 1 = cc in absurd (omega arith)
@@ -238,13 +238,13 @@ module _ (least form : ℕ) (s : Sizes) (a : ℕ) (fs : List (List ℕ)) (y : Ru
   abbrev from : Rule
   from = ruleFrom a (drop 2 fs)
 
-  pub rule-lowest : numberIn (y .fault)
-      ≡ lowest (check 5 (not (areWords (drop 2 fs))) ∷ check 6 (not (inRange RuleKind form s (oneNumber a) (from .words))) ∷ check 7 (not (leb least a))
+  pub rule-first-broken : numberIn (y .fault)
+      ≡ firstBroken (check 5 (not (areWords (drop 2 fs))) ∷ check 6 (not (inRange RuleKind form s (oneNumber a) (from .words))) ∷ check 7 (not (leb least a))
       ∷ check 8 (not (all (widthsEqual s) (from .words))) ∷ check 9 (not (balanced 0 (from .words))) ∷ [])
   unfolding admittedRule ruleIn ruleFault
-  rule-lowest =
+  rule-first-broken =
       ap (λ (z : RuleLine). numberIn (z .fault)) q
-      ∙ tested-lowest from (areWords (drop 2 fs)) (inRange RuleKind form s (oneNumber a) (from .words)) (leb least a) (all (widthsEqual s) (from .words)) (balanced 0 (from .words))
+      ∙ tested-first-broken from (areWords (drop 2 fs)) (inRange RuleKind form s (oneNumber a) (from .words)) (leb least a) (all (widthsEqual s) (from .words)) (balanced 0 (from .words))
 
   -- a rule in which nothing is broken rises, to an action that the form has
   pub rule-taken : y .fault ≡ None → (least ≤ a) × (a < actions form)

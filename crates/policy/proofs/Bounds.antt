@@ -24,13 +24,14 @@ use Rattle.words.specs.declared.Comparison.the-variants.{Dominates, Equals}
 use Rattle.words.specs.Inner.{inDigits}
 use Rattle.policy.specs.Limits.{values, actions, mostValues, userNumbers, objectNumbers, mostLines}
 use Rattle.policy.specs.Policy.{Side, Rule, Policy, total, sets, attributeOf}
-use Rattle.policy.specs.Checks.{SideSizes, sideSizes, sizes, widthFits, pairFits, entryFits, bothThere, wordFits}
-use Rattle.policy.specs.Value.{widthPlaces, entryPlaces, rulePlaces, linePlaces}
+use Rattle.policy.specs.Checks.{SideSizes, Sizes, sideSizes, sizes, widthFits, directFits, entryFits, pairFits, bothThere, wordFits}
+use Rattle.policy.specs.Value.{widthPlaces, entryPlaces, rulePlaces, pairPlaces, linePlaces}
 use Rattle.policy.specs.Inner.Sound.{widthsSound, listsSound}
 use Rattle.policy.specs.declared.value.Entry.{Entry}
+use Rattle.policy.specs.declared.value.Pair.{Pair}
 use Rattle.policy.proofs.Forms.{values-most, actions-most}
 use Rattle.policy.proofs.Rising.{rising, head, rising-at, rising-few}
-use Rattle.policy.proofs.Parts.{lineFits, lineAbove, numberFits, numberAbove, actionAbove, SideParts, RuleParts, rule-parts, Parts, parts, ruleFits}
+use Rattle.policy.proofs.Parts.{lineFits, lineAbove, numberFits, numberAbove, actionAbove, SideParts, RuleParts, rule-parts, Parts, parts, ruleFits, pairIs, pairOver}
 
 -- ---- widths
 
@@ -85,14 +86,14 @@ module _ (most : ℕ) where
 -- ---- seniorities
 
 -- V and J of a line that passes check 6
-pub record Pair (s : SideSizes) (v j : ℕ) : Type 0 where
+pub record DirectFit (s : SideSizes) (v j : ℕ) : Type 0 where
   pub value : v < s .values
   pub same : attributeOf (s .widths) v ≡ attributeOf (s .widths) j
   pub above : j < v
 
-pub pair-fits : (s : SideSizes) (v j : ℕ) → pairFits s v j ≡ true → Pair s v j
-unfolding pairFits
-pair-fits s v j e =
+pub direct-fits : (s : SideSizes) (v j : ℕ) → directFits s v j ≡ true → DirectFit s v j
+unfolding directFits
+direct-fits s v j e =
     let e₁ = and-right (ltb v (s .values)) _ e in
     let e₂ = and-right (ltb j (s .values)) _ e₁ in
     record {
@@ -122,16 +123,16 @@ rank l = triangle (l .senior) + l .junior
 
 module _ (s : SideSizes) where
   abbrev fits : Direct → Bool
-  fits l = pairFits s (l .senior) (l .junior)
+  fits l = directFits s (l .senior) (l .junior)
 
   rank-low : (l : Direct) → fits l ≡ true → rank l < triangle (s .values)
   unfolding rank triangle
-  rank-low l e = let f = pair-fits s (l .senior) (l .junior) e in omega (arith, triangle-up (suc (l .senior)) (s .values) (f .value), f .above)
+  rank-low l e = let f = direct-fits s (l .senior) (l .junior) e in omega (arith, triangle-up (suc (l .senior)) (s .values) (f .value), f .above)
 
   rank-up : (m l : Direct) → fits m ≡ true → lineAbove m l ≡ true → rank m < rank l
   unfolding rank triangle
   rank-up m l e a =
-      let f = pair-fits s (m .senior) (m .junior) e in
+      let f = direct-fits s (m .senior) (m .junior) e in
       ⊎-elim
       (λ h. omega (arith, triangle-up (suc (m .senior)) (l .senior) (ltb-true (m .senior) (l .senior) h), f .above))
       (λ h. let q = eqb-true (m .senior) (l .senior) (and-left _ _ h) in
@@ -139,8 +140,8 @@ module _ (s : SideSizes) where
       (or-cases (ltb (m .senior) (l .senior)) _ a)
 
   -- pairs that rise: one for each two values at most
-  pub pairs-few : s .values ≤ mostValues → (ls : List Direct) → rising fits lineAbove none ls ≡ true → length ls ≤ mostLines
-  pairs-few h ls e =
+  pub directs-few : s .values ≤ mostValues → (ls : List Direct) → rising fits lineAbove none ls ≡ true → length ls ≤ mostLines
+  directs-few h ls e =
       le-trans (rising-few fits lineAbove rank (triangle (s .values)) rank-low rank-up ls e) (le-trans (triangle-up (s .values) mostValues h) triangle-most)
 
 -- no upper value falls
@@ -167,7 +168,7 @@ module _ (s : Side) where
   ordered b [] e = tt
   ordered b (l ∷ ls) e =
       let h = head (lineFits s) lineAbove b l ls e in
-      let f = pair-fits (sideSizes s) (l .senior) (l .junior) (h .fits-it) in
+      let f = direct-fits (sideSizes s) (l .senior) (l .junior) (h .fits-it) in
       (f .above, f .value, lines-from l ls (h .rest), ordered (some l) ls (h .rest))
 
 -- ---- a side
@@ -248,6 +249,27 @@ module _ (p : Policy) (t : Parts p) where
   pub rule-digits : (r : Rule) → RuleParts p r → all inDigits (r .words) ≡ true
   rule-digits r q = all-of inDigits (r .words) (λ w m. word-digits w (all-at (wordFits (sizes p)) (r .words) (q .fit) w m))
 
+-- ---- pairs
+
+-- A, V and W of a line that passes check 6
+pub record PairFit (n : ℕ) (s : Sizes) (x : Pair) : Type 0 where
+  pub action : x .action < n
+  pub user : x .user < s .user .values
+  pub object : x .object < s .object .values
+
+pub pair-fits : (n : ℕ) (s : Sizes) (x : Pair) → pairFits n s x ≡ true → PairFit n s x
+unfolding pairFits
+pair-fits n s x e =
+    let e₁ = and-right (ltb (x .action) n) _ e in
+    record {
+      action = ltb-true _ _ (and-left (ltb (x .action) n) _ e);
+      user = ltb-true _ _ (and-left (ltb (x .user) (s .user .values)) _ e₁);
+      object = ltb-true _ _ (and-right (ltb (x .user) (s .user .values)) _ e₁);
+    }
+
+pub pair-bounds : (p : Policy) → Parts p → (x : Pair) → List·Memᴰ x (p .pairs) → PairFit (actions (p .form)) (sizes p) x
+pair-bounds p t x m = pair-fits (actions (p .form)) (sizes p) x (rising-at (pairIs p) pairOver none (p .pairs) (t .pairs) x m)
+
 -- ---- the lists fit their arrays
 
 pub record WithinSide (s : Side) : Type 0 where
@@ -260,12 +282,13 @@ pub record Within (p : Policy) : Type 0 where
   pub users : length (p .users) ≤ entryPlaces
   pub objects : length (p .objects) ≤ entryPlaces
   pub rules : length (p .rules) ≤ rulePlaces
+  pub pairs : length (p .pairs) ≤ pairPlaces
 
 side-within : (form : ℕ) (s : Side) → SideParts (values form) s → WithinSide s
 side-within form s h =
     record {
       widths = le-trans (attributes-few (values form) s h) (total-few form s h);
-      lines = pairs-few (sideSizes s) (total-few form s h) (s .lines) (h .lines);
+      lines = directs-few (sideSizes s) (total-few form s h) (s .lines) (h .lines);
     }
 
 pub parts-within : (p : Policy) → Parts p → Within p
@@ -276,6 +299,7 @@ parts-within p t =
       users = le-trans (entries-few userNumbers (p .user) (p .users) (t .users)) (lit≤ tt);
       objects = entries-few objectNumbers (p .object) (p .objects) (t .objects);
       rules = le-trans (rules-few p (p .rules) (t .rules)) (actions-most (p .form));
+      pairs = t .few-pairs;
     }
 
 pub sound-within : (p : Policy) → listsSound p ≡ true → Within p

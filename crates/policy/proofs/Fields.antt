@@ -24,7 +24,7 @@ use Rattle.words.specs.declared.Parsed.{Parsed}
 use Rattle.words.specs.declared.Parsed.the-variants.{Is, Malformed}
 use Rattle.words.proofs.RoundTrip.{parsed-written, written-parsed}
 use Rattle.policy.specs.Limits.{mostWords}
-use Rattle.policy.specs.Line.{Line, noNumbers, oneNumber, twoNumbers, plain, fieldAt, numberAt, countFits, formFits, numbersOf, wordsOf}
+use Rattle.policy.specs.Line.{Line, noNumbers, oneNumber, twoNumbers, threeNumbers, plain, fieldAt, numberAt, countFits, formFits, numbersOf, wordsOf}
 use Rattle.policy.specs.Text.{laterFields, fieldsOf}
 use Rattle.policy.proofs.Shorts.{Shorts}
 
@@ -153,9 +153,12 @@ module _ (word : List ℕ) (n : Numbers) (ws : List Word) where
 pub line-back : (l : Line) → Made (layoutOf (l .kind)) (l .numbers) (l .words) → Back l
 line-back l m = fields-say (wordOf (l .kind)) (l .numbers) (l .words) (layoutOf (l .kind)) m
 
--- a line of one number, and of two
+-- a line of one number, of two and of three
 pub one-back : (k : Kind) → layoutOf k ≡ One → (n : ℕ) → Shorts (oneNumber n) → Back (plain k (oneNumber n))
 one-back k e n h = line-back (plain k (oneNumber n)) (rw e (record { short = h; places = refl; worded = refl }))
 
 pub two-back : (k : Kind) → layoutOf k ≡ Two → (n m : ℕ) → Shorts (twoNumbers n m) → Back (plain k (twoNumbers n m))
 two-back k e n m h = line-back (plain k (twoNumbers n m)) (rw e (record { short = h; places = refl; worded = refl }))
+
+pub three-back : (k : Kind) → layoutOf k ≡ Three → (n m l : ℕ) → Shorts (threeNumbers n m l) → Back (plain k (threeNumbers n m l))
+three-back k e n m l h = line-back (plain k (threeNumbers n m l)) (rw e (record { short = h; places = refl; worded = refl }))

@@ -1,4 +1,4 @@
--- A line that passes checks 6 to 9 keeps the lists sound, where no line of a later kind was read.
+-- A line that passes checks 6 to 9 and 21 keeps the lists sound, where no line of a later kind was read.
 use Prim.Native.Nat.{ℕ, suc, _≤_}
 use mathlib.Core.Path.{_≡_, refl}
 use mathlib.Core.Bool.{true}
@@ -7,22 +7,24 @@ use mathlib.Core.Option.{none}
 use native.Mathlib.Omega.{arith}
 use lib.Dec.{ltb}
 use lib.ListN.{length}
-use borrow.Author.Tests.{le-leb}
+use borrow.Author.Tests.{le-leb, ltb-true}
 use Rattle.basis.specs.Lists.{all}
 use Rattle.basis.proofs.Bools.{and-left, and-right}
+use Rattle.basis.proofs.Snoc.{length-snoc}
 use Rattle.seniority.specs.Seniority.{direct}
 use Rattle.text.specs.Kind.{layoutOf, placeOf}
 use Rattle.text.specs.declared.kind.Kind.{Kind}
-use Rattle.text.specs.declared.kind.Kind.the-variants.{Policy as PolicyKind, Uattr, Oattr, Usen, Osen, User, Object, Rule as RuleKind, End}
+use Rattle.text.specs.declared.kind.Kind.the-variants.{Policy as PolicyKind, Uattr, Oattr, Usen, Osen, User, Object, Rule as RuleKind, Pair as PairKind, End}
 use Rattle.text.specs.declared.number.Numbers.{Numbers}
 use Rattle.words.specs.declared.Word.{Word}
-use Rattle.policy.specs.Limits.{values, actions, userNumbers, objectNumbers, mostWords}
+use Rattle.policy.specs.Limits.{values, actions, userNumbers, objectNumbers, mostWords, mostPairs}
 use Rattle.policy.specs.Policy.{Side, Rule, Policy, total}
-use Rattle.policy.specs.Checks.{sideSizes, sizes, widthFits, pairFits, entryFits, inRange, pairRises, entryRises, ruleRises, rises, widthsEqual, balances, withWidth, withLine, withEntry, withRules, extended}
+use Rattle.policy.specs.Checks.{sideSizes, sizes, widthFits, directFits, entryFits, pairIn, pairFits, inRange, directRises, entryRises, ruleRises, pairRises, rises, pairRoom, widthsEqual, balances, withWidth, withLine, withEntry, withRules, withPairs, extended}
 use Rattle.policy.specs.Inner.Sound.{widthsSound, ruleSound}
 use Rattle.policy.specs.declared.value.Entry.{Entry}
+use Rattle.policy.specs.declared.value.Pair.{Pair}
 use Rattle.policy.proofs.Rising.{rising, rising-more, rising-same}
-use Rattle.policy.proofs.Parts.{lineFits, lineAbove, numberFits, numberAbove, actionAbove, SideParts, Parts, ruleFits}
+use Rattle.policy.proofs.Parts.{lineFits, lineAbove, numberFits, numberAbove, actionAbove, SideParts, Parts, ruleFits, pairIs, pairOver}
 use Rattle.policy.proofs.Bounds.{widths-more}
 use Rattle.policy.proofs.Order.{cut}
 
@@ -34,8 +36,8 @@ module _ (most : ℕ) where
   unfolding rising total
   more-widths ws w h f = record { widths = widths-more most ws w (h .widths) f; lines = refl }
 
-  pub more-lines : (s : Side) (v j : ℕ) → SideParts most s → pairFits (sideSizes s) v j ≡ true → pairRises s v j ≡ true → SideParts most (withLine v j s)
-  unfolding pairFits total pairRises
+  pub more-lines : (s : Side) (v j : ℕ) → SideParts most s → directFits (sideSizes s) v j ≡ true → directRises s v j ≡ true → SideParts most (withLine v j s)
+  unfolding directFits total directRises
   more-lines s v j h f a = record { widths = h .widths; lines = rising-more (lineFits s) lineAbove (s .lines) (direct v j) (h .lines) f a }
 
 pub more-entries : (most : ℕ) (s : Side) (es : List Entry) (n x : ℕ) → rising (numberFits most s) numberAbove none es ≡ true
@@ -51,18 +53,20 @@ rule-same p rs r = refl
 
 -- ---- one line
 
--- checks 6 to 9 of a line pass, and it has no more words than a formula may have
+-- checks 6 to 9 and 21 of a line pass, and it has no more words than a formula may have
 pub record Fits (k : Kind) (p : Policy) (n : Numbers) (ws : List Word) : Type 0 where
   pub range : inRange k (p .form) (sizes p) n ws ≡ true
   pub rise : rises k p n ≡ true
+  pub room : pairRoom k p ≡ true
   pub equal : all (widthsEqual (sizes p)) ws ≡ true
   pub balance : balances (layoutOf k) ws ≡ true
   pub few : length ws ≤ mostWords
 
 -- a line with no words
-pub plain-fits : (k : Kind) (p : Policy) (n : Numbers) → inRange k (p .form) (sizes p) n [] ≡ true → rises k p n ≡ true → balances (layoutOf k) [] ≡ true → Fits k p n []
+pub plain-fits : (k : Kind) (p : Policy) (n : Numbers) → inRange k (p .form) (sizes p) n [] ≡ true → rises k p n ≡ true → pairRoom k p ≡ true
+    → balances (layoutOf k) [] ≡ true → Fits k p n []
 unfolding all
-plain-fits k p n f a b = record { range = f; rise = a; equal = refl; balance = b; few = omega arith }
+plain-fits k p n f a r b = record { range = f; rise = a; room = r; equal = refl; balance = b; few = omega arith }
 
 pub more-rules : (p : Policy) (n : Numbers) (ws : List Word) → let r : Rule = record { action = n .first; words = ws } in
     rising (ruleFits p) actionAbove none (p .rules) ≡ true → Fits RuleKind p n ws
@@ -76,23 +80,45 @@ more-rules p n ws h f =
     rw (rising-same (ruleFits (withRules rs p)) (ruleFits p) actionAbove (rule-same p rs) none rs)
     (rising-more (ruleFits p) actionAbove (p .rules) r h c (f .rise))
 
+-- ---- pairs: a pair's test looks at the form and the sides alone
+
+pair-same : (p : Policy) (xs : List Pair) (x : Pair) → pairIs (withPairs xs p) x ≡ pairIs p x
+unfolding pairFits
+pair-same p xs x = refl
+
+module _ (p : Policy) (n : Numbers) (ws : List Word) (f : Fits PairKind p n ws) where
+  abbrev longer : List Pair
+  longer = p .pairs ++ (pairIn n ∷ [])
+
+  pub more-pairs : rising (pairIs p) pairOver none (p .pairs) ≡ true → rising (pairIs (withPairs longer p)) pairOver none longer ≡ true
+  unfolding inRange rises pairRises
+  more-pairs h =
+      rw (rising-same (pairIs (withPairs longer p)) (pairIs p) pairOver (pair-same p longer) none longer)
+      (rising-more (pairIs p) pairOver (p .pairs) (pairIn n) h (f .range) (f .rise))
+
+  pub few-more : length longer ≤ mostPairs
+  few-more = rw (length-snoc (p .pairs) (pairIn n)) (omega (arith, ltb-true (length (p .pairs)) mostPairs (f .room)))
+
 pub parts-more : (k : Kind) (n : Numbers) (ws : List Word) (p : Policy) → let q = cut (suc (placeOf k)) p in
     Parts q → Fits k q n ws → Parts (extended k n ws q)
 unfolding extended inRange rises cut rising widthsSound
 parts-more PolicyKind n ws p t f =
-    record { user = record { widths = refl; lines = refl }; object = record { widths = refl; lines = refl }; users = refl; objects = refl; rules = refl }
+    record { user = record { widths = refl; lines = refl }; object = record { widths = refl; lines = refl }; users = refl; objects = refl; rules = refl; few-pairs = omega arith; pairs = refl }
 parts-more Uattr n ws p t f =
-    record { user = more-widths (values (p .form)) (p .user .widths) (n .first) (t .user) (f .range); object = t .object; users = refl; objects = refl; rules = refl }
+    record { user = more-widths (values (p .form)) (p .user .widths) (n .first) (t .user) (f .range); object = t .object; users = refl; objects = refl; rules = refl; few-pairs = omega arith; pairs = refl }
 parts-more Oattr n ws p t f =
-    record { user = t .user; object = more-widths (values (p .form)) (p .object .widths) (n .first) (t .object) (f .range); users = refl; objects = refl; rules = refl }
+    record { user = t .user; object = more-widths (values (p .form)) (p .object .widths) (n .first) (t .object) (f .range); users = refl; objects = refl; rules = refl; few-pairs = omega arith; pairs = refl }
 parts-more Usen n ws p t f =
-    record { user = more-lines (values (p .form)) _ (n .first) (n .second) (t .user) (f .range) (f .rise); object = t .object; users = refl; objects = refl; rules = refl }
+    record { user = more-lines (values (p .form)) _ (n .first) (n .second) (t .user) (f .range) (f .rise); object = t .object; users = refl; objects = refl; rules = refl; few-pairs = omega arith; pairs = refl }
 parts-more Osen n ws p t f =
-    record { user = t .user; object = more-lines (values (p .form)) _ (n .first) (n .second) (t .object) (f .range) (f .rise); users = refl; objects = refl; rules = refl }
+    record { user = t .user; object = more-lines (values (p .form)) _ (n .first) (n .second) (t .object) (f .range) (f .rise); users = refl; objects = refl; rules = refl; few-pairs = omega arith; pairs = refl }
 parts-more User n ws p t f =
-    record { user = t .user; object = t .object; users = more-entries userNumbers _ (p .users) (n .first) (n .second) (t .users) (f .range) (f .rise); objects = refl; rules = refl }
+    record { user = t .user; object = t .object; users = more-entries userNumbers _ (p .users) (n .first) (n .second) (t .users) (f .range) (f .rise); objects = refl; rules = refl; few-pairs = omega arith; pairs = refl }
 parts-more Object n ws p t f =
-    record { user = t .user; object = t .object; users = t .users; objects = more-entries objectNumbers _ (p .objects) (n .first) (n .second) (t .objects) (f .range) (f .rise); rules = refl }
+    record { user = t .user; object = t .object; users = t .users; objects = more-entries objectNumbers _ (p .objects) (n .first) (n .second) (t .objects) (f .range) (f .rise); rules = refl; few-pairs = omega arith; pairs = refl }
 parts-more RuleKind n ws p t f =
-    record { user = t .user; object = t .object; users = t .users; objects = t .objects; rules = more-rules (cut (suc (placeOf RuleKind)) p) n ws (t .rules) f }
+    record { user = t .user; object = t .object; users = t .users; objects = t .objects; rules = more-rules (cut (suc (placeOf RuleKind)) p) n ws (t .rules) f; few-pairs = omega arith; pairs = refl }
+parts-more PairKind n ws p t f =
+    let q = cut (suc (placeOf PairKind)) p in
+    record { user = t .user; object = t .object; users = t .users; objects = t .objects; rules = t .rules; few-pairs = few-more q n ws f; pairs = more-pairs q n ws f (t .pairs) }
 parts-more End n ws p t f = t

@@ -18,7 +18,7 @@ use Rattle.text.specs.Number.{mostDigits, decimal}
 use Rattle.text.specs.Parts.{comma, lineFeed, join, textOf as linesText}
 use Rattle.text.specs.Kind.{wordOf, kinds, layoutOf}
 use Rattle.text.specs.declared.kind.Kind.{Kind}
-use Rattle.text.specs.declared.kind.Kind.the-variants.{Policy as PolicyKind, Uattr, Oattr, Usen, Osen, User, Object, Rule as RuleKind, End}
+use Rattle.text.specs.declared.kind.Kind.the-variants.{Policy as PolicyKind, Uattr, Oattr, Usen, Osen, User, Object, Rule as RuleKind, Pair as PairKind, End}
 use Rattle.text.specs.declared.kind.Layout.{Layout}
 use Rattle.text.specs.declared.kind.Layout.the-variants.{Bare, One, Two, Three, Formula}
 use Rattle.text.specs.declared.number.Numbers.{Numbers}
@@ -26,17 +26,18 @@ use Rattle.text.proofs.RoundTrip.{decimal-short}
 use Rattle.words.specs.Word.{written}
 use Rattle.words.specs.declared.Word.{Word}
 use Rattle.words.proofs.RoundTrip.{mostLetters, written-short}
-use Rattle.policy.specs.Limits.{textBytes, isForm, values, mostValues, userNumbers, objectNumbers, mostWords, mostActions, mostLines}
+use Rattle.policy.specs.Limits.{textBytes, isForm, values, mostValues, userNumbers, objectNumbers, mostWords, mostActions, mostLines, mostPairs}
 use Rattle.policy.specs.Policy.{Side, Rule, Policy}
-use Rattle.policy.specs.Line.{Line, noNumbers, oneNumber, twoNumbers, plain, ruleLine}
-use Rattle.policy.specs.Text.{flat, widthLines, pairLines, entryLines, ruleLines, laterFields, lineText, textOf}
+use Rattle.policy.specs.Line.{Line, noNumbers, oneNumber, twoNumbers, threeNumbers, plain, ruleLine}
+use Rattle.policy.specs.Text.{flat, widthLines, directLines, entryLines, ruleLines, pairLines, laterFields, lineText, textOf}
 use Rattle.policy.specs.declared.value.Entry.{Entry}
+use Rattle.policy.specs.declared.value.Pair.{Pair}
 use Rattle.policy.proofs.Forms.{form-few}
-use Rattle.policy.proofs.Parts.{lineFits, lineAbove, numberFits, numberAbove, SideParts, Parts}
+use Rattle.policy.proofs.Parts.{lineFits, lineAbove, numberFits, numberAbove, pairIs, pairOver, SideParts, Parts}
 use Rattle.policy.proofs.Rising.{rising, rising-at}
 use Rattle.policy.proofs.Bounds.{width-bounds, entries-few, rule-bounds, parts-within}
 use Rattle.policy.proofs.Groups.{groups, linesFrom, lines-from}
-use Rattle.policy.proofs.Shorts.{Short, Shorts, no-short, one-short, width-short, action-short, pair-short, entry-short}
+use Rattle.policy.proofs.Shorts.{Short, Shorts, no-short, one-short, width-short, action-short, direct-short, entry-short, pair-short}
 
 -- ---- the bytes of a line
 
@@ -106,6 +107,7 @@ mostOf Osen = mostLines
 mostOf User = userNumbers
 mostOf Object = objectNumbers
 mostOf RuleKind = mostActions
+mostOf PairKind = mostPairs
 mostOf End = 1
 
 kindBytes : Kind → ℕ
@@ -170,10 +172,10 @@ module _ (p : Policy) (t : Parts p) (form : isForm (p .form) ≡ true) where
       group k (λ w. plain k (oneNumber w)) (s .widths) l
       (λ w m. line-bytes (plain k (oneNumber w)) (width-short (p .form) w (width-bounds (values (p .form)) s h w m .1)) (omega arith))
 
-  pairs-group : (k : Kind) (s : Side) → SideParts (values (p .form)) s → length (s .lines) ≤ mostOf k → Group k (pairLines k s)
-  pairs-group k s h l =
+  directs-group : (k : Kind) (s : Side) → SideParts (values (p .form)) s → length (s .lines) ≤ mostOf k → Group k (directLines k s)
+  directs-group k s h l =
       group k (λ (d : Direct). plain k (twoNumbers (d .senior) (d .junior))) (s .lines) l
-      (λ d m. line-bytes (plain k (twoNumbers (d .senior) (d .junior))) (pair-short (p .form) s h d (rising-at (lineFits s) lineAbove none (s .lines) (h .lines) d m)) (omega arith))
+      (λ d m. line-bytes (plain k (twoNumbers (d .senior) (d .junior))) (direct-short (p .form) s h d (rising-at (lineFits s) lineAbove none (s .lines) (h .lines) d m)) (omega arith))
 
   entries-group : (k : Kind) (most : ℕ) → most ≤ objectNumbers → most ≤ mostOf k → (s : Side) → SideParts (values (p .form)) s
       → (es : List Entry) → rising (numberFits most s) numberAbove none es ≡ true → Group k (entryLines k es)
@@ -187,6 +189,12 @@ module _ (p : Policy) (t : Parts p) (form : isForm (p .form) ≡ true) where
       group RuleKind (λ (r : Rule). ruleLine (r .action) (r .words)) (p .rules) (parts-within p t .rules)
       (λ r m. let q = rule-bounds p (p .rules) (t .rules) r m in line-bytes (ruleLine (r .action) (r .words)) (action-short (p .form) (r .action) (q .action)) (q .few))
 
+  pairs-group : Group PairKind (pairLines (p .pairs))
+  unfolding mostOf
+  pairs-group =
+      group PairKind (λ (x : Pair). plain PairKind (threeNumbers (x .action) (x .user) (x .object))) (p .pairs) (t .few-pairs)
+      (λ x m. line-bytes (plain PairKind (threeNumbers (x .action) (x .user) (x .object))) (pair-short p t x (rising-at (pairIs p) pairOver none (p .pairs) (t .pairs) x m)) (omega arith))
+
   one-group : (k : Kind) (n : Numbers) → 1 ≤ mostOf k → Shorts n → Group k (plain k n ∷ [])
   unfolding all
   one-group k n h g = record { few = h; each = rw (lt-ltb (length (lineText (plain k n))) (lineBytes k) (line-bytes (plain k n) g (omega arith))) }
@@ -198,11 +206,11 @@ module _ (p : Policy) (t : Parts p) (form : isForm (p .form) ≡ true) where
       then (one-group PolicyKind (oneNumber (p .form)) (lit≤ tt) (one-short (p .form) (form-few (p .form) form)))
       (then (widths-group Uattr (p .user) (t .user) (w .user .widths))
       (then (widths-group Oattr (p .object) (t .object) (w .object .widths))
-      (then (pairs-group Usen (p .user) (t .user) (w .user .lines))
-      (then (pairs-group Osen (p .object) (t .object) (w .object .lines))
+      (then (directs-group Usen (p .user) (t .user) (w .user .lines))
+      (then (directs-group Osen (p .object) (t .object) (w .object .lines))
       (then (entries-group User userNumbers (lit≤ tt) (lit≤ tt) (p .user) (t .user) (p .users) (t .users))
       (then (entries-group Object objectNumbers (lit≤ tt) (lit≤ tt) (p .object) (t .object) (p .objects) (t .objects))
-      (then rules-group (then (one-group End noNumbers (lit≤ tt) no-short) none-left))))))))
+      (then rules-group (then pairs-group (then (one-group End noNumbers (lit≤ tt) no-short) none-left)))))))))
 
   pub parts-short : length (textOf p) ≤ textBytes
   unfolding size textOf linesFrom

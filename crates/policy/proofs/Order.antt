@@ -15,7 +15,7 @@ use Rattle.basis.proofs.Same.{agree-eq}
 use Rattle.basis.proofs.Table.{everyEntry}
 use Rattle.text.specs.Kind.{kinds, placeOf, follows}
 use Rattle.text.specs.declared.kind.Kind.{Kind}
-use Rattle.text.specs.declared.kind.Kind.the-variants.{Policy as PolicyKind, Uattr, Oattr, Usen, Osen, User, Object, Rule as RuleKind, End}
+use Rattle.text.specs.declared.kind.Kind.the-variants.{Policy as PolicyKind, Uattr, Oattr, Usen, Osen, User, Object, Rule as RuleKind, Pair as PairKind, End}
 use Rattle.text.proofs.Naming.{each-kind}
 use Rattle.policy.specs.Policy.{Policy}
 use Rattle.policy.specs.Line.{allowed}
@@ -96,6 +96,7 @@ cut i p =
       users = keep i User (p .users);
       objects = keep i Object (p .objects);
       rules = keep i RuleKind (p .rules);
+      pairs = keep i PairKind (p .pairs);
     }
 
 keep-keep : {A : Type 0} (i j : ℕ) (k : Kind) (xs : List A) → i ≤ j → keep j k (keep i k xs) ≡ keep i k xs
@@ -115,6 +116,7 @@ cut-cut i j p h =
       keep-keep i j User (p .users) h,
       keep-keep i j Object (p .objects) h,
       keep-keep i j RuleKind (p .rules) h,
+      keep-keep i j PairKind (p .pairs) h,
     )
 
 -- a policy with no line from place i on has none from a later place on

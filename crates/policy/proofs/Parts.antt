@@ -10,23 +10,24 @@ use borrow.Author.Tests.{leb-true, ltb-true, le-leb}
 use Rattle.basis.specs.Lists.{all}
 use Rattle.basis.proofs.Bools.{and-left, and-right}
 use Rattle.seniority.specs.declared.Direct.{Direct}
-use Rattle.policy.specs.Limits.{isForm, values, actions, userNumbers, objectNumbers, mostWords}
+use Rattle.policy.specs.Limits.{isForm, values, actions, userNumbers, objectNumbers, mostWords, mostPairs}
 use Rattle.policy.specs.Policy.{Side, Rule, Policy, total}
-use Rattle.policy.specs.Checks.{SideSizes, Sizes, sideSizes, sizes, pairFits, pairAbove, entryFits, wordFits, widthsEqual, balanced}
-use Rattle.policy.specs.Inner.Sound.{widthsSound, linesSound, entriesSound, ruleSound, rulesSound, sideSound, listsSound, sound}
+use Rattle.policy.specs.Checks.{SideSizes, Sizes, sideSizes, sizes, directFits, directAbove, entryFits, pairFits, pairAbove, wordFits, widthsEqual, balanced}
+use Rattle.policy.specs.Inner.Sound.{widthsSound, linesSound, entriesSound, ruleSound, rulesSound, pairsSound, sideSound, listsSound, sound}
 use Rattle.policy.specs.declared.value.Entry.{Entry}
+use Rattle.policy.specs.declared.value.Pair.{Pair}
 use Rattle.policy.proofs.Rising.{rising}
 
 -- ---- lists that rise
 
 abbrev pub lineIn : SideSizes → Direct → Bool
-lineIn s l = pairFits s (l .senior) (l .junior)
+lineIn s l = directFits s (l .senior) (l .junior)
 
 abbrev pub lineFits : Side → Direct → Bool
 lineFits s = lineIn (sideSizes s)
 
 abbrev pub lineAbove : Direct → Direct → Bool
-lineAbove b l = pairAbove (l .senior) (l .junior) b
+lineAbove b l = directAbove (l .senior) (l .junior) b
 
 abbrev pub numberIn : ℕ → ℕ → Entry → Bool
 numberIn most n e = entryFits most n (e .number) (e .set)
@@ -57,6 +58,17 @@ pub rules-rising : (n : ℕ) (s : Sizes) (b : Option Rule) (rs : List Rule) → 
 unfolding rulesSound rising
 rules-rising n s b [] = refl
 rules-rising n s b (r ∷ rs) = rw (rules-rising n s (some r) rs)
+
+abbrev pub pairIs : Policy → Pair → Bool
+pairIs p = pairFits (actions (p .form)) (sizes p)
+
+abbrev pub pairOver : Pair → Pair → Bool
+pairOver b x = pairAbove x b
+
+pub pairs-rising : (n : ℕ) (s : Sizes) (b : Option Pair) (xs : List Pair) → pairsSound n s b xs ≡ rising (pairFits n s) pairOver b xs
+unfolding pairsSound rising
+pairs-rising n s b [] = refl
+pairs-rising n s b (x ∷ xs) = rw (pairs-rising n s (some x) xs)
 
 -- ---- the parts of a sound side, rule and policy
 
@@ -100,6 +112,8 @@ pub record Parts (p : Policy) : Type 0 where
   pub users : rising (numberFits userNumbers (p .user)) numberAbove none (p .users) ≡ true
   pub objects : rising (numberFits objectNumbers (p .object)) numberAbove none (p .objects) ≡ true
   pub rules : rising (ruleFits p) actionAbove none (p .rules) ≡ true
+  pub few-pairs : length (p .pairs) ≤ mostPairs
+  pub pairs : rising (pairIs p) pairOver none (p .pairs) ≡ true
 
 pub parts : (p : Policy) → listsSound p ≡ true → Parts p
 unfolding listsSound
@@ -107,12 +121,16 @@ parts p e =
     let e₁ = and-right (sideSound (values (p .form)) (p .user)) _ e in
     let e₂ = and-right (sideSound (values (p .form)) (p .object)) _ e₁ in
     let e₃ = and-right (entriesSound userNumbers (total (p .user)) none (p .users)) _ e₂ in
+    let e₄ = and-right (entriesSound objectNumbers (total (p .object)) none (p .objects)) _ e₃ in
+    let e₅ = and-right (rulesSound (actions (p .form)) (sizes p) none (p .rules)) _ e₄ in
     record {
       user = side-parts (values (p .form)) (p .user) (and-left _ _ e);
       object = side-parts (values (p .form)) (p .object) (and-left _ _ e₁);
       users = rw (entries-rising userNumbers (total (p .user)) none (p .users)) at (and-left (entriesSound userNumbers (total (p .user)) none (p .users)) _ e₂);
       objects = rw (entries-rising objectNumbers (total (p .object)) none (p .objects)) at (and-left (entriesSound objectNumbers (total (p .object)) none (p .objects)) _ e₃);
-      rules = rw (rules-rising (actions (p .form)) (sizes p) none (p .rules)) at (and-right (entriesSound objectNumbers (total (p .object)) none (p .objects)) _ e₃);
+      rules = rw (rules-rising (actions (p .form)) (sizes p) none (p .rules)) at (and-left (rulesSound (actions (p .form)) (sizes p) none (p .rules)) _ e₄);
+      few-pairs = leb-true _ _ (and-left (leb (length (p .pairs)) mostPairs) _ e₅);
+      pairs = rw (pairs-rising (actions (p .form)) (sizes p) none (p .pairs)) at (and-right (leb (length (p .pairs)) mostPairs) _ e₅);
     }
 
 pub lists-sound : (p : Policy) → Parts p → listsSound p ≡ true
@@ -127,6 +145,9 @@ lists-sound p t =
       t .objects,
       rules-rising (actions (p .form)) (sizes p) none (p .rules),
       t .rules,
+      le-leb (length (p .pairs)) mostPairs (t .few-pairs),
+      pairs-rising (actions (p .form)) (sizes p) none (p .pairs),
+      t .pairs,
     )
 
 -- and of the policy of an accepted text

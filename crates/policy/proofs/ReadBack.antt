@@ -1,5 +1,5 @@
 -- Lines that are read back: one line that passes its checks, the lines of a kind, and a list that rises.
-use Prim.Native.Nat.{ℕ, suc, _≤_, _<_, min}
+use Prim.Native.Nat.{ℕ, suc, _+_, _≤_, _<_, min}
 use mathlib.Core.Path.{_≡_, refl, sym, _∙_}
 use mathlib.Core.Bool.{Bool, true}
 use mathlib.Core.List.{List, [], _∷_, _++_, map, append-nil}
@@ -9,7 +9,7 @@ use lib.ListN.{length}
 use lib.Seq.{append-snoc}
 use Rattle.basis.specs.Choice.{given}
 use Rattle.basis.specs.Lists.{last}
-use Rattle.basis.proofs.Snoc.{last-snoc}
+use Rattle.basis.proofs.Snoc.{last-snoc, length-snoc}
 use Rattle.text.specs.Parts.{TextLine}
 use Rattle.text.specs.Kind.{placeOf}
 use Rattle.text.specs.declared.kind.Kind.{Kind}
@@ -40,7 +40,7 @@ Leads s ls q = (n : ℕ) → readLines s n (map textLine ls) ≡ Accepted q
 
 -- ---- one line
 
--- a line is read back from its fields and passes checks 6 to 9
+-- a line is read back from its fields and passes checks 6 to 9 and 21
 pub record Good (p : Policy) (l : Line) : Type 0 where
   pub back : Back l
   pub fits : Fits (l .kind) p (l .numbers) (l .words)
@@ -57,6 +57,7 @@ good-passed b p l a g =
       form = g .back .form;
       range = rw (n, w) (f .range);
       rise = rw n (f .rise);
+      room = f .room;
       equal = rw w (f .equal);
       balance = rw w (f .balance);
     }
@@ -92,23 +93,24 @@ module _ {A : Type 0} (k : Kind) (no-policy : placeOf PolicyKind < placeOf k) (n
       → Leads (state b (put [])) (map line xs ++ more) q
   kind-lines b m d o = kind-from xs [] b refl m d o
 
--- a list that rises
-module _ {A : Type 0} (k : Kind) (free : required ≤ placeOf k) (no-end : placeOf k < placeOf End) (line : A → Line) (kinds : (x : A) → line x .kind ≡ k)
+-- a list that rises and has no more than so many elements
+module _ {A : Type 0} (most : ℕ) (k : Kind) (free : required ≤ placeOf k) (no-end : placeOf k < placeOf End) (line : A → Line) (kinds : (x : A) → line x .kind ≡ k)
     (put : List A → Policy) (grow : (done : List A) (x : A) → withLineOf (line x) (put done) ≡ put (done ++ (x ∷ [])))
     (fits : A → Bool) (above : A → A → Bool)
-    (good : (done : List A) (x : A) → fits x ≡ true → given (last done) true (λ y. above y x) ≡ true → Good (put done) (line x)) where
+    (good : (done : List A) (x : A) → length done < most → fits x ≡ true → given (last done) true (λ y. above y x) ≡ true → Good (put done) (line x)) where
   abbrev Rises : List A → List A → Type 0
-  Rises done rest = rising fits above (last done) rest ≡ true
+  Rises done rest = (rising fits above (last done) rest ≡ true) × (length done + length rest ≤ most)
 
   rises-good : (done : List A) (x : A) (rest : List A) → Rises done (x ∷ rest) → Good (put done) (line x)
-  rises-good done x rest e = let h = head fits above (last done) x rest e in good done x (h .fits-it) (h .above-it)
+  rises-good done x rest e = let h = head fits above (last done) x rest (e .0) in good done x (omega (arith, e .1)) (h .fits-it) (h .above-it)
 
   rises-next : (done : List A) (x : A) (rest : List A) → Rises done (x ∷ rest) → Rises (done ++ (x ∷ [])) rest
-  rises-next done x rest e = rw (last-snoc done x) (head fits above (last done) x rest e .rest)
+  rises-next done x rest e =
+      (rw (last-snoc done x) (head fits above (last done) x rest (e .0) .rest), omega (arith, e .1, length-snoc done x))
 
-  pub rising-lines : (xs : List A) → rising fits above none xs ≡ true → (more : List Line) (q : Policy)
+  pub rising-lines : (xs : List A) → rising fits above none xs ≡ true → length xs ≤ most → (more : List Line) (q : Policy)
       → ((b : Option Kind) → May (reached b) (suc (placeOf k)) → Leads (state b (put xs)) more q)
       → (b : Option Kind) → May (reached b) (placeOf k) → Leads (state b (put [])) (map line xs ++ more) q
   unfolding last
-  rising-lines xs e more q then b m =
-      kind-lines k (omega arith) no-end line kinds put grow Rises rises-good rises-next xs more q then b m (λ h. omega (arith, m .low)) e
+  rising-lines xs e l more q then b m =
+      kind-lines k (omega arith) no-end line kinds put grow Rises rises-good rises-next xs more q then b m (λ h. omega (arith, m .low)) (e, omega arith)

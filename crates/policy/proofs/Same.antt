@@ -19,13 +19,16 @@ use Rattle.words.specs.declared.Word.{Word}
 use Rattle.words.specs.declared.Word.the-variants.{True, False, Holds, Compares, Not, And, Or}
 use Rattle.words.specs.declared.Holding.the-variants.{User as UserValue, Object as ObjectValue}
 use Rattle.words.specs.declared.Comparison.the-variants.{Dominates, Equals}
+use Rattle.policy.specs.Policy.{pair}
 use Rattle.policy.specs.Value.{slot}
-use Rattle.policy.specs.Valid.{sameLine, sameEntry, sameSlot, sameSide, sameRegister, sameRule, sameRules, sameValue}
+use Rattle.policy.specs.Valid.{sameLine, sameEntry, samePair, sameSlot, sameSide, sameRegister, sameRule, sameRules, samePairs, sameValue}
 use Rattle.policy.specs.declared.value.Entry.{Entry}
 use Rattle.policy.specs.declared.value.SideValue.{SideValue}
 use Rattle.policy.specs.declared.value.Register.{Register}
 use Rattle.policy.specs.declared.value.RuleValue.{RuleValue}
 use Rattle.policy.specs.declared.value.Rules.{Rules}
+use Rattle.policy.specs.declared.value.Pair.{Pair}
+use Rattle.policy.specs.declared.value.Pairs.{Pairs}
 use Rattle.policy.specs.declared.value.PolicyValue.{PolicyValue}
 
 -- a test passes exactly for equal things
@@ -123,15 +126,28 @@ exact-rules =
     made (λ t. record { count = t .0; entries = t .1 }) (λ x. refl)
     (both (part (λ (x : Rules). x .count) exact-number) (part (λ (x : Rules). x .entries) (exact-list sameRule exact-rule)))
 
+pub exact-pair : Exact samePair
+exact-pair =
+    made (λ t. pair (t .0) (t .1 .0) (t .1 .1)) (λ x. refl)
+    (both (part (λ (x : Pair). x .action) exact-number)
+    (both (part (λ (x : Pair). x .user) exact-number) (part (λ (x : Pair). x .object) exact-number)))
+
+pub exact-pairs : Exact samePairs
+unfolding samePairs
+exact-pairs =
+    made (λ t. record { count = t .0; entries = t .1 }) (λ x. refl)
+    (both (part (λ (x : Pairs). x .count) exact-number) (part (λ (x : Pairs). x .entries) (exact-list samePair exact-pair)))
+
 pub exact-value : Exact sameValue
 unfolding sameValue
 exact-value =
-    made (λ t. record { form = t .0; user = t .1 .0; object = t .1 .1 .0; users = t .1 .1 .1 .0; objects = t .1 .1 .1 .1 .0; rules = t .1 .1 .1 .1 .1 }) (λ x. refl)
+    made (λ t. record { form = t .0; user = t .1 .0; object = t .1 .1 .0; users = t .1 .1 .1 .0; objects = t .1 .1 .1 .1 .0; rules = t .1 .1 .1 .1 .1 .0; pairs = t .1 .1 .1 .1 .1 .1 }) (λ x. refl)
     (both (part (λ (x : PolicyValue). x .form) exact-number)
     (both (part (λ (x : PolicyValue). x .user) exact-side)
     (both (part (λ (x : PolicyValue). x .object) exact-side)
     (both (part (λ (x : PolicyValue). x .users) exact-register)
-    (both (part (λ (x : PolicyValue). x .objects) exact-register) (part (λ (x : PolicyValue). x .rules) exact-rules))))))
+    (both (part (λ (x : PolicyValue). x .objects) exact-register)
+    (both (part (λ (x : PolicyValue). x .rules) exact-rules) (part (λ (x : PolicyValue). x .pairs) exact-pairs)))))))
 
 pub same-value : (x y : PolicyValue) → (sameValue x y ≡ true) ↔ (x ≡ y)
 same-value x y = (exact-value .equal x y, λ e. rw e (exact-value .self y))

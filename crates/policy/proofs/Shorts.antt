@@ -9,13 +9,14 @@ use Rattle.seniority.specs.declared.Direct.{Direct}
 use Rattle.text.specs.Number.{mostDigits}
 use Rattle.text.specs.declared.number.Numbers.{Numbers}
 use Rattle.policy.specs.Limits.{values, actions, objectNumbers}
-use Rattle.policy.specs.Policy.{Side}
-use Rattle.policy.specs.Checks.{sideSizes}
-use Rattle.policy.specs.Line.{noNumbers, oneNumber, twoNumbers}
+use Rattle.policy.specs.Policy.{Side, Policy}
+use Rattle.policy.specs.Checks.{sideSizes, sizes}
+use Rattle.policy.specs.Line.{noNumbers, oneNumber, twoNumbers, threeNumbers}
 use Rattle.policy.specs.declared.value.Entry.{Entry}
+use Rattle.policy.specs.declared.value.Pair.{Pair}
 use Rattle.policy.proofs.Forms.{values-most, actions-most}
-use Rattle.policy.proofs.Parts.{lineFits, numberFits, SideParts}
-use Rattle.policy.proofs.Bounds.{pair-fits, entry-fits, total-few}
+use Rattle.policy.proofs.Parts.{lineFits, numberFits, pairIs, SideParts, Parts}
+use Rattle.policy.proofs.Bounds.{direct-fits, entry-fits, pair-fits, total-few}
 
 abbrev pub Short : ℕ → Type 0
 Short n = n < 10 ^ mostDigits
@@ -42,9 +43,9 @@ module _ (form : ℕ) where
   action-short a h = one-short a (omega (arith, actions-most form))
 
   module _ (s : Side) (h : SideParts (values form) s) where
-    pub pair-short : (l : Direct) → lineFits s l ≡ true → Shorts (twoNumbers (l .senior) (l .junior))
-    pair-short l f =
-        let b = pair-fits (sideSizes s) (l .senior) (l .junior) f in
+    pub direct-short : (l : Direct) → lineFits s l ≡ true → Shorts (twoNumbers (l .senior) (l .junior))
+    direct-short l f =
+        let b = direct-fits (sideSizes s) (l .senior) (l .junior) f in
         let m = total-few form s h in
         two-short (l .senior) (l .junior) (omega (arith, b .value)) (omega (arith, b .value, b .above))
 
@@ -53,3 +54,12 @@ module _ (form : ℕ) where
         let b = entry-fits most s e f in
         let m = pow-mono (total-few form s h) in
         two-short (e .number) (e .set) (omega (arith, b .0)) (omega (arith, b .1))
+
+pub pair-short : (p : Policy) → Parts p → (x : Pair) → pairIs p x ≡ true → Shorts (threeNumbers (x .action) (x .user) (x .object))
+pair-short p t x f =
+    let b = pair-fits (actions (p .form)) (sizes p) x f in
+    record {
+      first = omega (arith, b .action, actions-most (p .form));
+      second = omega (arith, b .user, total-few (p .form) (p .user) (t .user));
+      third = omega (arith, b .object, total-few (p .form) (p .object) (t .object));
+    }

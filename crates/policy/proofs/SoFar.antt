@@ -13,12 +13,13 @@ use Rattle.seniority.specs.declared.Direct.{Direct}
 use Rattle.text.specs.Parts.{lines}
 use Rattle.text.specs.Kind.{placeOf, isKind}
 use Rattle.text.specs.declared.kind.Kind.{Kind}
-use Rattle.text.specs.declared.kind.Kind.the-variants.{Policy as PolicyKind, Uattr, Oattr, Usen, Osen, User, Object, Rule as RuleKind, End}
+use Rattle.text.specs.declared.kind.Kind.the-variants.{Policy as PolicyKind, Uattr, Oattr, Usen, Osen, User, Object, Rule as RuleKind, Pair as PairKind, End}
 use Rattle.policy.specs.Policy.{Rule, Policy}
-use Rattle.policy.specs.Line.{Line, allowed, noNumbers, oneNumber, twoNumbers, numbersOf, wordsOf, plain, ruleLine, lineOf}
-use Rattle.policy.specs.Checks.{extended, withLineOf}
+use Rattle.policy.specs.Line.{Line, allowed, noNumbers, oneNumber, twoNumbers, threeNumbers, numbersOf, wordsOf, plain, ruleLine, lineOf}
+use Rattle.policy.specs.Checks.{pairIn, extended, withLineOf}
 use Rattle.policy.specs.Text.{flat, linesOf}
 use Rattle.policy.specs.declared.value.Entry.{Entry}
+use Rattle.policy.specs.declared.value.Pair.{Pair}
 use Rattle.policy.proofs.Order.{reached, allowed-order, cut}
 use Rattle.policy.proofs.Groups.{flat-more, groups, openLines, linesFrom, lines-open}
 
@@ -60,6 +61,8 @@ open-more Object fs p h g =
     group-more Object p (λ (e : Entry). plain Object (twoNumbers (e .number) (e .set))) (p .objects) (record { number = lineOf Object fs .numbers .first; set = lineOf Object fs .numbers .second }) refl
 open-more RuleKind fs p h g =
     group-more RuleKind p (λ (r : Rule). ruleLine (r .action) (r .words)) (p .rules) (record { action = lineOf RuleKind fs .numbers .first; words = lineOf RuleKind fs .words }) refl
+open-more PairKind fs p h g =
+    group-more PairKind p (λ (x : Pair). plain PairKind (threeNumbers (x .action) (x .user) (x .object))) (p .pairs) (pairIn (lineOf PairKind fs .numbers)) refl
 open-more End fs p h g = absurd (omega arith)
 
 module _ (fs : List (List ℕ)) (b : Option Kind) (p : Policy) where
@@ -102,4 +105,5 @@ so-far-more Osen fs b p = mid-more fs b p Osen (lit< tt) (lit< tt)
 so-far-more User fs b p = mid-more fs b p User (lit< tt) (lit< tt)
 so-far-more Object fs b p = mid-more fs b p Object (lit< tt) (lit< tt)
 so-far-more RuleKind fs b p = mid-more fs b p RuleKind (lit< tt) (lit< tt)
+so-far-more PairKind fs b p = mid-more fs b p PairKind (lit< tt) (lit< tt)
 so-far-more End fs b p = end-more fs b p

@@ -1,4 +1,4 @@
--- A line against the lines before it: refusals 6 to 9, and what the line adds.
+-- A line against the lines before it: refusals 6 to 9 and 21, and what the line adds.
 use Prim.Native.Nat.{ℕ, _+_, _-_, _^_}
 use mathlib.Core.Bool.{Bool, true, _&&_, _||_}
 use mathlib.Core.List.{List, [], _∷_, _++_}
@@ -6,11 +6,12 @@ use lib.Dec.{eqb, leb, ltb}
 use lib.ListN.{length, getD}
 use Rattle.basis.specs.Choice.{given}
 use Rattle.basis.specs.Lists.{all, last}
+use Rattle.basis.specs.Numbers.{implies}
 use Rattle.seniority.specs.Seniority.{direct}
 use Rattle.seniority.specs.declared.Direct.{Direct}
-use Rattle.text.specs.Kind.{layoutOf}
+use Rattle.text.specs.Kind.{layoutOf, isKind}
 use Rattle.text.specs.declared.kind.Kind.{Kind}
-use Rattle.text.specs.declared.kind.Kind.the-variants.{Policy as PolicyKind, Uattr, Oattr, Usen, Osen, User, Object, Rule as RuleKind, End}
+use Rattle.text.specs.declared.kind.Kind.the-variants.{Policy as PolicyKind, Uattr, Oattr, Usen, Osen, User, Object, Rule as RuleKind, Pair as PairKind, End}
 use Rattle.text.specs.declared.kind.Layout.{Layout}
 use Rattle.text.specs.declared.kind.Layout.the-variants.{Bare, One, Two, Three, Formula}
 use Rattle.text.specs.declared.number.Numbers.{Numbers}
@@ -18,10 +19,11 @@ use Rattle.words.specs.declared.Word.{Word}
 use Rattle.words.specs.declared.Word.the-variants.{True, False, Holds, Compares, Not, And, Or}
 use Rattle.words.specs.declared.Holding.the-variants.{User as UserValue, Object as ObjectValue}
 use Rattle.words.specs.declared.Comparison.the-variants.{Dominates, Equals}
-use Rattle.policy.specs.Limits.{isForm, values, actions, userNumbers, objectNumbers}
-use Rattle.policy.specs.Policy.{Side, Rule, Policy, total, attributeOf}
+use Rattle.policy.specs.Limits.{isForm, values, actions, userNumbers, objectNumbers, mostPairs}
+use Rattle.policy.specs.Policy.{Side, Rule, Policy, pair, total, attributeOf}
 use Rattle.policy.specs.Line.{Line}
 use Rattle.policy.specs.declared.value.Entry.{Entry}
+use Rattle.policy.specs.declared.value.Pair.{Pair}
 
 -- ---- what the ranges and the comparisons of a line go by
 
@@ -50,14 +52,18 @@ unfoldable pub widthFits : ℕ → ℕ → ℕ → Bool
 widthFits most u w = leb 1 w && (leb w most && leb (u + w) most)
 
 -- "user value V is directly senior to J; same attribute, V above J"
-unfoldable pub pairFits : SideSizes → ℕ → ℕ → Bool
-pairFits s v j =
+unfoldable pub directFits : SideSizes → ℕ → ℕ → Bool
+directFits s v j =
     ltb v (s .values)
     && (ltb j (s .values) && (eqb (attributeOf (s .widths) v) (attributeOf (s .widths) j) && ltb j v))
 
 -- "user N, 0 to 31, is assigned set S; S is below 2^U"
 unfoldable pub entryFits : ℕ → ℕ → ℕ → ℕ → Bool
 entryFits most u n set = ltb n most && ltb set (2 ^ u)
+
+-- "with the ranges of user and object values": action A of n, user value V, object value W
+unfoldable pub pairFits : ℕ → Sizes → Pair → Bool
+pairFits n s x = ltb (x .action) n && (ltb (x .user) (s .user .values) && ltb (x .object) (s .object .values))
 
 -- both attributes are there
 abbrev pub bothThere : Sizes → ℕ → ℕ → Bool
@@ -75,26 +81,31 @@ wordFits s Not = true
 wordFits s And = true
 wordFits s Or = true
 
+-- the pair that the numbers of its line say
+abbrev pub pairIn : Numbers → Pair
+pairIn n = pair (n .first) (n .second) (n .third)
+
 -- of a line of a text of this form
 unfoldable pub inRange : Kind → ℕ → Sizes → Numbers → List Word → Bool
 inRange PolicyKind form s n ws = isForm (n .first)
 inRange Uattr form s n ws = widthFits (values form) (s .user .values) (n .first)
 inRange Oattr form s n ws = widthFits (values form) (s .object .values) (n .first)
-inRange Usen form s n ws = pairFits (s .user) (n .first) (n .second)
-inRange Osen form s n ws = pairFits (s .object) (n .first) (n .second)
+inRange Usen form s n ws = directFits (s .user) (n .first) (n .second)
+inRange Osen form s n ws = directFits (s .object) (n .first) (n .second)
 inRange User form s n ws = entryFits userNumbers (s .user .values) (n .first) (n .second)
 inRange Object form s n ws = entryFits objectNumbers (s .object .values) (n .first) (n .second)
 inRange RuleKind form s n ws = ltb (n .first) (actions form) && all (wordFits s) ws
+inRange PairKind form s n ws = pairFits (actions form) s (pairIn n)
 inRange End form s n ws = true
 
 -- ---- 7: "The line does not rise above the last of its kind."
 
 -- "the pairs rise strictly (V first, then J)"
-abbrev pub pairAbove : ℕ → ℕ → Direct → Bool
-pairAbove v j l = ltb (l .senior) v || (eqb (l .senior) v && ltb (l .junior) j)
+abbrev pub directAbove : ℕ → ℕ → Direct → Bool
+directAbove v j l = ltb (l .senior) v || (eqb (l .senior) v && ltb (l .junior) j)
 
-unfoldable pub pairRises : Side → ℕ → ℕ → Bool
-pairRises s v j = given (last (s .lines)) true (pairAbove v j)
+unfoldable pub directRises : Side → ℕ → ℕ → Bool
+directRises s v j = given (last (s .lines)) true (directAbove v j)
 
 -- "within user, object and rule the first number does"
 unfoldable pub entryRises : List Entry → ℕ → Bool
@@ -103,16 +114,32 @@ entryRises es n = given (last es) true (λ e. ltb (e .number) n)
 unfoldable pub ruleRises : List Rule → ℕ → Bool
 ruleRises rs a = given (last rs) true (λ r. ltb (r .action) a)
 
+-- "rising by A, V, W"
+abbrev pub pairAbove : Pair → Pair → Bool
+pairAbove x b =
+    ltb (b .action) (x .action)
+    || (eqb (b .action) (x .action) && (ltb (b .user) (x .user) || (eqb (b .user) (x .user) && ltb (b .object) (x .object))))
+
+unfoldable pub pairRises : List Pair → Pair → Bool
+pairRises xs x = given (last xs) true (pairAbove x)
+
 unfoldable pub rises : Kind → Policy → Numbers → Bool
 rises PolicyKind p n = true
 rises Uattr p n = true
 rises Oattr p n = true
-rises Usen p n = pairRises (p .user) (n .first) (n .second)
-rises Osen p n = pairRises (p .object) (n .first) (n .second)
+rises Usen p n = directRises (p .user) (n .first) (n .second)
+rises Osen p n = directRises (p .object) (n .first) (n .second)
 rises User p n = entryRises (p .users) (n .first)
 rises Object p n = entryRises (p .objects) (n .first)
 rises RuleKind p n = ruleRises (p .rules) (n .first)
+rises PairKind p n = pairRises (p .pairs) (pairIn n)
 rises End p n = true
+
+-- ---- 21: "a pair line is past the 64th"
+
+-- before a pair line stand fewer than 64
+abbrev pub pairRoom : Kind → Policy → Bool
+pairRoom k p = implies (isKind PairKind k) (ltb (length (p .pairs)) mostPairs)
 
 -- ---- 8: "A comparison names attributes of unequal width."
 
@@ -166,22 +193,26 @@ abbrev pub withEntry : ℕ → ℕ → List Entry → List Entry
 withEntry n s es = es ++ (record { number = n; set = s } ∷ [])
 
 abbrev pub withUser : Side → Policy → Policy
-withUser s p = record { form = p .form; user = s; object = p .object; users = p .users; objects = p .objects; rules = p .rules }
+withUser s p = record { form = p .form; user = s; object = p .object; users = p .users; objects = p .objects; rules = p .rules; pairs = p .pairs }
 
 abbrev pub withObject : Side → Policy → Policy
-withObject s p = record { form = p .form; user = p .user; object = s; users = p .users; objects = p .objects; rules = p .rules }
+withObject s p = record { form = p .form; user = p .user; object = s; users = p .users; objects = p .objects; rules = p .rules; pairs = p .pairs }
 
 abbrev pub withUsers : List Entry → Policy → Policy
-withUsers es p = record { form = p .form; user = p .user; object = p .object; users = es; objects = p .objects; rules = p .rules }
+withUsers es p = record { form = p .form; user = p .user; object = p .object; users = es; objects = p .objects; rules = p .rules; pairs = p .pairs }
 
 abbrev pub withObjects : List Entry → Policy → Policy
-withObjects es p = record { form = p .form; user = p .user; object = p .object; users = p .users; objects = es; rules = p .rules }
+withObjects es p = record { form = p .form; user = p .user; object = p .object; users = p .users; objects = es; rules = p .rules; pairs = p .pairs }
 
 abbrev pub withRules : List Rule → Policy → Policy
-withRules rs p = record { form = p .form; user = p .user; object = p .object; users = p .users; objects = p .objects; rules = rs }
+withRules rs p = record { form = p .form; user = p .user; object = p .object; users = p .users; objects = p .objects; rules = rs; pairs = p .pairs }
+
+abbrev pub withPairs : List Pair → Policy → Policy
+withPairs xs p =
+    record { form = p .form; user = p .user; object = p .object; users = p .users; objects = p .objects; rules = p .rules; pairs = xs }
 
 abbrev pub withForm : ℕ → Policy → Policy
-withForm n p = record { form = n; user = p .user; object = p .object; users = p .users; objects = p .objects; rules = p .rules }
+withForm n p = record { form = n; user = p .user; object = p .object; users = p .users; objects = p .objects; rules = p .rules; pairs = p .pairs }
 
 unfoldable pub extended : Kind → Numbers → List Word → Policy → Policy
 extended PolicyKind n ws p = withForm (n .first) p
@@ -192,6 +223,7 @@ extended Osen n ws p = withObject (withLine (n .first) (n .second) (p .object)) 
 extended User n ws p = withUsers (withEntry (n .first) (n .second) (p .users)) p
 extended Object n ws p = withObjects (withEntry (n .first) (n .second) (p .objects)) p
 extended RuleKind n ws p = withRules (p .rules ++ (record { action = n .first; words = ws } ∷ [])) p
+extended PairKind n ws p = withPairs (p .pairs ++ (pairIn n ∷ [])) p
 extended End n ws p = p
 
 -- ---- of a whole line
@@ -201,6 +233,9 @@ lineInRange p l = inRange (l .kind) (p .form) (sizes p) (l .numbers) (l .words)
 
 abbrev pub lineRises : Policy → Line → Bool
 lineRises p l = rises (l .kind) p (l .numbers)
+
+abbrev pub lineHasRoom : Policy → Line → Bool
+lineHasRoom p l = pairRoom (l .kind) p
 
 abbrev pub lineWidthsEqual : Policy → Line → Bool
 lineWidthsEqual p l = all (widthsEqual (sizes p)) (l .words)

@@ -46,15 +46,19 @@ sessionNumbers = 32
 abbrev pub mostWords : ℕ
 mostWords = 32
 
+-- 21: "a pair line is past the 64th"
+abbrev pub mostPairs : ℕ
+mostPairs = 64
+
 -- ---- what follows
 
 -- the sets of a side
 abbrev pub mostSets : ℕ
 mostSets = 2 ^ mostValues
 
--- the pairs of a user set and an object set
-abbrev pub mostPairs : ℕ
-mostPairs = mostSets * mostSets
+-- the tuples that an action may have: one for each user set and object set
+abbrev pub mostTuples : ℕ
+mostTuples = mostSets * mostSets
 
 -- the seniority lines of a side: one for each two values
 abbrev pub mostLines : ℕ

@@ -9,6 +9,7 @@ use Rattle.basis.specs.Lists.{sum}
 use Rattle.seniority.specs.declared.Direct.{Direct}
 use Rattle.words.specs.declared.Word.{Word}
 use Rattle.policy.specs.declared.value.Entry.{Entry}
+use Rattle.policy.specs.declared.value.Pair.{Pair}
 
 -- users or objects: the widths of the attributes, and the direct seniorities
 pub record Side : Type 0 where
@@ -19,6 +20,9 @@ pub record Rule : Type 0 where
   pub action : ℕ
   pub words : List Word
 
+abbrev pub pair : ℕ → ℕ → ℕ → Pair
+pair a v w = record { action = a; user = v; object = w }
+
 pub record Policy : Type 0 where
   pub form : ℕ
   pub user : Side
@@ -26,13 +30,14 @@ pub record Policy : Type 0 where
   pub users : List Entry
   pub objects : List Entry
   pub rules : List Rule
+  pub pairs : List Pair
 
 abbrev pub blankSide : Side
 blankSide = record { widths = []; lines = [] }
 
 -- before the first line
 unfoldable pub blank : Policy
-blank = record { form = 0; user = blankSide; object = blankSide; users = []; objects = []; rules = [] }
+blank = record { form = 0; user = blankSide; object = blankSide; users = []; objects = []; rules = []; pairs = [] }
 
 -- U of the user side, O of the object side: "values are numbered from 0 through all attributes"
 unfoldable pub total : Side → ℕ

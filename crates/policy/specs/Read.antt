@@ -1,11 +1,11 @@
--- Reading a text: "The first faulty line decides, and in it the lowest number."
+-- Reading a text: "The first faulty line decides", and in it the first number in the order of testing.
 use Prim.Native.Nat.{ℕ, suc}
 use mathlib.Core.Bool.{Bool, true, false, cond, not}
 use mathlib.Core.List.{List, [], _∷_}
 use mathlib.Core.Option.{Option, none, some}
 use lib.Dec.{ltb}
 use lib.ListN.{length}
-use Rattle.basis.specs.Choice.{given, Check, check, lowest}
+use Rattle.basis.specs.Choice.{given, Check, check, firstBroken}
 use Rattle.text.specs.Parts.{TextLine, fields, lines}
 use Rattle.text.specs.Kind.{named, layoutOf, isKind}
 use Rattle.text.specs.declared.kind.Kind.{Kind}
@@ -15,7 +15,7 @@ use Rattle.text.specs.declared.kind.Named.the-variants.{Is, Unknown}
 use Rattle.policy.specs.Limits.{textBytes}
 use Rattle.policy.specs.Policy.{Policy, blank}
 use Rattle.policy.specs.Line.{allowed, countFits, formFits, fieldAt, lineOf}
-use Rattle.policy.specs.Checks.{lineInRange, lineRises, lineWidthsEqual, lineBalances, withLineOf}
+use Rattle.policy.specs.Checks.{lineInRange, lineRises, lineHasRoom, lineWidthsEqual, lineBalances, withLineOf}
 
 -- a text is accepted, and yields a policy, or it is refused with a number at a line
 pub data Outcome : Type 0 where
@@ -26,7 +26,8 @@ pub data Outcome : Type 0 where
 abbrev pub kindOf : List ℕ → Named
 kindOf l = named (fieldAt (fields l) 0)
 
--- the checks of a line of a known kind, after the line before it and the policy of all lines before it
+-- the checks of a line of a known kind, after the line before it and the policy of all lines before it, in the order of
+-- testing: 21 stands "between 7 and 8"
 unfoldable pub checksOf : Option Kind → Policy → Bool → Kind → List (List ℕ) → List Check
 checksOf before p ended k fs =
     check 2 (not ended)
@@ -35,6 +36,7 @@ checksOf before p ended k fs =
     ∷ check 5 (not (formFits (layoutOf k) fs))
     ∷ check 6 (not (lineInRange p (lineOf k fs)))
     ∷ check 7 (not (lineRises p (lineOf k fs)))
+    ∷ check 21 (not (lineHasRoom p (lineOf k fs)))
     ∷ check 8 (not (lineWidthsEqual p (lineOf k fs)))
     ∷ check 9 (not (lineBalances (lineOf k fs)))
     ∷ []
@@ -46,7 +48,7 @@ checksFor before p ended (Is k) fs = checksOf before p ended k fs
 
 -- its refusal, or none
 unfoldable pub refusalOf : Option Kind → Policy → Bool → Named → List (List ℕ) → Option ℕ
-refusalOf before p ended k fs = lowest (checksFor before p ended k fs)
+refusalOf before p ended k fs = firstBroken (checksFor before p ended k fs)
 
 -- what the lines before a line leave: the kind of the last one, and the policy of them all
 pub record State : Type 0 where
@@ -79,6 +81,6 @@ unfoldable pub readLines : State → ℕ → List TextLine → Outcome
 readLines s n [] = ending s n
 readLines s n (l ∷ ls) = given (lineRefusal s l) (readLines (lineAfter s l) (suc n) ls) (λ r. Refused r n)
 
--- "The reader accepts every text that breaks none of 1 to 10"
+-- "The reader accepts every text that breaks none of 1 to 10", nor 21
 unfoldable pub readText : List ℕ → Outcome
 readText t = cond (ltb textBytes (length t)) (Refused 1 0) (readLines start 0 (lines t))

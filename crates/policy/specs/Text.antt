@@ -6,22 +6,23 @@ use Rattle.text.specs.Number.{decimal}
 use Rattle.text.specs.Parts.{join, comma, textOf as linesText}
 use Rattle.text.specs.Kind.{wordOf, layoutOf}
 use Rattle.text.specs.declared.kind.Kind.{Kind}
-use Rattle.text.specs.declared.kind.Kind.the-variants.{Policy as PolicyKind, Uattr, Oattr, Usen, Osen, User, Object, End}
+use Rattle.text.specs.declared.kind.Kind.the-variants.{Policy as PolicyKind, Uattr, Oattr, Usen, Osen, User, Object, Pair as PairKind, End}
 use Rattle.text.specs.declared.kind.Layout.{Layout}
 use Rattle.text.specs.declared.kind.Layout.the-variants.{Bare, One, Two, Three, Formula}
 use Rattle.text.specs.declared.number.Numbers.{Numbers}
 use Rattle.words.specs.Word.{written}
 use Rattle.words.specs.declared.Word.{Word}
 use Rattle.policy.specs.Policy.{Side, Rule, Policy}
-use Rattle.policy.specs.Line.{Line, noNumbers, oneNumber, twoNumbers, plain, ruleLine}
+use Rattle.policy.specs.Line.{Line, noNumbers, oneNumber, twoNumbers, threeNumbers, plain, ruleLine}
 use Rattle.policy.specs.declared.value.Entry.{Entry}
+use Rattle.policy.specs.declared.value.Pair.{Pair}
 
 -- the lines of a policy
 abbrev pub widthLines : Kind → Side → List Line
 widthLines k s = map (λ w. plain k (oneNumber w)) (s .widths)
 
-abbrev pub pairLines : Kind → Side → List Line
-pairLines k s = map (λ (l : Direct). plain k (twoNumbers (l .senior) (l .junior))) (s .lines)
+abbrev pub directLines : Kind → Side → List Line
+directLines k s = map (λ (l : Direct). plain k (twoNumbers (l .senior) (l .junior))) (s .lines)
 
 abbrev pub entryLines : Kind → List Entry → List Line
 entryLines k es = map (λ (e : Entry). plain k (twoNumbers (e .number) (e .set))) es
@@ -29,17 +30,21 @@ entryLines k es = map (λ (e : Entry). plain k (twoNumbers (e .number) (e .set))
 abbrev pub ruleLines : List Rule → List Line
 ruleLines rs = map (λ (r : Rule). ruleLine (r .action) (r .words)) rs
 
+abbrev pub pairLines : List Pair → List Line
+pairLines xs = map (λ (x : Pair). plain PairKind (threeNumbers (x .action) (x .user) (x .object))) xs
+
 -- those of each kind, in the order of the kinds
 abbrev pub linesByKind : Policy → List (List Line)
 linesByKind p =
     (plain PolicyKind (oneNumber (p .form)) ∷ [])
     ∷ widthLines Uattr (p .user)
     ∷ widthLines Oattr (p .object)
-    ∷ pairLines Usen (p .user)
-    ∷ pairLines Osen (p .object)
+    ∷ directLines Usen (p .user)
+    ∷ directLines Osen (p .object)
     ∷ entryLines User (p .users)
     ∷ entryLines Object (p .objects)
     ∷ ruleLines (p .rules)
+    ∷ pairLines (p .pairs)
     ∷ (plain End noNumbers ∷ [])
     ∷ []
 

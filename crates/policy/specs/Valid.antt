@@ -17,6 +17,8 @@ use Rattle.policy.specs.declared.value.SideValue.{SideValue}
 use Rattle.policy.specs.declared.value.Register.{Register}
 use Rattle.policy.specs.declared.value.RuleValue.{RuleValue}
 use Rattle.policy.specs.declared.value.Rules.{Rules}
+use Rattle.policy.specs.declared.value.Pair.{Pair}
+use Rattle.policy.specs.declared.value.Pairs.{Pairs}
 use Rattle.policy.specs.declared.value.PolicyValue.{PolicyValue}
 
 -- 11: "A policy value handed in is not what reading some accepted text yields"
@@ -31,6 +33,9 @@ sameLine x y = eqb (x .senior) (y .senior) && eqb (x .junior) (y .junior)
 
 abbrev pub sameEntry : Entry → Entry → Bool
 sameEntry x y = eqb (x .number) (y .number) && eqb (x .set) (y .set)
+
+abbrev pub samePair : Pair → Pair → Bool
+samePair x y = eqb (x .action) (y .action) && (eqb (x .user) (y .user) && eqb (x .object) (y .object))
 
 -- two words are the same where they are written alike
 abbrev pub sameSlot : Slot → Slot → Bool
@@ -50,12 +55,15 @@ sameRule x y = eqb (x .action) (y .action) && (eqb (x .count) (y .count) && same
 unfoldable pub sameRules : Rules → Rules → Bool
 sameRules x y = eqb (x .count) (y .count) && same sameRule (x .entries) (y .entries)
 
+unfoldable pub samePairs : Pairs → Pairs → Bool
+samePairs x y = eqb (x .count) (y .count) && same samePair (x .entries) (y .entries)
+
 unfoldable pub sameValue : PolicyValue → PolicyValue → Bool
 sameValue x y =
     eqb (x .form) (y .form)
     && (sameSide (x .user) (y .user)
     && (sameSide (x .object) (y .object)
-    && (sameRegister (x .users) (y .users) && (sameRegister (x .objects) (y .objects) && sameRules (x .rules) (y .rules)))))
+    && (sameRegister (x .users) (y .users) && (sameRegister (x .objects) (y .objects) && (sameRules (x .rules) (y .rules) && samePairs (x .pairs) (y .pairs))))))
 
 -- ---- a test of check 11
 

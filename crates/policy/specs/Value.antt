@@ -6,14 +6,16 @@ use Rattle.basis.specs.Lists.{padded}
 use Rattle.seniority.specs.Seniority.{direct}
 use Rattle.words.specs.declared.Word.{Word}
 use Rattle.words.specs.declared.Word.the-variants.{True}
-use Rattle.policy.specs.Limits.{mostValues, mostActions, objectNumbers, mostWords, mostLines}
-use Rattle.policy.specs.Policy.{Side, Rule, Policy}
+use Rattle.policy.specs.Limits.{mostValues, mostActions, objectNumbers, mostWords, mostLines, mostPairs}
+use Rattle.policy.specs.Policy.{Side, Rule, Policy, pair}
 use Rattle.policy.specs.declared.value.Entry.{Entry}
 use Rattle.policy.specs.declared.value.Slot.{Slot}
 use Rattle.policy.specs.declared.value.SideValue.{SideValue}
 use Rattle.policy.specs.declared.value.Register.{Register}
 use Rattle.policy.specs.declared.value.RuleValue.{RuleValue}
 use Rattle.policy.specs.declared.value.Rules.{Rules}
+use Rattle.policy.specs.declared.value.Pair.{Pair}
+use Rattle.policy.specs.declared.value.Pairs.{Pairs}
 use Rattle.policy.specs.declared.value.PolicyValue.{PolicyValue}
 
 -- the places of each array
@@ -31,6 +33,9 @@ wordPlaces = mostWords
 
 abbrev pub rulePlaces : ℕ
 rulePlaces = mostActions
+
+abbrev pub pairPlaces : ℕ
+pairPlaces = mostPairs
 
 abbrev pub slot : Word → Slot
 slot w = record { word = w }
@@ -61,6 +66,9 @@ ruleValue r = record { action = r .action; count = length (r .words); words = pa
 unfoldable pub rulesValue : List Rule → Rules
 rulesValue rs = record { count = length rs; entries = padded rulePlaces noRule (map ruleValue rs) }
 
+unfoldable pub pairsValue : List Pair → Pairs
+pairsValue xs = record { count = length xs; entries = padded pairPlaces (pair 0 0 0) xs }
+
 unfoldable pub valueOf : Policy → PolicyValue
 valueOf p =
     record {
@@ -70,6 +78,7 @@ valueOf p =
       users = register (p .users);
       objects = register (p .objects);
       rules = rulesValue (p .rules);
+      pairs = pairsValue (p .pairs);
     }
 
 -- ---- and back: the places before each count
@@ -90,6 +99,9 @@ ruleOf r = record { action = r .action; words = wordsIn (r .count) (r .words) }
 unfoldable pub rulesOf : Rules → List Rule
 rulesOf r = map ruleOf (take (r .count) (r .entries))
 
+unfoldable pub pairsOf : Pairs → List Pair
+pairsOf x = take (x .count) (x .entries)
+
 unfoldable pub policyOf : PolicyValue → Policy
 policyOf v =
     record {
@@ -99,4 +111,5 @@ policyOf v =
       users = entriesOf (v .users);
       objects = entriesOf (v .objects);
       rules = rulesOf (v .rules);
+      pairs = pairsOf (v .pairs);
     }

@@ -4,7 +4,7 @@ use mathlib.Core.Bool.{not}
 use mathlib.Core.List.{List, [], _∷_}
 use lib.Dec.{ltb}
 use lib.ListN.{length}
-use Rattle.basis.specs.Choice.{Result, Check, check, given, lowest, unlessRefused}
+use Rattle.basis.specs.Choice.{Result, Check, check, given, firstBroken, unlessRefused}
 use Rattle.basis.specs.Lists.{over}
 use Rattle.policy.specs.Text.{textOf}
 use Rattle.policy.specs.Value.{policyOf}
@@ -19,4 +19,4 @@ write v buffer = unlessRefused (writeChecks v buffer) (length (textOf (policyOf 
 
 -- the buffer afterwards: "bytes past the text stay", and a refusal changes nothing
 unfoldable pub writeBuffer : PolicyValue → List ℕ → List ℕ
-writeBuffer v buffer = given (lowest (writeChecks v buffer)) (over (textOf (policyOf v)) buffer) (λ n. buffer)
+writeBuffer v buffer = given (firstBroken (writeChecks v buffer)) (over (textOf (policyOf v)) buffer) (λ n. buffer)

@@ -26,10 +26,13 @@ pub const SESSION_NUMBERS: u32 = 32;
 // The most words of a formula.
 pub const MOST_WORDS: usize = 32;
 
-// The most sets of a side, and the most pairs of a user set and an object set.
+// The most pair lines.
+pub const MOST_PAIRS: usize = 64;
+
+// The most sets of a side, and the most tuples: one for each user set and object set.
 pub const MOST_SETS: usize = 1 << MOST_VALUES;
 
-pub const MOST_PAIRS: usize = MOST_SETS * MOST_SETS;
+pub const MOST_TUPLES: usize = MOST_SETS * MOST_SETS;
 
 // The most seniority lines of a side: one for each two values.
 pub const MOST_LINES: usize = MOST_VALUES * (MOST_VALUES - 1) / 2;

@@ -23,6 +23,7 @@ pub enum Refusal {
     SessionOfAnother,
     SetOutOfReach,
     BufferTooShort,
+    TooManyPairs,
 }
 
 // The number of a refusal.
@@ -50,5 +51,6 @@ pub fn number_of(refusal: Refusal) -> u32
         Refusal::SessionOfAnother => 18,
         Refusal::SetOutOfReach => 19,
         Refusal::BufferTooShort => 20,
+        Refusal::TooManyPairs => 21,
     }
 }

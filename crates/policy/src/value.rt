@@ -17,6 +17,8 @@ pub const WORD_PLACES: usize = limits::MOST_WORDS;
 
 pub const RULE_PLACES: usize = limits::MOST_ACTIONS;
 
+pub const PAIR_PLACES: usize = limits::MOST_PAIRS;
+
 // One side, users or objects: the widths of its attributes and its direct seniorities.
 #[repr(C)]
 pub struct SideValue {
@@ -57,6 +59,20 @@ pub struct Rules {
     pub entries: [RuleValue; RULE_PLACES],
 }
 
+// A pair line: its action, a user value and an object value.
+#[repr(C)]
+pub struct Pair {
+    pub action: u32,
+    pub user: u32,
+    pub object: u32,
+}
+
+#[repr(C)]
+pub struct Pairs {
+    pub count: usize,
+    pub entries: [Pair; PAIR_PLACES],
+}
+
 pub struct PolicyValue {
     pub form: u32,
     pub user: SideValue,
@@ -64,13 +80,14 @@ pub struct PolicyValue {
     pub users: Register,
     pub objects: Register,
     pub rules: Rules,
+    pub pairs: Pairs,
 }
 
 // The blank value, which stands beside a refusal: no line of any kind.
 pub fn blank() -> PolicyValue
     ensures { λ r. ⌜ r ≡ valueOf blank ⌝ }
 {
-    let pair = Direct {
+    let direct = Direct {
         senior: 0,
         junior: 0,
     };
@@ -78,7 +95,7 @@ pub fn blank() -> PolicyValue
         attributes: 0,
         widths: [0; WIDTH_PLACES],
         lines: 0,
-        seniority: [pair; LINE_PLACES],
+        seniority: [direct; LINE_PLACES],
     };
     let register = Register {
         count: 0,
@@ -94,6 +111,15 @@ pub fn blank() -> PolicyValue
         count: 0,
         entries: [rule; RULE_PLACES],
     };
+    let pair = Pair {
+        action: 0,
+        user: 0,
+        object: 0,
+    };
+    let pairs = Pairs {
+        count: 0,
+        entries: [pair; PAIR_PLACES],
+    };
     PolicyValue {
         form: 0,
         user: side,
@@ -101,6 +127,7 @@ pub fn blank() -> PolicyValue
         users: register,
         objects: register,
         rules,
+        pairs,
     }
 }
 

@@ -8,7 +8,7 @@ use native.Mathlib.Numerals.{add-one}
 use native.Mathlib.Omega.{arith}
 use borrow.Author.Tests.{eqb-true, eqb-false, le-ltb}
 use lib.ListN.{length, drop}
-use Rattle.basis.specs.Choice.{lowest}
+use Rattle.basis.specs.Choice.{firstBroken}
 use Rattle.basis.specs.Lists.{all}
 use Rattle.text.specs.Kind.{layoutOf, placeOf, isKind}
 use Rattle.text.specs.Inner.{Found}
@@ -106,7 +106,7 @@ module _ (t : List ℕ) (at n : ℕ) (b : Before) (c : Cursor) where
       ends-early g q = bare-looked (Fault EndMissing) q (fault-bare EndMissing) (λ p. rw (no-line t at h, e, sym f ∙ g))
 
 open-refusal : (b : Option Kind) (p : Policy) (k : Named) (fs : List (List ℕ)) → refusalOf b p false k fs ≡ some 2
-unfolding refusalOf checksFor checksOf lowest
+unfolding refusalOf checksFor checksOf firstBroken
 open-refusal b p Unknown fs = refl
 open-refusal b p (Is k) fs = refl
 
@@ -115,7 +115,7 @@ open-refusal b p (Is k) fs = refl
 -- one that breaks none of 2 to 4
 taken-refusal : (b : Option Kind) (p : Policy) (k : Kind) (fs : List (List ℕ)) → allowed b k ≡ true → countFits (layoutOf k) (length fs) ≡ true
     → refusalOf b p true (Is k) fs ≡ refusalAt p k fs
-unfolding refusalOf checksFor checksOf refusalAt lowest
+unfolding refusalOf checksFor checksOf refusalAt firstBroken
 taken-refusal b p k fs a c = rw (a, c)
 
 module _ (t : List ℕ) (at n : ℕ) (b : Before) (e : ℕ) (f : Found t at lineFeed e) where
@@ -211,7 +211,7 @@ module _ (t : List ℕ) (c : Cursor) where
   left-refused k r d e q p f = rw (e, f, q)
 
   end-taken : LineAt t c End → (p : Policy) → refusalAt p End (fieldsAt t c) ≡ none
-  unfolding refusalAt formFits numbersFit inRange rises wordsOf balances lowest all
+  unfolding refusalAt formFits numbersFit inRange rises wordsOf balances firstBroken all
   end-taken l p = rw (l .form)
 
   -- no line may follow the end line

@@ -8,7 +8,7 @@ use native.Mathlib.Omega.{arith}
 use borrow.Author.Tests.{ltb-true, le-leb, lt-leb}
 use lib.Dec.{leb}
 use lib.ListN.{length}
-use Rattle.basis.specs.Choice.{check, lowest}
+use Rattle.basis.specs.Choice.{check, firstBroken}
 use Rattle.basis.specs.Lists.{last}
 use Rattle.basis.proofs.Bools.{and-left}
 use Rattle.basis.proofs.Snoc.{last-snoc}
@@ -72,7 +72,7 @@ module _ {t : List ℕ} {k : Kind} {most total : ℕ} {c : Cursor} {x : Register
     q = ahead-there (d .ahead) k a o y
 
     entry-refusal : (s : Bool) → leb n number ≡ s → (z : Listed k Entry) (p : Policy) → EntriesFit k most total z p
-        → refusalAt (z .with (h .entries) p) k (fieldsAt t d) ≡ lowest (check 6 (not r) ∷ check 7 (not s) ∷ [])
+        → refusalAt (z .with (h .entries) p) k (fieldsAt t d) ≡ firstBroken (check 6 (not r) ∷ check 7 (not s) ∷ [])
     entry-refusal s i z p f =
         let w = z .with (h .entries) p in
         let u : f .kind .total w ≡ total = f .kind .kept (h .entries) p ∙ f .total in
@@ -82,7 +82,7 @@ module _ {t : List ℕ} {k : Kind} {most total : ℕ} {c : Cursor} {x : Register
 
     pub entry-more : r ≡ true → n ≤ number → most ≤ entryPlaces → NextOf t d k b
         → EntriesHeld t k most total c (moreEntry number (d .numbers .second) x) (number + 1) b
-    unfolding lowest register
+    unfolding firstBroken register
     entry-more g l m i =
         let v : Entry = record { number = number; set = d .numbers .second } in
         let j : length (h .entries) < entryPlaces = omega (arith, entry-room number (d .numbers .second) r e g l m, ap (λ (y : Register). y .count) (h .stored)) in
@@ -99,13 +99,13 @@ module _ {t : List ℕ} {k : Kind} {most total : ℕ} {c : Cursor} {x : Register
     held-refused i = record { entries = h .entries; stored = h .stored; least = h .least; few = h .few; lines = i }
 
     pub entry-level : r ≡ true → number < n → b ≡ bareAt (d .at) (d .line) (Fault NotRising) → EntriesHeld t k most total c x n b
-    unfolding lowest
+    unfolding firstBroken
     entry-level g l i =
         held-refused
         (refused-read t k (EntriesFit k most total) (h .lines) q b NotRising i (λ z p f w. entry-refusal false (lt-leb n number l) z p f ∙ (rw g)))
 
     pub entry-out : r ≡ false → b ≡ bareAt (d .at) (d .line) (Fault OutOfRange) → EntriesHeld t k most total c x n b
-    unfolding lowest
+    unfolding firstBroken
     entry-out g i =
         held-refused
         (refused-read t k (EntriesFit k most total) (h .lines) q b OutOfRange i (λ z p f w. entry-refusal (leb n number) refl z p f ∙ (rw g)))

@@ -4,7 +4,7 @@ use mathlib.Core.Path.{_≡_, refl, sym, ap, _∙_}
 use mathlib.Core.Bool.{true, false}
 use mathlib.Core.List.{List}
 use native.Mathlib.Omega.{arith}
-use Rattle.basis.specs.Choice.{lowest}
+use Rattle.basis.specs.Choice.{firstBroken}
 use Rattle.text.specs.Kind.{placeOf}
 use Rattle.text.specs.declared.kind.Kind.the-variants.{Policy as PolicyKind}
 use Rattle.text.specs.declared.number.Numbers.{Numbers}
@@ -27,7 +27,7 @@ unformed p e = rw (← e)
 module _ (t : List ℕ) (c : Cursor) (s : Stands t c) where
   module _ (e : c .ahead ≡ Line PolicyKind) (d : Cursor) where
     pub form-taken : isForm (c .numbers .first) ≡ true → NextOf t c PolicyKind d → FormFrom t c (record { form = c .numbers .first; cursor = d })
-    unfolding inRange rises lowest extended
+    unfolding inRange rises firstBroken extended
     form-taken f n =
         let l = s PolicyKind e in
         record {
@@ -39,7 +39,7 @@ module _ (t : List ℕ) (c : Cursor) (s : Stands t c) where
         }
 
     pub form-refused : isForm (c .numbers .first) ≡ false → d ≡ bareAt (c .at) (c .line) (Fault OutOfRange) → FormFrom t c (record { form = 0; cursor = d })
-    unfolding inRange rises lowest
+    unfolding inRange rises firstBroken
     form-refused f q =
         record {
           stands = rw q (λ k z. absurd (fault-bare OutOfRange k z));

@@ -4,7 +4,7 @@ pub mod Rising
 pub mod Runs
 pub mod FormLine
 pub mod WidthLines
-pub mod PairLines
+pub mod DirectLines
 pub mod EntryLines
 pub mod RuleLines
 pub mod Sections

@@ -7,7 +7,7 @@ use native.Mathlib.Numerals.{add-one}
 use native.Mathlib.Omega.{arith}
 use lib.Dec.{leb, ltb}
 use lib.ListN.{length, drop}
-use Rattle.basis.specs.Choice.{given, check, lowest}
+use Rattle.basis.specs.Choice.{given, check, firstBroken}
 use Rattle.basis.specs.Lists.{all, last}
 use Rattle.basis.proofs.Snoc.{last-snoc}
 use Rattle.text.specs.Kind.{placeOf}
@@ -28,7 +28,7 @@ use Rattle.line.specs.Inner.Head.{numbersFit}
 use Rattle.line.specs.Inner.Rule.{areWords, ruleFrom, admittedRule}
 use Rattle.line.specs.declared.rule.Fault.the-variants.{None, Is}
 use Rattle.line.specs.declared.rule.RuleLine.{RuleLine}
-use Rattle.line.proofs.Rules.{numberIn, rule-stored, rule-lowest, rule-taken}
+use Rattle.line.proofs.Rules.{numberIn, rule-stored, rule-first-broken, rule-taken}
 use Rattle.reader.specs.Inner.Cursor.{fieldsAt, refusalAt, bareAt, LineAt, Stands, NextOf, aheadIs}
 use Rattle.reader.specs.Inner.Lists.{Listed, ReadBy, RulesFit, RulesFrom}
 use Rattle.reader.specs.declared.cursor.Ahead.the-variants.{Line, Fault}
@@ -48,7 +48,7 @@ formula-refusal : (t : List ℕ) (c : Cursor) → LineAt t c RuleKind → (p : P
     → let ws = wordsFrom (fieldsAt t c) in
     inRange RuleKind (p .form) (sizes p) (c .numbers) ws ≡ i → rises RuleKind p (c .numbers) ≡ r → all (widthsEqual (sizes p)) ws ≡ e
     → refusalAt p RuleKind (fieldsAt t c)
-    ≡ lowest (check 5 (not (areWords (drop 2 (fieldsAt t c)))) ∷ check 6 (not i) ∷ check 7 (not r) ∷ check 8 (not e) ∷ check 9 (not (balanced 0 ws)) ∷ [])
+    ≡ firstBroken (check 5 (not (areWords (drop 2 (fieldsAt t c)))) ∷ check 6 (not i) ∷ check 7 (not r) ∷ check 8 (not e) ∷ check 9 (not (balanced 0 ws)) ∷ [])
 unfolding refusalAt formFits numbersFit wordsOf balances
 formula-refusal t c l p i r e f g h = rw (l .form, ← l .numbers, f, g, h) refl
 
@@ -114,7 +114,7 @@ module _ {t : List ℕ} {form : ℕ} {user object : Shape} {c : Cursor} {x : Rul
           ∙ rises-from actionIn (last (h .rules)) action
           ∙ ap (λ (k : ℕ). leb k action) (sym (h .least)))
           (ap (λ (k : Sizes). all (widthsEqual k) ws) u)
-          ∙ sym (rule-lowest n form (bothIn user object) action (fieldsAt t d) y e)
+          ∙ sym (rule-first-broken n form (bothIn user object) action (fieldsAt t d) y e)
 
       pub rule-out : (r : Refusal) → y .fault ≡ Is r → b ≡ bareAt (d .at) (d .line) (Fault r) → RulesHeld t form user object c x n b
       rule-out r g i =

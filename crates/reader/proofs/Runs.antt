@@ -4,7 +4,7 @@ use mathlib.Core.Path.{_≡_, refl, sym, ap, _∙_}
 use mathlib.Core.Bool.{Bool, true, false, not}
 use mathlib.Core.List.{List, [], _∷_, _++_}
 use mathlib.Core.Option.{none, some}
-use Rattle.basis.specs.Choice.{check, lowest}
+use Rattle.basis.specs.Choice.{check, firstBroken}
 use Rattle.basis.specs.Lists.{all}
 use Rattle.text.specs.Kind.{layoutOf, placeOf}
 use Rattle.text.specs.declared.kind.Kind.{Kind}
@@ -41,17 +41,17 @@ two-wordless = record { form = λ fs. refl; words = λ fs. refl; balance = refl 
 module _ (t : List ℕ) (c : Cursor) (k : Kind) (l : LineAt t c k) (p : Policy) (i r : Bool) where
   -- only 6 and 7 can be broken
   module _ (w : Wordless (layoutOf k)) (e : inRange k (p .form) (sizes p) (c .numbers) [] ≡ i) (f : rises k p (c .numbers) ≡ r) where
-    plain-refusal : refusalAt p k (fieldsAt t c) ≡ lowest (check 6 (not i) ∷ check 7 (not r) ∷ [])
-    unfolding refusalAt lowest all
+    plain-refusal : refusalAt p k (fieldsAt t c) ≡ firstBroken (check 6 (not i) ∷ check 7 (not r) ∷ [])
+    unfolding refusalAt firstBroken all
     plain-refusal =
         rw (w .form (fieldsAt t c), l .form, w .words (fieldsAt t c), w .balance, ← l .numbers, e, f) refl
 
   pub one-refusal : layoutOf k ≡ One → inRange k (p .form) (sizes p) (c .numbers) [] ≡ i → rises k p (c .numbers) ≡ r
-      → refusalAt p k (fieldsAt t c) ≡ lowest (check 6 (not i) ∷ check 7 (not r) ∷ [])
+      → refusalAt p k (fieldsAt t c) ≡ firstBroken (check 6 (not i) ∷ check 7 (not r) ∷ [])
   one-refusal h = plain-refusal (rw h one-wordless)
 
   pub two-refusal : layoutOf k ≡ Two → inRange k (p .form) (sizes p) (c .numbers) [] ≡ i → rises k p (c .numbers) ≡ r
-      → refusalAt p k (fieldsAt t c) ≡ lowest (check 6 (not i) ∷ check 7 (not r) ∷ [])
+      → refusalAt p k (fieldsAt t c) ≡ firstBroken (check 6 (not i) ∷ check 7 (not r) ∷ [])
   two-refusal h = plain-refusal (rw h two-wordless)
 
 -- ---- the lines

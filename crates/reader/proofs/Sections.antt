@@ -4,11 +4,11 @@ use Prim.Native.Nat.{ℕ}
 use Rattle.seniority.specs.Seniority.{direct}
 use Rattle.seniority.specs.declared.Direct.{Direct}
 use Rattle.text.specs.declared.kind.Kind.the-variants.{Uattr, Oattr, Usen, Osen, User, Object, Rule as RuleKind}
-use Rattle.policy.specs.Checks.{sideSizes, inRange, pairRises, entryRises, ruleRises, rises, withUser, withObject, withUsers, withObjects, withRules, extended}
+use Rattle.policy.specs.Checks.{sideSizes, inRange, directRises, entryRises, ruleRises, rises, withUser, withObject, withUsers, withObjects, withRules, extended}
 use Rattle.policy.specs.Limits.{userNumbers, objectNumbers}
 use Rattle.policy.specs.Policy.{Rule, total}
 use Rattle.policy.specs.declared.value.Entry.{Entry}
-use Rattle.reader.specs.Inner.Lists.{Listed, WidthKind, PairKind, EntryKind, RuleKindOf}
+use Rattle.reader.specs.Inner.Lists.{Listed, WidthKind, DirectKind, EntryKind, RuleKindOf}
 
 -- ---- widths
 
@@ -48,9 +48,9 @@ oattr = record { layout = refl; said = λ n ws. refl; range = λ p n ws. refl; r
 
 -- ---- seniorities
 
-unfoldable pub user-pairs : Listed Usen Direct
+unfoldable pub user-directs : Listed Usen Direct
 unfolding extended
-user-pairs =
+user-directs =
     record {
       items = λ p. p .user .lines;
       with = λ ls p. withUser (record { widths = p .user .widths; lines = ls }) p;
@@ -61,9 +61,9 @@ user-pairs =
       same = λ p. refl;
     }
 
-unfoldable pub object-pairs : Listed Osen Direct
+unfoldable pub object-directs : Listed Osen Direct
 unfolding extended
-object-pairs =
+object-directs =
     record {
       items = λ p. p .object .lines;
       with = λ ls p. withObject (record { widths = p .object .widths; lines = ls }) p;
@@ -74,12 +74,12 @@ object-pairs =
       same = λ p. refl;
     }
 
-unfoldable pub usen : PairKind Usen user-pairs
-unfolding user-pairs inRange rises pairRises total
+unfoldable pub usen : DirectKind Usen user-directs
+unfolding user-directs inRange rises directRises total
 usen = record { side = λ p. sideSizes (p .user); layout = refl; said = λ n ws. refl; range = λ p n ws. refl; rise = λ p n. refl; kept = λ ls p. refl }
 
-unfoldable pub osen : PairKind Osen object-pairs
-unfolding object-pairs inRange rises pairRises total
+unfoldable pub osen : DirectKind Osen object-directs
+unfolding object-directs inRange rises directRises total
 osen = record { side = λ p. sideSizes (p .object); layout = refl; said = λ n ws. refl; range = λ p n ws. refl; rise = λ p n. refl; kept = λ ls p. refl }
 
 -- ---- users and objects

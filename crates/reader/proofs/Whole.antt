@@ -39,7 +39,7 @@ use Rattle.reader.specs.declared.sides.SidesRead.{SidesRead}
 use Rattle.reader.specs.declared.widths.WidthsRead.{WidthsRead}
 use Rattle.reader.proofs.Answers.{said-fault}
 use Rattle.reader.proofs.Runs.{then}
-use Rattle.reader.proofs.Sections.{user-widths, object-widths, uattr, oattr, user-pairs, object-pairs, usen, osen, users, objects, user, object, rules, rule}
+use Rattle.reader.proofs.Sections.{user-widths, object-widths, uattr, oattr, user-directs, object-directs, usen, osen, users, objects, user, object, rules, rule}
 
 -- ---- a side
 
@@ -65,7 +65,7 @@ module _ (s : Side) (x : Shape) (e : x ≡ shapeWith (s .widths)) where
 
 module _ {t : List ℕ} {k : Kind} {c : Cursor} {x : Shape} {r : SenioritiesRead} (p : SenioritiesFrom t k x c r) (ws : List ℕ) (e : x ≡ shapeWith ws) where
   abbrev sideFrom : Side
-  sideFrom = record { widths = ws; lines = p .pairs }
+  sideFrom = record { widths = ws; lines = p .directs }
 
   side-stored : r .side ≡ sideValue sideFrom
   unfolding sideValue
@@ -77,21 +77,21 @@ module _ {t : List ℕ} {c : Cursor} {f : FormRead} (g : FormFrom t c f) {most :
     {u : WidthsRead} (w : WidthsFrom t Uattr most (f .cursor) u) {o : WidthsRead} (v : WidthsFrom t Oattr most (u .cursor) o)
     {a : SenioritiesRead} (p : SenioritiesFrom t Usen (u .shape) (o .cursor) a) {b : SenioritiesRead} (q : SenioritiesFrom t Osen (o .shape) (a .cursor) b) where
   abbrev userSide : Side
-  userSide = record { widths = w .widths; lines = p .pairs }
+  userSide = record { widths = w .widths; lines = p .directs }
 
   abbrev objectSide : Side
-  objectSide = record { widths = v .widths; lines = q .pairs }
+  objectSide = record { widths = v .widths; lines = q .directs }
 
   sides-lines : Reads t c (suc (placeOf Osen)) (b .cursor) (withSides (f .form) userSide objectSide)
-  unfolding blank user-widths object-widths user-pairs object-pairs usen osen
+  unfolding blank user-widths object-widths user-directs object-directs usen osen
   sides-lines =
       let side : List ℕ → Side = λ ws. record { widths = ws; lines = [] } in
       let none : Reads t c (placeOf Uattr) (f .cursor) (withSides (f .form) (side []) (side [])) =
       record { stands = g .stands; past = g .past; left = g .left blank refl } in
       let us = then none (w .lines) user-widths (record { kind = uattr; most = sym m }) refl in
       let os = then us (v .lines) object-widths (record { kind = oattr; most = sym m }) refl in
-      let ul = then os (p .lines) user-pairs (record { kind = usen; side = shape-sizes (side (w .widths)) (u .shape) (w .shape) }) refl in
-      then ul (q .lines) object-pairs (record { kind = osen; side = shape-sizes (side (v .widths)) (o .shape) (v .shape) }) refl
+      let ul = then os (p .lines) user-directs (record { kind = usen; side = shape-sizes (side (w .widths)) (u .shape) (w .shape) }) refl in
+      then ul (q .lines) object-directs (record { kind = osen; side = shape-sizes (side (v .widths)) (o .shape) (v .shape) }) refl
 
   pub sides-read : SidesFrom t c (record { form = f .form; user = a .side; ushape = u .shape; object = b .side; oshape = o .shape; cursor = b .cursor })
   sides-read =

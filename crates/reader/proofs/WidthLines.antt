@@ -5,7 +5,7 @@ use mathlib.Core.Bool.{Bool, true, false, not}
 use mathlib.Core.List.{List, [], _∷_, _++_}
 use native.Mathlib.Omega.{arith}
 use lib.ListN.{length, set}
-use Rattle.basis.specs.Choice.{check, lowest}
+use Rattle.basis.specs.Choice.{check, firstBroken}
 use Rattle.basis.specs.Lists.{sum, padded}
 use Rattle.basis.proofs.Padded.{padded-more}
 use Rattle.basis.proofs.Snoc.{length-snoc, sum-snoc}
@@ -65,7 +65,7 @@ module _ {t : List ℕ} {k : Kind} {most : ℕ} {c : Cursor} {ws : List ℕ} {n 
 
     -- check 6 decides
     width-refusal : (x : Listed k ℕ) (p : Policy) → WidthsFit k most x p
-        → refusalAt (x .with (h .widths) p) k (fieldsAt t d) ≡ lowest (check 6 (not r) ∷ check 7 false ∷ [])
+        → refusalAt (x .with (h .widths) p) k (fieldsAt t d) ≡ firstBroken (check 6 (not r) ∷ check 7 false ∷ [])
     width-refusal x p f =
         let z = x .with (h .widths) p in
         let m : values (z .form) ≡ most = ap values (f .kind .form (h .widths) p) ∙ f .most in
@@ -75,7 +75,7 @@ module _ {t : List ℕ} {k : Kind} {most : ℕ} {c : Cursor} {ws : List ℕ} {n 
         (f .kind .rise z (d .numbers))
 
     pub width-more : r ≡ true → most ≤ mostValues → NextOf t d k b → WidthsHeld t k most c (set ws n (d .numbers .first)) (n + 1) (u + d .numbers .first) b
-    unfolding lowest
+    unfolding firstBroken
     width-more g m i =
         let w = d .numbers .first in
         let z = width-fits most u w (sym e ∙ g) in
@@ -91,7 +91,7 @@ module _ {t : List ℕ} {k : Kind} {most : ℕ} {c : Cursor} {ws : List ℕ} {n 
         }
 
     pub width-out : r ≡ false → b ≡ bareAt (d .at) (d .line) (Fault OutOfRange) → WidthsHeld t k most c ws n u b
-    unfolding lowest
+    unfolding firstBroken
     width-out g i =
         record {
           widths = h .widths;

@@ -33,8 +33,8 @@ pub fn read(text: &[u8], cursor: Cursor, kind: Kind, shape: Shape) -> Senioritie
     while crate::cursor::is_at(c, kind) {
         let v = c.numbers.first;
         let j = c.numbers.second;
-        if checks::side::pair_fits(shape, v, j) {
-            if checks::side::pair_above(last, v, j) {
+        if checks::side::direct_fits(shape, v, j) {
+            if checks::side::direct_above(last, v, j) {
                 last = Direct {
                     senior: v,
                     junior: j,

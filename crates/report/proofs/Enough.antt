@@ -8,8 +8,8 @@ use native.Mathlib.Omega.{arith}
 use borrow.Author.Tests.{le-ltb}
 use lib.ListN.{length}
 use lib.Pow.{pow-mono}
-use Rattle.basis.specs.Choice.{gives, lowest}
-use Rattle.policy.specs.Limits.{mostValues, mostSets, mostPairs}
+use Rattle.basis.specs.Choice.{gives, firstBroken}
+use Rattle.policy.specs.Limits.{mostValues, mostSets, mostTuples}
 use Rattle.policy.specs.Policy.{total, sets}
 use Rattle.policy.specs.Value.{policyOf}
 use Rattle.policy.specs.Valid.{valid}
@@ -32,14 +32,14 @@ module _ (v : PolicyValue) (e : valid v ≡ true) where
   object-sets : sets (policyOf v .object) ≤ mostSets
   object-sets = pow-mono few-objects
 
-  table-few : length (tableResult (policyOf v)) ≤ mostPairs
+  table-few : length (tableResult (policyOf v)) ≤ mostTuples
   table-few =
       rw (length-tableResult (policyOf v))
       (mul-le-mul (le-trans (NU-le (policyOf v)) user-sets) (le-trans (NO-le (policyOf v)) object-sets))
 
-  pub compiles : (b : Buffers) → mostSets ≤ length (b .users) → mostSets ≤ length (b .objects) → mostPairs ≤ length (b .table)
+  pub compiles : (b : Buffers) → mostSets ≤ length (b .users) → mostSets ≤ length (b .objects) → mostTuples ≤ length (b .table)
       → compile v b ≡ gives (record { users = NU (policyOf v); objects = NO (policyOf v) })
-  unfolding compile lowest
+  unfolding compile firstBroken
   compiles b us os t =
       let hu : length (userResult (policyOf v)) ≤ length (b .users) = omega (arith, length-userResult (policyOf v), user-sets) in
       let ho : length (objectResult (policyOf v)) ≤ length (b .objects) = omega (arith, length-objectResult (policyOf v), object-sets) in

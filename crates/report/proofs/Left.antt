@@ -14,7 +14,7 @@ use Rattle.basis.specs.Lists.{over}
 use Rattle.basis.specs.Numbers.{count, select}
 use Rattle.basis.proofs.Counting.{count-le, length-select}
 use Rattle.text.specs.Parts.{lineFeed, textOf}
-use Rattle.policy.specs.Limits.{mostPairs}
+use Rattle.policy.specs.Limits.{mostTuples}
 use Rattle.policy.specs.Policy.{Rule, Policy, total}
 use Rattle.policy.specs.Value.{ruleOf, rulesOf}
 use Rattle.policy.specs.declared.value.RuleValue.{RuleValue}
@@ -175,7 +175,7 @@ module _ {p : Policy} {a : ℕ} {m : Marks} {n : ℕ} (k : Marking p a m n) wher
   marking-length : n ≡ length (tuples p a)
   marking-length = k .number ∙ sym (length-select (marked (m .words)) (m .count * lanes)) ∙ ap length (k .tuples)
 
-  pub marking-few : n ≤ mostPairs
+  pub marking-few : n ≤ mostTuples
   marking-few = omega (arith, k .number, count-le (marked (m .words)) (m .count * lanes), k .blocks)
 
 module _ {p : Policy} {c : Cursor} (s : Standing p c) (h : c .rule < c .rules .count) where

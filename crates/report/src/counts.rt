@@ -2,14 +2,14 @@
 ghost use mathlib.Core.Path.{_≡_};
 ghost use mathlib.Core.Bool.{true};
 ghost use lib.ListN.{length};
-ghost use Rattle.policy.specs.Limits.{mostSets, mostPairs};
+ghost use Rattle.policy.specs.Limits.{mostSets, mostTuples};
 ghost use Rattle.policy.specs.Valid.{valid};
 ghost use Rattle.policy.specs.Value.{policyOf};
 ghost use Rattle.labels.specs.Compile.{NU, NO};
 use labels::Compiled;
 use labels::Counts;
-use policy::limits::MOST_PAIRS;
 use policy::limits::MOST_SETS;
+use policy::limits::MOST_TUPLES;
 use policy::value::PolicyValue;
 
 fn sets() -> [u8; MOST_SETS]
@@ -18,10 +18,10 @@ fn sets() -> [u8; MOST_SETS]
     [0; MOST_SETS]
 }
 
-fn table() -> [u8; MOST_PAIRS]
-    ensures { λ r. ⌜ mostPairs ≡ length r ⌝ }
+fn table() -> [u8; MOST_TUPLES]
+    ensures { λ r. ⌜ mostTuples ≡ length r ⌝ }
 {
-    [0; MOST_PAIRS]
+    [0; MOST_TUPLES]
 }
 
 // NU and NO. Compiling is not refused: check 11 passes, and the buffers are long enough for any policy.

@@ -6,7 +6,7 @@ use mathlib.Core.List.{List, [], _∷_, map}
 use mathlib.Core.Option.{Option, none, some}
 use lib.Dec.{ltb}
 use lib.ListN.{length}
-use Rattle.basis.specs.Choice.{given, Result, gives, refuses, Check, check, lowest, unlessRefused}
+use Rattle.basis.specs.Choice.{given, Result, gives, refuses, Check, check, firstBroken, unlessRefused}
 use Rattle.basis.specs.Lists.{over}
 use Rattle.policy.specs.Answers.{numberOf, Reply, refused, replyNumber}
 use Rattle.policy.specs.declared.value.PolicyValue.{PolicyValue}
@@ -44,11 +44,11 @@ answerCount numbers buffer = unlessRefused (runChecks numbers buffer) (length (i
 -- the buffer afterwards: what lies past the answers stays, and a refusal changes nothing
 unfoldable pub answerBuffer : PolicyValue → Labels → List ℕ → List ℕ → List ℕ
 answerBuffer v l numbers buffer =
-    given (lowest (runChecks numbers buffer)) (over (bytesOf numbers (boardRun v l numbers)) buffer) (λ n. buffer)
+    given (firstBroken (runChecks numbers buffer)) (over (bytesOf numbers (boardRun v l numbers)) buffer) (λ n. buffer)
 
 -- the board afterwards: a refused run has made no call
 unfoldable pub boardAfterRun : PolicyValue → Labels → List ℕ → List ℕ → Board
-boardAfterRun v l numbers buffer = given (lowest (runChecks numbers buffer)) (boardRun v l numbers .state) (λ n. fresh)
+boardAfterRun v l numbers buffer = given (firstBroken (runChecks numbers buffer)) (boardRun v l numbers .state) (λ n. fresh)
 
 -- what the code's verdict stands for
 abbrev pub resultOf : Verdict → Result ℕ

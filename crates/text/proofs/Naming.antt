@@ -9,7 +9,7 @@ use Rattle.basis.specs.Lists.{same}
 use Rattle.basis.proofs.Table.{everyEntry, at}
 use Rattle.text.specs.Kind.{wordOf, kinds, namedIn, placeOf}
 use Rattle.text.specs.declared.kind.Kind.{Kind}
-use Rattle.text.specs.declared.kind.Kind.the-variants.{Policy, Uattr, Oattr, Usen, Osen, User, Object, Rule, End}
+use Rattle.text.specs.declared.kind.Kind.the-variants.{Policy, Uattr, Oattr, Usen, Osen, User, Object, Rule, Pair, End}
 use Rattle.text.specs.declared.kind.Named.{Named}
 use Rattle.text.specs.declared.kind.Named.the-variants.{Is, Unknown}
 
@@ -38,6 +38,7 @@ place-lt Osen = lit< tt
 place-lt User = lit< tt
 place-lt Object = lit< tt
 place-lt Rule = lit< tt
+place-lt Pair = lit< tt
 place-lt End = lit< tt
 
 abbrev pub kindAt : ℕ → Kind
@@ -52,8 +53,9 @@ kind-at Osen = refl
 kind-at User = refl
 kind-at Object = refl
 kind-at Rule = refl
+kind-at Pair = refl
 kind-at End = refl
 
--- a test of kinds that passes at each of the nine
+-- a test of kinds that passes at each of the ten
 pub each-kind : (f : Kind → Bool) → everyEntry (λ _ k. f k) 0 kinds ≡ true → (k : Kind) → f k ≡ true
 each-kind f e k = rw (kind-at k) at (at (λ _ j. f j) End kinds e (placeOf k) (place-lt k))

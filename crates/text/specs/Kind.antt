@@ -1,4 +1,4 @@
--- "The first field is one of nine words", and which kind may follow which.
+-- "The first field is one of nine words", to which document 02 adds `pair`, and which kind may follow which.
 use Prim.Native.Nat.{ℕ}
 use mathlib.Core.Bool.{Bool, false, cond, _||_}
 use mathlib.Core.List.{List, [], _∷_}
@@ -6,9 +6,9 @@ use lib.Dec.{eqb, leb}
 use Rattle.basis.specs.Bytes.{bytes}
 use Rattle.basis.specs.Lists.{same}
 use Rattle.text.specs.declared.kind.Kind.{Kind}
-use Rattle.text.specs.declared.kind.Kind.the-variants.{Policy, Uattr, Oattr, Usen, Osen, User, Object, Rule, End}
+use Rattle.text.specs.declared.kind.Kind.the-variants.{Policy, Uattr, Oattr, Usen, Osen, User, Object, Rule, Pair, End}
 use Rattle.text.specs.declared.kind.Layout.{Layout}
-use Rattle.text.specs.declared.kind.Layout.the-variants.{Bare, One, Two, Formula}
+use Rattle.text.specs.declared.kind.Layout.the-variants.{Bare, One, Two, Three, Formula}
 use Rattle.text.specs.declared.kind.Named.{Named}
 use Rattle.text.specs.declared.kind.Named.the-variants.{Is, Unknown}
 
@@ -22,10 +22,11 @@ wordOf Osen = bytes "osen"
 wordOf User = bytes "user"
 wordOf Object = bytes "object"
 wordOf Rule = bytes "rule"
+wordOf Pair = bytes "pair"
 wordOf End = bytes "end"
 
 abbrev pub kinds : List Kind
-kinds = Policy ∷ Uattr ∷ Oattr ∷ Usen ∷ Osen ∷ User ∷ Object ∷ Rule ∷ End ∷ []
+kinds = Policy ∷ Uattr ∷ Oattr ∷ Usen ∷ Osen ∷ User ∷ Object ∷ Rule ∷ Pair ∷ End ∷ []
 
 -- the kind of a list whose word a first field is
 unfoldable pub namedIn : List Kind → List ℕ → Named
@@ -45,9 +46,10 @@ layoutOf Osen = Two
 layoutOf User = Two
 layoutOf Object = Two
 layoutOf Rule = Formula
+layoutOf Pair = Three
 layoutOf End = Bare
 
--- a kind's place in the list of nine
+-- a kind's place in the list of ten
 abbrev pub placeOf : Kind → ℕ
 placeOf Policy = 0
 placeOf Uattr = 1
@@ -57,7 +59,8 @@ placeOf Osen = 4
 placeOf User = 5
 placeOf Object = 6
 placeOf Rule = 7
-placeOf End = 8
+placeOf Pair = 8
+placeOf End = 9
 
 abbrev pub isKind : Kind → Kind → Bool
 isKind j k = eqb (placeOf j) (placeOf k)
@@ -66,7 +69,7 @@ abbrev pub notBefore : Kind → Kind → Bool
 notBefore j k = leb (placeOf j) (placeOf k)
 
 -- "policy is followed by uattr; uattr by uattr or oattr; each of oattr to rule by itself or any later kind; end by
--- nothing"
+-- nothing"; "lines `pair,A,V,W` come between rule and end"
 unfoldable pub follows : Kind → Kind → Bool
 follows Policy k = isKind Uattr k
 follows Uattr k = isKind Uattr k || isKind Oattr k
@@ -76,4 +79,5 @@ follows Osen k = notBefore Osen k
 follows User k = notBefore User k
 follows Object k = notBefore Object k
 follows Rule k = notBefore Rule k
+follows Pair k = notBefore Pair k
 follows End k = false

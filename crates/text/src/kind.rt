@@ -1,4 +1,4 @@
-// The nine words that a line may start with, and which kind may follow which.
+// The ten words that a line may start with, and which kind may follow which.
 ghost use mathlib.Core.Path.{_≡_};
 ghost use lib.Dec.{eqb};
 ghost use lib.ListN.{drop};
@@ -15,6 +15,7 @@ pub enum Kind {
     User,
     Object,
     Rule,
+    Pair,
     End,
 }
 
@@ -34,6 +35,8 @@ pub const USER: [u8; 4] = *b"user";
 pub const OBJECT: [u8; 6] = *b"object";
 
 pub const RULE: [u8; 4] = *b"rule";
+
+pub const PAIR: [u8; 4] = *b"pair";
 
 pub const END: [u8; 3] = *b"end";
 
@@ -81,6 +84,9 @@ fn parse_later(f: &[u8]) -> Named
     if equal(f, &RULE) {
         return Named::Is(Kind::Rule);
     }
+    if equal(f, &PAIR) {
+        return Named::Is(Kind::Pair);
+    }
     if equal(f, &END) {
         return Named::Is(Kind::End);
     }
@@ -109,7 +115,7 @@ pub fn parse(f: &[u8]) -> Named
     parse_later(f)
 }
 
-// A kind's place in the list of nine.
+// A kind's place in the list of ten.
 fn place(k: Kind) -> usize
     ensures { λ r. ⌜ r ≡ placeOf k ⌝ }
 {
@@ -122,7 +128,8 @@ fn place(k: Kind) -> usize
         Kind::User => 5,
         Kind::Object => 6,
         Kind::Rule => 7,
-        Kind::End => 8,
+        Kind::Pair => 8,
+        Kind::End => 9,
     }
 }
 
@@ -138,6 +145,7 @@ pub fn layout_of(k: Kind) -> Layout
         Kind::User => Layout::Two,
         Kind::Object => Layout::Two,
         Kind::Rule => Layout::Formula,
+        Kind::Pair => Layout::Three,
         Kind::End => Layout::Bare,
     }
 }
@@ -148,18 +156,107 @@ pub fn same(j: Kind, k: Kind) -> bool
     place(j) == place(k)
 }
 
-const KINDS: usize = 9;
+const KINDS: usize = 10;
 
 // Row by the kind before, column by the kind after.
 const FOLLOWS: [[bool; KINDS]; KINDS] = [
-    [false, true, false, false, false, false, false, false, false],
-    [false, true, true, false, false, false, false, false, false],
-    [false, false, true, true, true, true, true, true, true],
-    [false, false, false, true, true, true, true, true, true],
-    [false, false, false, false, true, true, true, true, true],
-    [false, false, false, false, false, true, true, true, true],
-    [false, false, false, false, false, false, true, true, true],
-    [false, false, false, false, false, false, false, true, true],
+    [
+        false,
+        true,
+        false,
+        false,
+        false,
+        false,
+        false,
+        false,
+        false,
+        false,
+    ],
+    [
+        false,
+        true,
+        true,
+        false,
+        false,
+        false,
+        false,
+        false,
+        false,
+        false,
+    ],
+    [false, false, true, true, true, true, true, true, true, true],
+    [
+        false,
+        false,
+        false,
+        true,
+        true,
+        true,
+        true,
+        true,
+        true,
+        true,
+    ],
+    [
+        false,
+        false,
+        false,
+        false,
+        true,
+        true,
+        true,
+        true,
+        true,
+        true,
+    ],
+    [
+        false,
+        false,
+        false,
+        false,
+        false,
+        true,
+        true,
+        true,
+        true,
+        true,
+    ],
+    [
+        false,
+        false,
+        false,
+        false,
+        false,
+        false,
+        true,
+        true,
+        true,
+        true,
+    ],
+    [
+        false,
+        false,
+        false,
+        false,
+        false,
+        false,
+        false,
+        true,
+        true,
+        true,
+    ],
+    [
+        false,
+        false,
+        false,
+        false,
+        false,
+        false,
+        false,
+        false,
+        true,
+        true,
+    ],
     [false; KINDS],
 ];
 

@@ -64,10 +64,10 @@ fn lines_valid(side: Shape, lines: [Direct; LINE_PLACES], n: usize) -> bool
     let mut i = 0;
     while i < n {
         let l = lines[i];
-        if !checks::side::pair_fits(side, l.senior, l.junior) {
+        if !checks::side::direct_fits(side, l.senior, l.junior) {
             return false;
         }
-        if !crate::order::pair_rises(i, last, l) {
+        if !crate::order::direct_rises(i, last, l) {
             return false;
         }
         last = l;

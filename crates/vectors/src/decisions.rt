@@ -7,12 +7,12 @@ use crate::found::Found;
 use crate::texts::policy_of;
 use labels::Apartness;
 use labels::Witness;
-use policy::limits::MOST_PAIRS;
+use policy::limits::MOST_TUPLES;
 use policy::refusal::number_of;
 use tuples::Listing;
 
 // The most tuples, and what stands in a listing's buffer before a call: no tuple is so large.
-const PAIRS: usize = MOST_PAIRS;
+const PAIRS: usize = MOST_TUPLES;
 
 const BLANK: u16 = 65535;
 

@@ -7,14 +7,14 @@ use crate::found;
 use crate::found::Found;
 use crate::texts::policy_of;
 use labels::Compiled;
-use policy::limits::MOST_PAIRS;
 use policy::limits::MOST_SETS;
+use policy::limits::MOST_TUPLES;
 use policy::refusal::number_of;
 
 // The most sets of a side, and the most pairs of them.
 pub const SETS: usize = MOST_SETS;
 
-pub const PAIRS: usize = MOST_PAIRS;
+pub const PAIRS: usize = MOST_TUPLES;
 
 // What compiling answers, with NU beside it for the user labels' buffer, else NO.
 fn counted(compiled: Compiled, tag: u8, place: usize) -> Found {

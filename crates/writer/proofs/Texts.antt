@@ -19,7 +19,7 @@ use Rattle.policy.specs.declared.value.PolicyValue.{PolicyValue}
 use Rattle.policy.specs.declared.value.Entry.{Entry}
 use Rattle.policy.specs.declared.value.RuleValue.{RuleValue}
 use Rattle.policy.specs.declared.value.Slot.{Slot}
-use Rattle.writer.specs.Inner.Put.{each, feed, field, wordFields, bareLine, oneLine, twoLine, formulaLine, pairLine, entryLine}
+use Rattle.writer.specs.Inner.Put.{each, feed, field, wordFields, bareLine, oneLine, twoLine, formulaLine, directLine, entryLine}
 use Rattle.writer.specs.Inner.Put as Put
 use Rattle.writer.specs.Inner.Whole.{sidesText, listsText}
 
@@ -98,8 +98,8 @@ text-is v =
       one PolicyKind (v .form) refl,
       said-list (λ w. plain Uattr (oneNumber w)) (oneLine (wordOf Uattr)) (λ w. one Uattr w refl),
       said-list (λ w. plain Oattr (oneNumber w)) (oneLine (wordOf Oattr)) (λ w. one Oattr w refl),
-      said-list (λ (l : Direct). plain Usen (twoNumbers (l .senior) (l .junior))) (pairLine (wordOf Usen)) (λ l. two Usen (l .senior) (l .junior) refl),
-      said-list (λ (l : Direct). plain Osen (twoNumbers (l .senior) (l .junior))) (pairLine (wordOf Osen)) (λ l. two Osen (l .senior) (l .junior) refl),
+      said-list (λ (l : Direct). plain Usen (twoNumbers (l .senior) (l .junior))) (directLine (wordOf Usen)) (λ l. two Usen (l .senior) (l .junior) refl),
+      said-list (λ (l : Direct). plain Osen (twoNumbers (l .senior) (l .junior))) (directLine (wordOf Osen)) (λ l. two Osen (l .senior) (l .junior) refl),
       said-list (λ (e : Entry). plain User (twoNumbers (e .number) (e .set))) (entryLine (wordOf User)) (λ e. two User (e .number) (e .set) refl),
       said-list (λ (e : Entry). plain Object (twoNumbers (e .number) (e .set))) (entryLine (wordOf Object)) (λ e. two Object (e .number) (e .set) refl),
       said-rules,

@@ -5,7 +5,7 @@ ghost use Prim.Native.Nat.{_≤_};
 ghost use lib.ListN.{take};
 ghost use Rattle.basis.specs.Lists.{all};
 ghost use Rattle.policy.specs.Value.{widthPlaces, entryPlaces, rulePlaces, linePlaces};
-ghost use Rattle.writer.specs.Inner.Put.{Room, Put, each, bareLine, oneLine, pairLine, entryLine, ruleLine, ruleWritable};
+ghost use Rattle.writer.specs.Inner.Put.{Room, Put, each, bareLine, oneLine, directLine, entryLine, ruleLine, ruleWritable};
 use crate::line;
 use policy::value::ENTRY_PLACES;
 use policy::value::Entry;
@@ -37,21 +37,21 @@ pub fn put_widths(
 }
 
 // The first n seniorities of a side.
-pub fn put_pairs(
+pub fn put_directs(
     word: &[u8],
-    pairs: [Direct; LINE_PLACES],
+    directs: [Direct; LINE_PLACES],
     n: usize,
     buf: &mut [u8],
     start: usize,
 ) -> usize
-    requires { ⌜ (n ≤ linePlaces) × Room (each (pairLine (now word)) (take n pairs)) start (now buf) ⌝ }
-    ensures { λ r. ⌜ Put (each (pairLine (now (word .entry))) (take n pairs)) start (now (buf .entry)) (now (buf .exit)) r ⌝ }
+    requires { ⌜ (n ≤ linePlaces) × Room (each (directLine (now word)) (take n directs)) start (now buf) ⌝ }
+    ensures { λ r. ⌜ Put (each (directLine (now (word .entry))) (take n directs)) start (now (buf .entry)) (now (buf .exit)) r ⌝ }
 {
     let mut at = start;
     let mut i = 0;
     while i < n {
-        let pair = pairs[i];
-        let m = line::put_two(word, pair.senior, pair.junior, &mut buf[at..]);
+        let direct = directs[i];
+        let m = line::put_two(word, direct.senior, direct.junior, &mut buf[at..]);
         at += m;
         i += 1;
     }

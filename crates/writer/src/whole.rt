@@ -24,13 +24,13 @@ fn put_sides(form: u32, user: SideValue, object: SideValue, buf: &mut [u8]) -> u
 {
     let user_widths = user.widths;
     let object_widths = object.widths;
-    let user_pairs = user.seniority;
-    let object_pairs = object.seniority;
+    let user_directs = user.seniority;
+    let object_directs = object.seniority;
     let mut at = line::put_one(&kind::POLICY, form, buf);
     at = lines::put_widths(&kind::UATTR, user_widths, user.attributes, buf, at);
     at = lines::put_widths(&kind::OATTR, object_widths, object.attributes, buf, at);
-    at = lines::put_pairs(&kind::USEN, user_pairs, user.lines, buf, at);
-    lines::put_pairs(&kind::OSEN, object_pairs, object.lines, buf, at)
+    at = lines::put_directs(&kind::USEN, user_directs, user.lines, buf, at);
+    lines::put_directs(&kind::OSEN, object_directs, object.lines, buf, at)
 }
 
 // The registers and the rules, from the user lines to the end line.

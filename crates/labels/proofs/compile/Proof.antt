@@ -5,7 +5,7 @@ use mathlib.Core.Bool.{true}
 use lib.ListN.{length-replicate}
 use borrow.Author.Needs.{needs}
 use borrow.Author.Tests.{not-true, not-false}
-use Rattle.policy.specs.Limits.{mostPairs}
+use Rattle.policy.specs.Limits.{mostTuples}
 use Rattle.policy.specs.Value.{policyOf}
 use Rattle.policy.specs.Valid.{valid}
 use Rattle.formula.proofs.Checked.{valid-fits}
@@ -34,7 +34,7 @@ seen : (c : tie.After-view-of) → ViewOf (policyOf (c .before .before .before .
 seen c = c .view-of .ensures _ (c .before .before .before .rows-of .ensures .source .sides)
 
 fill-requires : tie.Need-fill-requires
-fill-requires c κs = ((policyOf _, c .before .before .before .before .rows-of .ensures, seen (c .before)), length-replicate {A = ℕ} mostPairs 0)
+fill-requires c κs = ((policyOf _, c .before .before .before .before .rows-of .ensures, seen (c .before)), length-replicate {A = ℕ} mostTuples 0)
 
 store-requires : tie.Need-store-requires
 store-requires c κs = view-inside (seen (c .before .before .before .before .before .before))

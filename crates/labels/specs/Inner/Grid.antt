@@ -6,7 +6,7 @@ use mathlib.Core.List.{List}
 use lib.ListN.{getD}
 use Rattle.basis.specs.Lists.{over}
 use Rattle.basis.specs.Numbers.{upTo}
-use Rattle.policy.specs.Limits.{mostSets, mostPairs}
+use Rattle.policy.specs.Limits.{mostSets, mostTuples}
 use Rattle.policy.specs.Policy.{Policy, sets}
 use Rattle.formula.specs.Truth.{at}
 use Rattle.labels.specs.Labels.{label, labelCount, leader}
@@ -30,7 +30,7 @@ turnedView view = record { rows = view .columns; columns = view .rows; down = vi
 pub record Inside (view : View) : Type 0 where
   pub few-rows : view .rows ≤ mostSets
   pub few-columns : view .columns ≤ mostSets
-  pub inside : (u o : ℕ) → u < view .rows → o < view .columns → u * view .down + o * view .along < mostPairs
+  pub inside : (u o : ℕ) → u < view .rows → o < view .columns → u * view .down + o * view .along < mostTuples
 
 -- the user sets of a policy are the rows
 pub record ViewOf (p : Policy) (view : View) : Type 0 where

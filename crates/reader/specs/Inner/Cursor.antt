@@ -5,7 +5,7 @@ use mathlib.Core.Bool.{Bool, true, false, not}
 use mathlib.Core.List.{List, [], _∷_}
 use mathlib.Core.Option.{Option, some}
 use lib.ListN.{length, drop}
-use Rattle.basis.specs.Choice.{given, check, lowest}
+use Rattle.basis.specs.Choice.{given, check, firstBroken}
 use Rattle.text.specs.Kind.{layoutOf, placeOf, isKind}
 use Rattle.text.specs.Parts.{fields, lines}
 use Rattle.text.specs.declared.kind.Kind.{Kind}
@@ -29,7 +29,7 @@ fieldsAt t c = fields (between t (c .at) (c .end))
 -- the refusal of a line that breaks none of 2 to 4
 unfoldable pub refusalAt : Policy → Kind → List (List ℕ) → Option ℕ
 refusalAt p k fs =
-    lowest
+    firstBroken
     (check 5 (not (formFits (layoutOf k) fs))
     ∷ check 6 (not (lineInRange p (lineOf k fs)))
     ∷ check 7 (not (lineRises p (lineOf k fs)))

@@ -15,7 +15,7 @@ use Rattle.text.specs.declared.kind.Kind.the-variants.{Policy as PolicyKind, Os
 use Rattle.text.specs.declared.kind.Layout.the-variants.{One, Two}
 use Rattle.text.specs.declared.number.Numbers.{Numbers}
 use Rattle.words.specs.declared.Word.{Word}
-use Rattle.policy.specs.Checks.{SideSizes, Sizes, sizes, widthFits, pairFits, pairAbove, entryFits, inRange, rises, withForm, extended}
+use Rattle.policy.specs.Checks.{SideSizes, Sizes, sizes, widthFits, directFits, directAbove, entryFits, inRange, rises, withForm, extended}
 use Rattle.policy.specs.Limits.{mostValues, values}
 use Rattle.policy.specs.Policy.{Side, Rule, Policy}
 use Rattle.policy.specs.Value.{widthPlaces, linePlaces, sideValue, register, rulesValue, valueOf}
@@ -80,22 +80,22 @@ pub record Sized (x : Shape) : Type 0 where
 
 -- ---- seniorities
 
-pub record PairKind (k : Kind) (x : Listed k Direct) : Type 0 where
+pub record DirectKind (k : Kind) (x : Listed k Direct) : Type 0 where
   pub side : Policy → SideSizes
   pub layout : layoutOf k ≡ Two
   pub said : (n : Numbers) (ws : List Word) → x .said n ws ≡ direct (n .first) (n .second)
-  pub range : (p : Policy) (n : Numbers) (ws : List Word) → inRange k (p .form) (sizes p) n ws ≡ pairFits (side p) (n .first) (n .second)
-  pub rise : (p : Policy) (n : Numbers) → rises k p n ≡ given (last (x .items p)) true (pairAbove (n .first) (n .second))
+  pub range : (p : Policy) (n : Numbers) (ws : List Word) → inRange k (p .form) (sizes p) n ws ≡ directFits (side p) (n .first) (n .second)
+  pub rise : (p : Policy) (n : Numbers) → rises k p n ≡ given (last (x .items p)) true (directAbove (n .first) (n .second))
   pub kept : (ls : List Direct) (p : Policy) → side (x .with ls p) ≡ side p
 
-pub record PairsFit (k : Kind) (s : SideSizes) (x : Listed k Direct) (p : Policy) : Type 0 where
-  pub kind : PairKind k x
+pub record DirectsFit (k : Kind) (s : SideSizes) (x : Listed k Direct) (p : Policy) : Type 0 where
+  pub kind : DirectKind k x
   pub side : kind .side p ≡ s
 
 pub record SenioritiesFrom (t : List ℕ) (k : Kind) (s : Shape) (c : Cursor) (r : SenioritiesRead) : Type 0 where
-  pub pairs : List Direct
-  pub side : r .side ≡ record { attributes = s .attributes; widths = s .widths; lines = length pairs; seniority = padded linePlaces (direct 0 0) pairs }
-  pub lines : ReadBy t k (PairsFit k (sizesIn s)) (suc (placeOf k)) c (r .cursor) pairs
+  pub directs : List Direct
+  pub side : r .side ≡ record { attributes = s .attributes; widths = s .widths; lines = length directs; seniority = padded linePlaces (direct 0 0) directs }
+  pub lines : ReadBy t k (DirectsFit k (sizesIn s)) (suc (placeOf k)) c (r .cursor) directs
 
 -- ---- users and objects
 

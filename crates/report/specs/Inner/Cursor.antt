@@ -6,7 +6,7 @@ use mathlib.Core.List.{List, _++_}
 use lib.Dec.{leb, ltb}
 use lib.ListN.{length, take, drop}
 use Rattle.text.specs.Parts.{textOf}
-use Rattle.policy.specs.Limits.{mostPairs}
+use Rattle.policy.specs.Limits.{mostTuples}
 use Rattle.policy.specs.Policy.{Policy, total}
 use Rattle.formula.specs.Inner.Grant.{GrantsOf}
 use Rattle.formula.specs.Inner.Lane.{lanes}
@@ -71,7 +71,7 @@ isOver c = cond (ltb (c .held .from) (c .held .to)) false (cond (ltb (c .tuples 
 unfoldable pub remaining : Cursor → ℕ
 remaining c =
     (c .held .to - c .held .from)
-    + (lineRoom + 1) * ((marksEnd (c .tuples) - c .tuples .from) + (1 + mostPairs) * (c .rules .count - c .rule))
+    + (lineRoom + 1) * ((marksEnd (c .tuples) - c .tuples .from) + (1 + mostTuples) * (c .rules .count - c .rule))
 
 -- the first of the bytes that are left at c are put at the start of a buffer, and the answer's cursor is behind them
 pub record Handed (p : Policy) (c : Cursor) (entry exit : List ℕ) (r : Chunk) : Type 0 where

@@ -9,7 +9,7 @@ use borrow.Author.Tests.{lt-ltb, le-ltb, leb-true, leb-false, not-true, not-fals
 use borrow.Author.Needs.{needs}
 use lib.Dec.{leb}
 use lib.ListN.{length}
-use Rattle.basis.specs.Choice.{gives, refuses, lowest}
+use Rattle.basis.specs.Choice.{gives, refuses, firstBroken}
 use Rattle.policy.specs.Text.{textOf}
 use Rattle.policy.specs.Valid.{valid}
 use Rattle.policy.specs.Value.{policyOf}
@@ -23,18 +23,18 @@ use Rattle.writer.proofs.write.Tie as tie
 -- the answer and the buffer by the checks
 module _ (v : PolicyValue) (b : List ℕ) where
   invalid : valid v ≡ false → (refuses 11 ≡ write v b) × (b ≡ writeBuffer v b)
-  unfolding write writeBuffer lowest
+  unfolding write writeBuffer firstBroken
   invalid e = (rw e, rw e)
 
   module _ (e : valid v ≡ true) where
     short : length b < length (textOf (policyOf v)) → (refuses 20 ≡ write v b) × (b ≡ writeBuffer v b)
-    unfolding write writeBuffer lowest
+    unfolding write writeBuffer firstBroken
     short h =
         let t = lt-ltb (length b) (length (textOf (policyOf v))) h in
         (rw (e, t), rw (e, t))
 
     stored : {m : List ℕ} {r : ℕ} → Room (textOf (policyOf v)) 0 b → Put (textOf (policyOf v)) 0 b m r → (gives r ≡ write v b) × (m ≡ writeBuffer v b)
-    unfolding write writeBuffer lowest
+    unfolding write writeBuffer firstBroken
     stored h p =
         let t = le-ltb (length b) (length (textOf (policyOf v))) (omega (arith, h .fits)) in
         (rw (e, t) (ap gives (p .end ∙ zero-add _)), rw (e, t) (p .bytes))

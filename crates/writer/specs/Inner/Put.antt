@@ -69,8 +69,8 @@ unfoldable pub formulaLine : List ℕ → ℕ → List Slot → List ℕ
 formulaLine word a ws = word ++ (numberField a ++ (wordFields ws ++ feed))
 
 -- the lines of a seniority, of a user or an object, and of a rule
-abbrev pub pairLine : List ℕ → Direct → List ℕ
-pairLine word l = twoLine word (l .senior) (l .junior)
+abbrev pub directLine : List ℕ → Direct → List ℕ
+directLine word l = twoLine word (l .senior) (l .junior)
 
 abbrev pub entryLine : List ℕ → Entry → List ℕ
 entryLine word e = twoLine word (e .number) (e .set)

@@ -12,7 +12,7 @@ use Rattle.policy.specs.declared.value.SideValue.{SideValue}
 use Rattle.policy.specs.declared.value.Register.{Register}
 use Rattle.policy.specs.declared.value.Rules.{Rules}
 use Rattle.policy.specs.declared.value.PolicyValue.{PolicyValue}
-use Rattle.writer.specs.Inner.Put.{each, bareLine, oneLine, pairLine, entryLine, ruleLine, ruleWritable}
+use Rattle.writer.specs.Inner.Put.{each, bareLine, oneLine, directLine, entryLine, ruleLine, ruleWritable}
 
 -- counts are within their arrays, and words can be spelt
 pub record SideWithin (s : SideValue) : Type 0 where
@@ -39,7 +39,7 @@ sidesText form u o =
     oneLine (wordOf Policy) form
     ++ (each (oneLine (wordOf Uattr)) (take (u .attributes) (u .widths))
     ++ (each (oneLine (wordOf Oattr)) (take (o .attributes) (o .widths))
-    ++ (each (pairLine (wordOf Usen)) (take (u .lines) (u .seniority)) ++ each (pairLine (wordOf Osen)) (take (o .lines) (o .seniority)))))
+    ++ (each (directLine (wordOf Usen)) (take (u .lines) (u .seniority)) ++ each (directLine (wordOf Osen)) (take (o .lines) (o .seniority)))))
 
 abbrev pub listsText : Register → Register → Rules → List ℕ
 listsText us os rs =

@@ -3,7 +3,7 @@ use Prim.Native.Nat.{ℕ, _+_, _*_, _-_, _≤_, _<_}
 use mathlib.Core.Path.{_≡_, ap}
 use native.Mathlib.Omega.{arith}
 use borrow.Author.Needs.{needs}
-use Rattle.policy.specs.Limits.{mostPairs}
+use Rattle.policy.specs.Limits.{mostTuples}
 use Rattle.labels.proofs.Grids.{place-below, Entered, entered-more, entered-count, entered-all}
 use Rattle.labels.proofs.grid.fill.Statement.{statement}
 use Rattle.labels.proofs.grid.fill.Tie as tie
@@ -40,7 +40,7 @@ array-read-grid c = search needs
 -- the place is in the grid
 room : (c : tie.In-loop2 Inv-loop2 μ-loop2 Inv-loop μ-loop)
     → let l = c .before .before .before .before in
-    l .loop .u * l .before .args .view .columns + c .before .loop2 .o < mostPairs
+    l .loop .u * l .before .args .view .columns + c .before .loop2 .o < mostTuples
 room c =
     let l = c .before .before .before in
     let v = l .before .before .pre .0 .2 in

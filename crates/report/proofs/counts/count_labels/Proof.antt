@@ -8,7 +8,7 @@ use native.Mathlib.Omega.{arith}
 use borrow.Author.Needs.{needs}
 use lib.ListN.{length}
 use Rattle.basis.specs.Choice.{gives}
-use Rattle.policy.specs.Limits.{mostSets, mostPairs}
+use Rattle.policy.specs.Limits.{mostSets, mostTuples}
 use Rattle.policy.specs.Value.{policyOf}
 use Rattle.policy.specs.Valid.{valid}
 use Rattle.policy.specs.declared.value.PolicyValue.{PolicyValue}
@@ -23,7 +23,7 @@ use Rattle.report.proofs.counts.count_labels.Tie as tie
 
 -- the answer in buffers of these lengths
 module _ (v : PolicyValue) (e : valid v ≡ true) (users objects table : List ℕ)
-    (u : mostSets ≡ length users) (o : mostSets ≡ length objects) (t : mostPairs ≡ length table) where
+    (u : mostSets ≡ length users) (o : mostSets ≡ length objects) (t : mostTuples ≡ length table) where
   gives-counts : compile v (lent users objects table) ≡ gives (record { users = NU (policyOf v); objects = NO (policyOf v) })
   gives-counts = compiles v e (lent users objects table) (omega arith) (omega arith) (omega arith)
 

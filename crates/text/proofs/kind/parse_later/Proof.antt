@@ -1,5 +1,6 @@
 -- `text::kind::parse_later` meets its contract: each test settles one word.
 use borrow.Author.Needs.{needs}
+use Rattle.text.specs.Kind.{namedIn}
 use Rattle.text.proofs.Naming.{hit, miss, none}
 use Rattle.text.proofs.kind.parse_later.Statement.{statement}
 use Rattle.text.proofs.kind.parse_later.Tie as tie
@@ -40,8 +41,18 @@ equal-requires-4 c κs = search needs
 returns-4 : tie.Need-returns-4
 returns-4 c = search (hit, miss)
 
+slice-aggregate-equal-5 : tie.Need-slice-aggregate-equal-5
+slice-aggregate-equal-5 c = search needs
+
+equal-requires-5 : tie.Need-equal-requires-5
+equal-requires-5 c κs = search needs
+
 returns-5 : tie.Need-returns-5
-returns-5 c = search (miss, none)
+returns-5 c = search (hit, miss)
+
+returns-6 : tie.Need-returns-6
+unfolding namedIn
+returns-6 c = search (miss, none)
 
 pub parse-later-spec : {M : Type 1} → statement M
 parse-later-spec =
@@ -59,4 +70,7 @@ parse-later-spec =
     slice-aggregate-equal-4
     equal-requires-4
     returns-4
-    returns-5)
+    slice-aggregate-equal-5
+    equal-requires-5
+    returns-5
+    returns-6)

@@ -43,19 +43,19 @@ mul-l c = search needs
 array-copy-out-l : tie.Need-array-copy-out-l Inv-loop μ-loop Inv-loop2 μ-loop2
 array-copy-out-l c = search needs
 
-pair-fits-requires : tie.Need-pair-fits-requires Inv-loop μ-loop Inv-loop2 μ-loop2
-pair-fits-requires c κs = search needs
+direct-fits-requires : tie.Need-direct-fits-requires Inv-loop μ-loop Inv-loop2 μ-loop2
+direct-fits-requires c κs = search needs
 
 returns-2 : tie.Need-returns-2 Inv-loop μ-loop Inv-loop2 μ-loop2
-returns-2 c = risen-unfit (c .before .before .before .before .loop .inv) (direct 0 0) (search needs) (c .before .pair-fits .ensures) (not-true _ (c .if2 .taken))
+returns-2 c = risen-unfit (c .before .before .before .before .loop .inv) (direct 0 0) (search needs) (c .before .direct-fits .ensures) (not-true _ (c .if2 .taken))
 
-pair-rises-requires : tie.Need-pair-rises-requires Inv-loop μ-loop Inv-loop2 μ-loop2
-pair-rises-requires c κs = search needs
+direct-rises-requires : tie.Need-direct-rises-requires Inv-loop μ-loop Inv-loop2 μ-loop2
+direct-rises-requires c κs = search needs
 
 returns-3 : tie.Need-returns-3 Inv-loop μ-loop Inv-loop2 μ-loop2
 returns-3 c =
     risen-falls (c .before .before .before .before .before .before .loop .inv) (direct 0 0) (search needs)
-    (c .before .before .before .pair-fits .ensures) (not-false _ (c .before .before .if2 .left)) (c .before .pair-rises .ensures) (not-true _ (c .if3 .taken))
+    (c .before .before .before .direct-fits .ensures) (not-false _ (c .before .before .if2 .left)) (c .before .direct-rises .ensures) (not-true _ (c .if3 .taken))
 
 add-i : tie.Need-add-i Inv-loop μ-loop Inv-loop2 μ-loop2
 add-i c = search needs
@@ -66,7 +66,7 @@ loop-less c = search needs
 loop-again : tie.Need-loop-again Inv-loop μ-loop Inv-loop2 μ-loop2
 loop-again c =
     risen-more (c .before .before .before .before .before .before .loop .inv) (direct 0 0) (search needs)
-    (c .before .before .before .pair-fits .ensures) (not-false _ (c .before .before .if2 .left)) (c .before .pair-rises .ensures) (not-false _ (c .if3 .left))
+    (c .before .before .before .direct-fits .ensures) (not-false _ (c .before .before .if2 .left)) (c .before .direct-rises .ensures) (not-false _ (c .if3 .left))
 
 loop2-holds : tie.Need-loop2-holds Inv-loop μ-loop Inv-loop2 μ-loop2
 loop2-holds c = risen-blank (c .before .loop .inv) (c .loop-test .left)
@@ -107,9 +107,9 @@ lines-valid-spec =
     loop-holds
     mul-l
     array-copy-out-l
-    pair-fits-requires
+    direct-fits-requires
     returns-2
-    pair-rises-requires
+    direct-rises-requires
     returns-3
     add-i
     loop-less

@@ -1,15 +1,15 @@
 -- `vectors::decisions::unlike_runs` is safe and ends: i is a place of the buffer.
 use Prim.Native.Nat.{_-_, _≤_}
 use borrow.Author.Needs.{needs}
-use Rattle.policy.specs.Limits.{mostPairs}
+use Rattle.policy.specs.Limits.{mostTuples}
 use Rattle.vectors.proofs.decisions.unlike_runs.Statement.{statement}
 use Rattle.vectors.proofs.decisions.unlike_runs.Tie as tie
 
 abbrev Inv-loop : tie.InvT-loop
-Inv-loop runs buffer k₀ due₀ i₀ k due i = i ≤ mostPairs
+Inv-loop runs buffer k₀ due₀ i₀ k due i = i ≤ mostTuples
 
 abbrev μ-loop : tie.MeasureT-loop
-μ-loop runs buffer k₀ due₀ i₀ k due i = mostPairs - i
+μ-loop runs buffer k₀ due₀ i₀ k due i = mostTuples - i
 
 cast-at : tie.Need-cast-at Inv-loop μ-loop
 cast-at c = search needs

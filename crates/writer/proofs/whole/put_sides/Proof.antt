@@ -22,20 +22,20 @@ slice-aggregate-put-widths-2 c = search needs
 put-widths-requires-2 : tie.Need-put-widths-requires-2
 put-widths-requires-2 c κs = (c .before .before .before .before .before .before .before .before .before .before .before .before .before .before .before .before .before .pre .1 .widths, room-first _ _ (room-next (room-next (c .before .before .before .before .before .before .before .before .before .before .before .before .before .before .before .before .before .pre .2) (c .before .before .before .before .before .before .before .before .before .put-one .ensures)) (c .before .before .before .before .put-widths .ensures)))
 
-slice-aggregate-put-pairs : tie.Need-slice-aggregate-put-pairs
-slice-aggregate-put-pairs c = search needs
+slice-aggregate-put-directs : tie.Need-slice-aggregate-put-directs
+slice-aggregate-put-directs c = search needs
 
-put-pairs-requires : tie.Need-put-pairs-requires
-put-pairs-requires c κs = (c .before .before .before .before .before .before .before .before .before .before .before .before .before .before .before .before .before .before .before .before .before .before .pre .0 .lines, room-first _ _ (room-next (room-next (room-next (c .before .before .before .before .before .before .before .before .before .before .before .before .before .before .before .before .before .before .before .before .before .before .pre .2) (c .before .before .before .before .before .before .before .before .before .before .before .before .before .before .put-one .ensures)) (c .before .before .before .before .before .before .before .before .before .put-widths .ensures)) (c .before .before .before .before .put-widths2 .ensures)))
+put-directs-requires : tie.Need-put-directs-requires
+put-directs-requires c κs = (c .before .before .before .before .before .before .before .before .before .before .before .before .before .before .before .before .before .before .before .before .before .before .pre .0 .lines, room-first _ _ (room-next (room-next (room-next (c .before .before .before .before .before .before .before .before .before .before .before .before .before .before .before .before .before .before .before .before .before .before .pre .2) (c .before .before .before .before .before .before .before .before .before .before .before .before .before .before .put-one .ensures)) (c .before .before .before .before .before .before .before .before .before .put-widths .ensures)) (c .before .before .before .before .put-widths2 .ensures)))
 
-slice-aggregate-put-pairs-2 : tie.Need-slice-aggregate-put-pairs-2
-slice-aggregate-put-pairs-2 c = search needs
+slice-aggregate-put-directs-2 : tie.Need-slice-aggregate-put-directs-2
+slice-aggregate-put-directs-2 c = search needs
 
-put-pairs-requires-2 : tie.Need-put-pairs-requires-2
-put-pairs-requires-2 c κs = (c .before .before .before .before .before .before .before .before .before .before .before .before .before .before .before .before .before .before .before .before .before .before .before .before .before .before .before .pre .1 .lines, room-next (room-next (room-next (room-next (c .before .before .before .before .before .before .before .before .before .before .before .before .before .before .before .before .before .before .before .before .before .before .before .before .before .before .before .pre .2) (c .before .before .before .before .before .before .before .before .before .before .before .before .before .before .before .before .before .before .before .put-one .ensures)) (c .before .before .before .before .before .before .before .before .before .before .before .before .before .before .put-widths .ensures)) (c .before .before .before .before .before .before .before .before .before .put-widths2 .ensures)) (c .before .before .before .before .put-pairs .ensures))
+put-directs-requires-2 : tie.Need-put-directs-requires-2
+put-directs-requires-2 c κs = (c .before .before .before .before .before .before .before .before .before .before .before .before .before .before .before .before .before .before .before .before .before .before .before .before .before .before .before .pre .1 .lines, room-next (room-next (room-next (room-next (c .before .before .before .before .before .before .before .before .before .before .before .before .before .before .before .before .before .before .before .before .before .before .before .before .before .before .before .pre .2) (c .before .before .before .before .before .before .before .before .before .before .before .before .before .before .before .before .before .before .before .put-one .ensures)) (c .before .before .before .before .before .before .before .before .before .before .before .before .before .before .put-widths .ensures)) (c .before .before .before .before .before .before .before .before .before .put-widths2 .ensures)) (c .before .before .before .before .put-directs .ensures))
 
 returns : tie.Need-returns
-returns c = put-next (c .before .before .before .before .before .before .before .before .before .before .before .before .before .before .before .before .before .before .before .before .before .before .put-one .ensures) (put-next (c .before .before .before .before .before .before .before .before .before .before .before .before .before .before .before .before .before .put-widths .ensures) (put-next (c .before .before .before .before .before .before .before .before .before .before .before .before .put-widths2 .ensures) (put-next (c .before .before .before .before .before .before .before .put-pairs .ensures) (c .before .before .put-pairs2 .ensures))))
+returns c = put-next (c .before .before .before .before .before .before .before .before .before .before .before .before .before .before .before .before .before .before .before .before .before .before .put-one .ensures) (put-next (c .before .before .before .before .before .before .before .before .before .before .before .before .before .before .before .before .before .put-widths .ensures) (put-next (c .before .before .before .before .before .before .before .before .before .before .before .before .put-widths2 .ensures) (put-next (c .before .before .before .before .before .before .before .put-directs .ensures) (c .before .before .put-directs2 .ensures))))
 
 same-length : tie.Need-same-length
 same-length c = put-long (returns c)
@@ -50,9 +50,9 @@ put-sides-spec =
     put-widths-requires
     slice-aggregate-put-widths-2
     put-widths-requires-2
-    slice-aggregate-put-pairs
-    put-pairs-requires
-    slice-aggregate-put-pairs-2
-    put-pairs-requires-2
+    slice-aggregate-put-directs
+    put-directs-requires
+    slice-aggregate-put-directs-2
+    put-directs-requires-2
     same-length
     returns)

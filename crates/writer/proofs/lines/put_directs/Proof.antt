@@ -1,28 +1,28 @@
--- `writer::lines::put_pairs` meets its contract: after i turns the first i lines are put.
+-- `writer::lines::put_directs` meets its contract: after i turns the first i lines are put.
 use Prim.Native.Nat.{_-_}
 use native.Mathlib.Omega.{arith}
 use borrow.Author.Needs.{needs}
 use Rattle.basis.proofs.Lists.{long}
 use Rattle.seniority.specs.Seniority.{direct}
-use Rattle.writer.specs.Inner.Put.{pairLine}
+use Rattle.writer.specs.Inner.Put.{directLine}
 use Rattle.writer.proofs.Putting.{put-long, Run, run-start, run-end, run-fits, run-part, run-sum, run-line}
-use Rattle.writer.proofs.lines.put_pairs.Statement.{statement}
-use Rattle.writer.proofs.lines.put_pairs.Tie as tie
+use Rattle.writer.proofs.lines.put_directs.Statement.{statement}
+use Rattle.writer.proofs.lines.put_directs.Tie as tie
 
 abbrev Inv-loop : tie.InvT-loop
-Inv-loop word n buf₀ start pairs at₀ i₀ buf at i = Run (pairLine word) pairs n start buf₀ i buf at
+Inv-loop word n buf₀ start directs at₀ i₀ buf at i = Run (directLine word) directs n start buf₀ i buf at
 
 abbrev μ-loop : tie.MeasureT-loop
-μ-loop word n buf₀ start pairs at₀ i₀ buf at i = n - i
+μ-loop word n buf₀ start directs at₀ i₀ buf at i = n - i
 
 loop-holds : tie.Need-loop-holds Inv-loop μ-loop
 loop-holds c = run-start (search (needs, long)) (c .before .before .pre .1)
 
-mul-pair : tie.Need-mul-pair Inv-loop μ-loop
-mul-pair c = search needs
+mul-direct : tie.Need-mul-direct Inv-loop μ-loop
+mul-direct c = search needs
 
-array-copy-out-pair : tie.Need-array-copy-out-pair Inv-loop μ-loop
-array-copy-out-pair c = search needs
+array-copy-out-direct : tie.Need-array-copy-out-direct Inv-loop μ-loop
+array-copy-out-direct c = search needs
 
 sub-put-two : tie.Need-sub-put-two Inv-loop μ-loop
 sub-put-two c = run-fits (c .before .before .loop .inv)
@@ -54,15 +54,15 @@ returns c = run-end (c .before .loop .inv) (omega arith)
 same-length : tie.Need-same-length Inv-loop μ-loop
 same-length c = put-long (returns c)
 
-pub put-pairs-spec : {M : Type 1} → statement M
-put-pairs-spec =
+pub put-directs-spec : {M : Type 1} → statement M
+put-directs-spec =
     tie.close
     (tie.spec
     Inv-loop
     μ-loop
     loop-holds
-    mul-pair
-    array-copy-out-pair
+    mul-direct
+    array-copy-out-direct
     sub-put-two
     part-put-two-start
     part-put-two-end
