@@ -1,11 +1,12 @@
 -- What a policy text says: its lines by kind, in text order. Every definition of a policy's meaning speaks of this.
 use Prim.Native.Nat.{ℕ, zero, suc, _-_, _^_}
-use mathlib.Core.Bool.{cond}
+use mathlib.Core.Bool.{Bool, cond, _||_}
 use mathlib.Core.List.{List, [], _∷_}
 use mathlib.Core.Option.{Option, none, some}
 use lib.Dec.{eqb, ltb}
 use lib.ListN.{getD, take}
-use Rattle.basis.specs.Lists.{sum}
+use Rattle.basis.specs.Choice.{there}
+use Rattle.basis.specs.Lists.{any, sum}
 use Rattle.seniority.specs.declared.Direct.{Direct}
 use Rattle.words.specs.declared.Word.{Word}
 use Rattle.policy.specs.declared.value.Entry.{Entry}
@@ -68,3 +69,7 @@ setOfNumber (e ∷ es) n = cond (eqb (e .number) n) (some (e .set)) (setOfNumber
 unfoldable pub formulaIn : List Rule → ℕ → Option (List Word)
 formulaIn [] a = none
 formulaIn (r ∷ rs) a = cond (eqb (r .action) a) (some (r .words)) (formulaIn rs a)
+
+-- an action "with a rule or a pair"
+unfoldable pub named : Policy → ℕ → Bool
+named p a = there (formulaIn (p .rules) a) || any (λ x. eqb (x .action) a) (p .pairs)
