@@ -7,7 +7,7 @@ use Rattle.tuples.specs.declared.marks.Marks.{Marks}
 use Rattle.report.specs.Inner.Lines.{lineRoom}
 use Rattle.report.specs.Inner.Cursor.{marksEnd, remaining}
 use Rattle.report.specs.declared.cursor.Cursor.{Cursor}
-use Rattle.report.proofs.Left.{holding, listing, ruled, heldIn}
+use Rattle.report.proofs.Left.{holding, listing, begun, heldIn}
 
 -- other bytes held, and the rest as it was
 fewer : (n held rest all : ℕ) → held + rest + lineRoom < all → n ≤ lineRoom → (n - 0) + rest < all
@@ -27,7 +27,7 @@ module _ (c : Cursor) where
   unfolding remaining
   holding-falls d n bytes h l = fewer n (d .held .to - d .held .from) _ _ h l
 
-  pub rule-falls : (a : ℕ) (m : Marks) (n : ℕ) (bytes : List ℕ) → c .rule < c .rules .count → m .count ≤ mostBlocks → n ≤ lineRoom
-      → remaining (ruled c a m (heldIn bytes n)) < remaining c
+  pub action-falls : (a : ℕ) (m : Marks) (n : ℕ) (bytes : List ℕ) → c .done < c .listed .count → m .count ≤ mostBlocks → n ≤ lineRoom
+      → remaining (begun c a m (heldIn bytes n)) < remaining c
   unfolding remaining
-  rule-falls a m n bytes h b l = omega arith
+  action-falls a m n bytes h b l = omega arith

@@ -1,35 +1,31 @@
 -- What is left of a report at a cursor: the bytes held are handed out, lines of tuples are handed out or held, the next
--- rule's lines come up, and at the end nothing is left.
+-- action's block comes up, and at the end nothing is left.
 use Prim.Native.Nat.{ℕ, _+_, _-_, _*_, _≤_, _<_}
 use mathlib.Core.Path.{_≡_, refl, sym, ap, _∙_}
 use mathlib.Core.Bool.{Bool, true, false, cond}
 use mathlib.Core.List.{List, [], _∷_, _++_, append-assoc, map}
-use native.Mathlib.Numerals.{add-one}
 use native.Mathlib.Omega.{arith}
 use borrow.Author.Tests.{le-ltb, ltb-false, leb-true, leb-false}
 use lib.Dec.{leb, ltb}
-use lib.ListN.{length, getD, take, drop, length-take, List·getD-map, drop-of-length-le}
-use lib.Seq.{drop-cons, drop-drop, getD-take, take-add, take-at}
+use lib.ListN.{length, getD, take, drop, length-take, drop-of-length-le}
+use lib.Seq.{drop-drop, getD-take, take-add, take-at}
 use Rattle.basis.specs.Lists.{over}
 use Rattle.basis.specs.Numbers.{count, select}
 use Rattle.basis.proofs.Counting.{count-le, length-select}
+use Rattle.basis.proofs.Walk.{rest-next}
 use Rattle.text.specs.Parts.{lineFeed, textOf}
 use Rattle.policy.specs.Limits.{mostTuples}
-use Rattle.policy.specs.Policy.{Rule, Policy, total}
-use Rattle.policy.specs.Value.{ruleOf, rulesOf}
-use Rattle.policy.specs.declared.value.RuleValue.{RuleValue}
-use Rattle.policy.specs.declared.value.Rules.{Rules}
+use Rattle.policy.specs.Policy.{Policy, total}
 use Rattle.formula.specs.Inner.Lane.{lanes}
-use Rattle.formula.proofs.Granting.{noWords}
 use Rattle.tuples.specs.Tuples.{tuples}
 use Rattle.tuples.specs.Inner.Marks.{mostBlocks, marked, passing}
 use Rattle.tuples.specs.declared.marks.Marks.{Marks}
 use Rattle.tuples.proofs.From.{passing-all, passing-none}
 use Rattle.writer.specs.Inner.Put.{Room, Put, each, feed}
 use Rattle.writer.proofs.Putting.{put-long}
-use Rattle.report.specs.Report.{actionLine, tupleLine, rulesLines}
+use Rattle.report.specs.Report.{actionLine, tupleLine, blocks, listed}
 use Rattle.report.specs.Inner.Lines.{lineRoom, ended, tupleText, Some}
-use Rattle.report.specs.Inner.Cursor.{heldBytes, marksEnd, tuplesLeft, rulesLeft, leftOf, HeldFits, Standing, isOver, Handed, Same}
+use Rattle.report.specs.Inner.Cursor.{heldBytes, marksEnd, tuplesLeft, blocksLeft, leftOf, HeldFits, Standing, isOver, Handed, Same}
 use Rattle.report.specs.declared.lines.Lines.{Lines}
 use Rattle.report.specs.declared.cursor.Chunk.{Chunk}
 use Rattle.report.specs.declared.cursor.Cursor.{Cursor}
@@ -37,14 +33,15 @@ use Rattle.report.specs.declared.cursor.Held.{Held}
 
 -- a cursor with other bytes held, and one with other tuples
 abbrev pub holding : Cursor → Held → Cursor
-holding c h = record { source = c .source; rules = c .rules; rule = c .rule; tuples = c .tuples; held = h }
+holding c h = record { source = c .source; grants = c .grants; listed = c .listed; done = c .done; tuples = c .tuples; held = h }
 
 abbrev pub listing : Cursor → ℕ → Cursor
 listing c from =
     record {
       source = c .source;
-      rules = c .rules;
-      rule = c .rule;
+      grants = c .grants;
+      listed = c .listed;
+      done = c .done;
       tuples = record { action = c .tuples .action; values = c .tuples .values; from = from; marks = c .tuples .marks };
       held = c .held;
     }
@@ -97,13 +94,13 @@ module _ {p : Policy} {c : Cursor} (s : Standing p c) where
           put = y;
           stands = record {
             source = s .source;
-            stored = s .stored;
             grants = s .grants;
+            stored = s .stored;
             within = s .within;
             tuples = s .tuples;
             held = record { low = omega (arith, s .held .low); high = s .held .high; long = s .held .long };
           };
-          left = rw held-parts (append-assoc (take (c .held .from + k - c .held .from) (drop (c .held .from) (c .held .bytes))) (heldBytes less) (tuplesLeft (c .tuples) ++ rulesLeft p (c .rule)));
+          left = rw held-parts (append-assoc (take (c .held .from + k - c .held .from) (drop (c .held .from) (c .held .bytes))) (heldBytes less) (tuplesLeft (c .tuples) ++ blocksLeft p (c .done)));
         }
 
   -- ---- lines of tuples
@@ -119,13 +116,13 @@ module _ {p : Policy} {c : Cursor} (s : Standing p c) where
           put = y .put;
           stands = record {
             source = s .source;
-            stored = s .stored;
             grants = s .grants;
+            stored = s .stored;
             within = s .within;
             tuples = record { values = s .tuples .values; blocks = s .tuples .blocks; within = y .high };
             held = s .held;
           };
-          left = rw (held-none (c .held) h, y .left) (append-assoc (y .text) (tuplesLeft (listing c (r .next) .tuples)) (rulesLeft p (c .rule)));
+          left = rw (held-none (c .held) h, y .left) (append-assoc (y .text) (tuplesLeft (listing c (r .next) .tuples)) (blocksLeft p (c .done)));
         }
 
 -- bytes that would be handed out are held
@@ -135,11 +132,11 @@ unfolding leftOf
 handed-held {p} {c} {entry} {exit} {r} y l h =
     let s = y .stands in
     record {
-      stands = record { source = s .source; stored = s .stored; grants = s .grants; within = s .within; tuples = s .tuples; held = held-fits (y .put) l };
+      stands = record { source = s .source; grants = s .grants; stored = s .stored; within = s .within; tuples = s .tuples; held = held-fits (y .put) l };
       left = y .left ∙ rw (held-none (r .next .held) h, held-put (y .put));
     }
 
--- ---- the next rule
+-- ---- the next action
 
 -- lines with their line feeds, one after the other
 textOf-append : (xs ys : List (List ℕ)) → textOf (xs ++ ys) ≡ textOf xs ++ textOf ys
@@ -152,21 +149,23 @@ unfolding textOf each
 textOf-each line [] = refl
 textOf-each line (n ∷ ns) = rw (textOf-each line ns) (sym (append-assoc (line n) feed (each (λ k. ended (line k)) ns)))
 
--- the rule in place i of the value, and what stands for its tuples
-abbrev pub ruleAt : Rules → ℕ → RuleValue
-ruleAt rs i = getD (rs .entries) i noWords
+-- the next action, and what stands for the tuples of an action
+abbrev pub actionAt : Cursor → ℕ
+actionAt c = getD (c .listed .actions) (c .done) 0
 
 pub record Marking (p : Policy) (a : ℕ) (m : Marks) (n : ℕ) : Type 0 where
   pub blocks : m .count ≤ mostBlocks
   pub tuples : select (marked (m .words)) (m .count * lanes) ≡ tuples p a
   pub number : n ≡ count (marked (m .words)) (m .count * lanes)
 
-abbrev pub ruled : Cursor → ℕ → Marks → Held → Cursor
-ruled c a m h =
+-- the cursor in the block of its next action
+abbrev pub begun : Cursor → ℕ → Marks → Held → Cursor
+begun c a m h =
     record {
       source = c .source;
-      rules = c .rules;
-      rule = c .rule + 1;
+      grants = c .grants;
+      listed = c .listed;
+      done = c .done + 1;
       tuples = record { action = a; values = c .tuples .values; from = 0; marks = m };
       held = h;
     }
@@ -178,35 +177,31 @@ module _ {p : Policy} {a : ℕ} {m : Marks} {n : ℕ} (k : Marking p a m n) wher
   pub marking-few : n ≤ mostTuples
   marking-few = omega (arith, k .number, count-le (marked (m .words)) (m .count * lanes), k .blocks)
 
-module _ {p : Policy} {c : Cursor} (s : Standing p c) (h : c .rule < c .rules .count) where
+module _ {p : Policy} {c : Cursor} (s : Standing p c) (h : c .done < c .listed .count) where
   abbrev action : ℕ
-  action = ruleAt (c .rules) (c .rule) .action
+  action = actionAt c
 
-  next-rule : drop (c .rule) (p .rules) ≡ ruleOf (ruleAt (c .rules) (c .rule)) ∷ drop (c .rule + 1) (p .rules)
-  unfolding rulesOf
-  next-rule =
-      let n = c .rules .count in
-      let es = c .rules .entries in
-      let l : c .rule < length (p .rules) = omega (arith, s .stored) in
-      let g : getD (p .rules) (c .rule) (ruleOf noWords) ≡ ruleOf (ruleAt (c .rules) (c .rule)) =
-      ap (λ (rs : List Rule). getD rs (c .rule) (ruleOf noWords)) (s .grants .rules)
-      ∙ List·getD-map ruleOf (take n es) (c .rule) noWords ∙ ap ruleOf (getD-take n es (c .rule) noWords h) in
-      drop-cons (p .rules) (c .rule) (ruleOf noWords) l ∙ rw (g, add-one (c .rule))
+  next-action : drop (c .done) (listed p) ≡ action ∷ drop (c .done + 1) (listed p)
+  next-action =
+      let l : c .done < length (listed p) = omega (arith, s .stored .number) in
+      let g : getD (listed p) (c .done) 0 ≡ action =
+      ap (λ (xs : List ℕ). getD xs (c .done) 0) (sym (s .stored .actions)) ∙ getD-take (c .listed .count) (c .listed .actions) (c .done) 0 h in
+      rest-next 0 (listed p) (c .done) l ∙ rw g
 
-  rule-lines : rulesLeft p (c .rule)
-      ≡ ended (actionLine action (length (tuples p action))) ++ (each (tupleText action (total (p .object))) (tuples p action) ++ rulesLeft p (c .rule + 1))
-  unfolding rulesLines textOf ruleOf
-  rule-lines =
+  block-lines : blocksLeft p (c .done)
+      ≡ ended (actionLine action (length (tuples p action))) ++ (each (tupleText action (total (p .object))) (tuples p action) ++ blocksLeft p (c .done + 1))
+  unfolding blocks textOf
+  block-lines =
       let ts = tuples p action in
       let ls = map (tupleLine action (total (p .object))) ts in
-      let rest = rulesLines p (drop (c .rule + 1) (p .rules)) in
-      rw next-rule
+      let rest = blocks p (drop (c .done + 1) (listed p)) in
+      rw next-action
       (rw (textOf-append ls rest, textOf-each (tupleLine action (total (p .object))) ts)
       (sym (append-assoc (actionLine action (length ts)) feed (each (tupleText action (total (p .object))) ts ++ textOf rest))))
 
   module _ {m : Marks} {n : ℕ} (k : Marking p action m n) (held : c .held .to ≤ c .held .from) (over : marksEnd (c .tuples) ≤ c .tuples .from)
       {entry exit : List ℕ} {r : ℕ} (y : Put (ended (actionLine action n)) 0 entry exit r) (l : lineRoom ≡ length entry) where
-    all-tuples : tuplesLeft (ruled c action m (heldIn exit r) .tuples) ≡ each (tupleText action (total (p .object))) (tuples p action)
+    all-tuples : tuplesLeft (begun c action m (heldIn exit r) .tuples) ≡ each (tupleText action (total (p .object))) (tuples p action)
     all-tuples = rw (passing-all (marked (m .words)) (m .count * lanes), k .tuples, s .tuples .values)
 
     no-tuples : tuplesLeft (c .tuples) ≡ []
@@ -216,19 +211,19 @@ module _ {p : Policy} {c : Cursor} (s : Standing p c) (h : c .rule < c .rules .c
         passing-none (marked (c .tuples .marks .words)) (c .tuples .from) (marksEnd (c .tuples)) (s .tuples .within) (λ i x z. absurd (omega arith)) in
         rw e
 
-    pub rule-same : Same p c (ruled c action m (heldIn exit r))
+    pub action-same : Same p c (begun c action m (heldIn exit r))
     unfolding leftOf
-    rule-same =
+    action-same =
         record {
           stands = record {
             source = s .source;
-            stored = s .stored;
             grants = s .grants;
+            stored = s .stored;
             within = omega arith;
             tuples = record { values = s .tuples .values; blocks = k .blocks; within = omega arith };
             held = held-fits y l;
           };
-          left = rw (held-none (c .held) held, no-tuples, rule-lines, held-put y, all-tuples, marking-length k);
+          left = rw (held-none (c .held) held, no-tuples, block-lines, held-put y, all-tuples, marking-length k);
         }
 
 -- ---- the end
@@ -241,29 +236,29 @@ passed false false false e = (cc, cc, cc)
 
 module _ {p : Policy} {c : Cursor} (s : Standing p c) where
   pub over-none : isOver c ≡ true → leftOf p c ≡ []
-  unfolding isOver leftOf each rulesLines textOf
+  unfolding isOver leftOf each blocks textOf
   over-none e =
-      let t = passed (ltb (c .held .from) (c .held .to)) (ltb (c .tuples .from) (marksEnd (c .tuples))) (leb (c .rules .count) (c .rule)) e in
+      let t = passed (ltb (c .held .from) (c .held .to)) (ltb (c .tuples .from) (marksEnd (c .tuples))) (leb (c .listed .count) (c .done)) e in
       let a : c .held .to ≤ c .held .from = ltb-false (c .held .from) (c .held .to) (t .0) in
       let b : marksEnd (c .tuples) ≤ c .tuples .from = ltb-false (c .tuples .from) (marksEnd (c .tuples)) (t .1) in
-      let d : c .rules .count ≤ c .rule = leb-true (c .rules .count) (c .rule) (t .2) in
+      let d : c .listed .count ≤ c .done = leb-true (c .listed .count) (c .done) (t .2) in
       let q : passing (marked (c .tuples .marks .words)) (c .tuples .from) (marksEnd (c .tuples)) ≡ [] =
       passing-none (marked (c .tuples .marks .words)) (c .tuples .from) (marksEnd (c .tuples)) (s .tuples .within) (λ i x z. absurd (omega arith)) in
-      let w : drop (c .rule) (p .rules) ≡ [] = drop-of-length-le (p .rules) {i = c .rule} (omega (arith, s .stored)) in
+      let w : drop (c .done) (listed p) ≡ [] = drop-of-length-le (listed p) {i = c .done} (omega (arith, s .stored .number)) in
       rw (held-none (c .held) a, q, w)
 
--- a rule is left where nothing else is
-pub rule-left : (c : Cursor) → isOver c ≡ false → c .held .to ≤ c .held .from → marksEnd (c .tuples) ≤ c .tuples .from → c .rule < c .rules .count
+-- an action is left where nothing else is
+pub action-left : (c : Cursor) → isOver c ≡ false → c .held .to ≤ c .held .from → marksEnd (c .tuples) ≤ c .tuples .from → c .done < c .listed .count
 unfolding isOver
-rule-left c e a b =
-    leb-false (c .rules .count) (c .rule)
+action-left c e a b =
+    leb-false (c .listed .count) (c .done)
     (rw (le-ltb (c .held .from) (c .held .to) a, le-ltb (c .tuples .from) (marksEnd (c .tuples)) b) at e)
 
 -- ---- the start
 
--- before the first tuple the line held and the lines of all rules are left
-pub start-left : (p : Policy) (c : Cursor) {q : Policy} {line : List ℕ} → c .tuples .marks .count ≡ 0 → c .tuples .from ≡ 0 → c .rule ≡ 0 → heldBytes (c .held) ≡ line
-    → p ≡ q → line ++ textOf (rulesLines q (q .rules)) ≡ leftOf p c
+-- before the first tuple the line held and the blocks of all listed actions are left
+pub start-left : (p : Policy) (c : Cursor) {q : Policy} {line : List ℕ} → c .tuples .marks .count ≡ 0 → c .tuples .from ≡ 0 → c .done ≡ 0 → heldBytes (c .held) ≡ line
+    → p ≡ q → line ++ textOf (blocks q (listed q)) ≡ leftOf p c
 unfolding leftOf each
 start-left p c n f i h e =
     let z : passing (marked (c .tuples .marks .words)) (c .tuples .from) (marksEnd (c .tuples)) ≡ [] =

@@ -3,6 +3,7 @@ pub mod Whole
 pub mod Rest
 pub mod Going
 pub mod Left
+pub mod Collecting
 pub mod Falls
 pub mod Handing
 pub mod Answers

@@ -10,18 +10,18 @@ use borrow.Author.Tests.{ltb-false}
 use lib.Dec.{eqb, ltb}
 use lib.ListN.{length}
 use Rattle.basis.specs.Choice.{given}
-use Rattle.basis.specs.Lists.{sum}
+use Rattle.basis.specs.Lists.{any, sum}
+use Rattle.basis.specs.Numbers.{select}
 use Rattle.text.specs.Kind.{isKind}
 use Rattle.text.specs.Parts.{TextLine, lineFeed, onto, split, linesOf, lines, textOf}
 use Rattle.text.specs.declared.kind.Kind.the-variants.{End}
 use Rattle.policy.specs.Answers.{numberOf, valueIn, ReadAs}
-use Rattle.policy.specs.Limits.{textBytes}
-use Rattle.policy.specs.Policy.{Policy, blankSide, blank, total}
+use Rattle.policy.specs.Limits.{textBytes, actions}
+use Rattle.policy.specs.Policy.{Policy, blankSide, blank, total, formulaIn, named}
 use Rattle.policy.specs.Read.{Outcome, Accepted, Refused, State, start, lineRefusal, lineAfter, ending, readLines, readText}
 use Rattle.policy.specs.Valid.{valid}
-use Rattle.policy.specs.Value.{sideValue, rulesValue, valueOf, sideOf, policyOf}
+use Rattle.policy.specs.Value.{sideValue, rulesValue, pairsValue, valueOf, sideOf, policyOf}
 use Rattle.policy.specs.declared.refusal.Refusal.{Refusal}
-use Rattle.policy.specs.declared.value.PolicyValue.{PolicyValue}
 use Rattle.policy.specs.declared.value.Reading.{Reading}
 use Rattle.policy.specs.declared.value.Verdict.the-variants.{Accepted as AcceptedText, Refused as RefusedText}
 use Rattle.policy.proofs.Valid.{yielded-valid}
@@ -30,7 +30,7 @@ use Rattle.formula.specs.Inner.Fits.{SideFits, ValueFits}
 use Rattle.formula.proofs.Checked.{valid-fits}
 use Rattle.labels.specs.Compile.{NU, NO}
 use Rattle.writer.specs.Inner.Put.{feed}
-use Rattle.report.specs.Report.{labelsLine, refusalLine, rulesLines, report}
+use Rattle.report.specs.Report.{labelsLine, refusalLine, blocks, listed, report}
 use Rattle.report.specs.Inner.Lines.{ended, firstLine}
 
 -- a separator starts one part more
@@ -86,10 +86,15 @@ abbrev policyIn : Outcome → Policy
 policyIn (Accepted p) = p
 policyIn (Refused n l) = blank
 
-pub report-is : (o : Outcome) → report o ≡ ended (firstLine o) ++ textOf (rulesLines (policyIn o) (policyIn o .rules))
-unfolding report firstLine textOf rulesLines blank
-report-is (Accepted p) = sym (append-assoc (labelsLine (NU p) (NO p)) feed (textOf (rulesLines p (p .rules))))
-report-is (Refused n l) = sym (append-nil (ended (refusalLine n l)))
+-- no action of the blank policy is listed
+blank-none : listed blank ≡ []
+unfolding blank select actions named formulaIn any
+blank-none = refl
+
+pub report-is : (o : Outcome) → report o ≡ ended (firstLine o) ++ textOf (blocks (policyIn o) (listed (policyIn o)))
+unfolding report firstLine textOf blocks
+report-is (Accepted p) = sym (append-assoc (labelsLine (NU p) (NO p)) feed (textOf (blocks p (listed p))))
+report-is (Refused n l) = rw blank-none (sym (append-nil (ended (refusalLine n l))))
 
 abbrev refusalOf : Option (ℕ × ℕ) → ℕ × ℕ
 refusalOf none = (0, 0)
@@ -103,11 +108,6 @@ module _ {r : Reading} where
 
   pub read-policy : (o : Outcome) → ReadAs o r → policyOf (r .policy) ≡ policyIn o
   read-policy o x = ap policyOf (read-value o x) ∙ policy-value (policyIn o)
-
-  -- all its rules are in their places
-  pub read-stored : (o : Outcome) → ReadAs o r → length (policyOf (r .policy) .rules) ≡ r .policy .rules .count
-  unfolding valueOf rulesValue
-  read-stored o x = ap (λ (p : Policy). length (p .rules)) (read-policy o x) ∙ sym (ap (λ (v : PolicyValue). v .rules .count) (read-value o x))
 
   -- the first line
   pub accepted-first : (o : Outcome) → ReadAs o r → r .verdict ≡ AcceptedText
@@ -135,8 +135,14 @@ unfolding sideValue sideOf total sum
 blank-side = record { most = omega arith; lines = omega arith; ordered = tt }
 
 blank-fits : ValueFits (valueOf blank)
-unfolding valueOf blank rulesValue
-blank-fits = record { user = blank-side; object = blank-side; rules = record { count = omega arith; each = λ x m. absurd (List·Memᴰ·not-nil m) } }
+unfolding valueOf blank rulesValue pairsValue
+blank-fits =
+    record {
+      user = blank-side;
+      object = blank-side;
+      rules = record { count = omega arith; each = λ x m. absurd (List·Memᴰ·not-nil m) };
+      pairs = record { count = omega arith; each = λ x m. absurd (List·Memᴰ·not-nil m) };
+    }
 
 module _ (t : List ℕ) {r : Reading} where
   valid-cases : (o : Outcome) → readText t ≡ o → ReadAs o r → r .verdict ≡ AcceptedText → valid (r .policy) ≡ true

@@ -1,11 +1,13 @@
--- What the lister writes for a text: document 01, "One text through the lister".
+-- What the lister writes for a text: document 01, "One text through the lister", and document 02, slip 1.
 use Prim.Native.Nat.{ℕ, zero, suc, _/_, _%_, _^_}
 use mathlib.Core.List.{List, [], _∷_, _++_, map}
 use lib.ListN.{length, take, drop}
 use Rattle.basis.specs.Bytes.{bytes}
+use Rattle.basis.specs.Numbers.{select}
 use Rattle.text.specs.Number.{decimal}
 use Rattle.text.specs.Parts.{comma, join, textOf}
-use Rattle.policy.specs.Policy.{Rule, Policy, total}
+use Rattle.policy.specs.Limits.{actions}
+use Rattle.policy.specs.Policy.{Policy, total, named}
 use Rattle.policy.specs.Read.{Outcome, Accepted, Refused}
 use Rattle.tuples.specs.Tuples.{tuples}
 use Rattle.labels.specs.Compile.{NU, NO}
@@ -22,7 +24,7 @@ refusalLine number line = lineOf (bytes "refused") (number ∷ line ∷ [])
 abbrev pub labelsLine : ℕ → ℕ → List ℕ
 labelsLine users objects = lineOf (bytes "labels") (users ∷ objects ∷ [])
 
--- "then for each rule, in text order, its action and count of tuples"
+-- "its action and count of tuples"
 abbrev pub actionLine : ℕ → ℕ → List ℕ
 actionLine action count = lineOf (bytes "action") (action ∷ count ∷ [])
 
@@ -31,18 +33,23 @@ actionLine action count = lineOf (bytes "action") (action ∷ count ∷ [])
 abbrev pub tupleLine : ℕ → ℕ → ℕ → List ℕ
 tupleLine action values n = lineOf (bytes "tuple") (action ∷ n / 2 ^ values ∷ n % 2 ^ values ∷ [])
 
-abbrev pub ruleLines : Policy → Rule → List (List ℕ)
-ruleLines p r =
-    let ts = tuples p (r .action) in
-    actionLine (r .action) (length ts) ∷ map (tupleLine (r .action) (total (p .object))) ts
+-- the lines of an action, and those of some actions
+abbrev pub block : Policy → ℕ → List (List ℕ)
+block p a =
+    let ts = tuples p a in
+    actionLine a (length ts) ∷ map (tupleLine a (total (p .object))) ts
 
-unfoldable pub rulesLines : Policy → List Rule → List (List ℕ)
-rulesLines p [] = []
-rulesLines p (r ∷ rs) = ruleLines p r ++ rulesLines p rs
+unfoldable pub blocks : Policy → List ℕ → List (List ℕ)
+blocks p [] = []
+blocks p (a ∷ rest) = block p a ++ blocks p rest
+
+-- "a block to every action with a rule or a pair, in rising order"
+abbrev pub listed : Policy → List ℕ
+listed p = select (named p) (actions (p .form))
 
 -- these lines, each ended by a line feed
 unfoldable pub report : Outcome → List ℕ
-report (Accepted p) = textOf (labelsLine (NU p) (NO p) ∷ rulesLines p (p .rules))
+report (Accepted p) = textOf (labelsLine (NU p) (NO p) ∷ blocks p (listed p))
 report (Refused n l) = textOf (refusalLine n l ∷ [])
 
 -- ---- in chunks

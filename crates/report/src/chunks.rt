@@ -17,8 +17,11 @@ use crate::cursor::Cursor;
 use crate::cursor::Held;
 use crate::cursor::Tuples;
 use crate::lines;
+use crate::listed;
 use formula::attributes;
 use formula::blocks;
+use formula::grant;
+use policy::limits;
 use policy::refusal::number_of;
 use policy::value::Reading;
 use policy::value::Verdict;
@@ -65,11 +68,13 @@ pub fn start(text: &[u8]) -> Cursor
         from: 0,
         marks,
     };
-    let rules = policy.rules;
+    let grants = grant::of_policy(policy);
+    let listed = listed::of_grants(grants, limits::actions(policy.form));
     Cursor {
         source,
-        rules,
-        rule: 0,
+        grants,
+        listed,
+        done: 0,
         tuples,
         held,
     }

@@ -8,11 +8,11 @@ ghost use Rattle.report.specs.Inner.Lines.{lineRoom};
 ghost use Rattle.report.specs.Inner.Cursor.{Standing, Handed, Same, marksEnd, isOver, remaining};
 use crate::lines;
 use crate::lines::ROOM;
+use crate::listed::Listed;
 use formula::blocks::Source;
 use formula::grant;
 use formula::grant::Grants;
 use formula::side::LANES;
-use policy::value::Rules;
 use tuples::blocks;
 use tuples::marks;
 use tuples::marks::Marks;
@@ -33,11 +33,12 @@ pub struct Tuples {
     pub marks: Marks,
 }
 
-// What is left: the bytes held, then the lines of these tuples, then those of the rules from `rule` on.
+// What is left: the bytes held, then the lines of these tuples, then the blocks of the listed actions from `done` on.
 pub struct Cursor {
     pub source: Source,
-    pub rules: Rules,
-    pub rule: usize,
+    pub grants: Grants,
+    pub listed: Listed,
+    pub done: usize,
     pub tuples: Tuples,
     pub held: Held,
 }
@@ -69,8 +70,8 @@ pub fn is_over(c: Cursor) -> bool
     if tuples.from < marks.count * LANES {
         return false;
     }
-    let rules = c.rules;
-    rules.count <= c.rule
+    let listed = c.listed;
+    listed.count <= c.done
 }
 
 fn least(a: usize, b: usize) -> usize
@@ -146,18 +147,18 @@ fn hold_tuples(c: Cursor) -> Cursor
     next
 }
 
-// The tuples of the next rule's action, with the action's line held back.
-fn with_rule(c: Cursor) -> Cursor
-    requires { ⌜ ((p : Policy) × Standing p c) × (c .held .to ≤ c .held .from) × (marksEnd (c .tuples) ≤ c .tuples .from) × (c .rule < c .rules .count) ⌝ }
+// The tuples of the next action, with the action's line held back.
+fn with_action(c: Cursor) -> Cursor
+    requires { ⌜ ((p : Policy) × Standing p c) × (c .held .to ≤ c .held .from) × (marksEnd (c .tuples) ≤ c .tuples .from) × (c .done < c .listed .count) ⌝ }
     ensures { λ r. ⌜ ((p : Policy) → Standing p c → Same p c r) × (remaining r < remaining c) ⌝ }
 {
-    let rules = c.rules;
-    let entries = rules.entries;
-    let i = c.rule;
-    let rule = entries[i];
-    let action = rule.action;
+    let listed = c.listed;
+    let actions = listed.actions;
+    let i = c.done;
+    let action = actions[i];
     let source = c.source;
-    let marks = blocks::marks(source, grant::of_action(Grants { rules }, action));
+    let grants = c.grants;
+    let marks = blocks::marks(source, grant::of_action(grants, action));
     let words = marks.words;
     let count = marks::count(&words, marks.count);
     let mut line = blank();
@@ -176,8 +177,9 @@ fn with_rule(c: Cursor) -> Cursor
     };
     Cursor {
         source,
-        rules,
-        rule: i + 1,
+        grants,
+        listed,
+        done: i + 1,
         tuples,
         held,
     }
@@ -195,7 +197,7 @@ pub fn step(c: Cursor, buf: &mut [u8]) -> Chunk
     let tuples = c.tuples;
     let marks = tuples.marks;
     if marks.count * LANES <= tuples.from {
-        let next = with_rule(c);
+        let next = with_action(c);
         return Chunk { count: 0, next };
     }
     if buf.len() < ROOM {

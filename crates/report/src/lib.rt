@@ -3,6 +3,7 @@ pub mod chunks;
 mod counts;
 mod cursor;
 mod lines;
+mod listed;
 
 pub use cursor::Chunk;
 pub use cursor::Cursor;

@@ -6,19 +6,20 @@ use mathlib.Core.List.{List, _++_}
 use lib.Dec.{leb, ltb}
 use lib.ListN.{length, take, drop}
 use Rattle.text.specs.Parts.{textOf}
-use Rattle.policy.specs.Limits.{mostTuples}
+use Rattle.policy.specs.Limits.{mostActions, mostTuples}
 use Rattle.policy.specs.Policy.{Policy, total}
 use Rattle.formula.specs.Inner.Grant.{GrantsOf}
 use Rattle.formula.specs.Inner.Lane.{lanes}
 use Rattle.formula.specs.Inner.Source.{SourceOf}
 use Rattle.tuples.specs.Inner.Marks.{mostBlocks, marked, passing}
 use Rattle.writer.specs.Inner.Put.{Put, each}
-use Rattle.report.specs.Report.{rulesLines}
+use Rattle.report.specs.Report.{blocks, listed}
 use Rattle.report.specs.Inner.Lines.{lineRoom, tupleText}
 use Rattle.report.specs.declared.cursor.Chunk.{Chunk}
 use Rattle.report.specs.declared.cursor.Cursor.{Cursor}
 use Rattle.report.specs.declared.cursor.Held.{Held}
 use Rattle.report.specs.declared.cursor.Tuples.{Tuples}
+use Rattle.report.specs.declared.listed.Listed.{Listed}
 
 -- the bytes held back
 abbrev pub heldBytes : Held → List ℕ
@@ -31,13 +32,19 @@ marksEnd t = t .marks .count * lanes
 abbrev pub tuplesLeft : Tuples → List ℕ
 tuplesLeft t = each (tupleText (t .action) (t .values)) (passing (marked (t .marks .words)) (t .from) (marksEnd t))
 
--- the lines of the rules from the next one on
-abbrev pub rulesLeft : Policy → ℕ → List ℕ
-rulesLeft p i = textOf (rulesLines p (drop i (p .rules)))
+-- the blocks of the listed actions from the next one on
+abbrev pub blocksLeft : Policy → ℕ → List ℕ
+blocksLeft p i = textOf (blocks p (drop i (listed p)))
 
 -- what is left
 unfoldable pub leftOf : Policy → Cursor → List ℕ
-leftOf p c = heldBytes (c .held) ++ (tuplesLeft (c .tuples) ++ rulesLeft p (c .rule))
+leftOf p c = heldBytes (c .held) ++ (tuplesLeft (c .tuples) ++ blocksLeft p (c .done))
+
+-- these actions stand in the first places
+pub record Stores (xs : List ℕ) (l : Listed) : Type 0 where
+  pub number : l .count ≡ length xs
+  pub most : l .count ≤ mostActions
+  pub actions : take (l .count) (l .actions) ≡ xs
 
 pub record HeldFits (h : Held) : Type 0 where
   pub low : h .from ≤ h .to
@@ -52,9 +59,9 @@ pub record TuplesFit (p : Policy) (t : Tuples) : Type 0 where
 -- the cursor is one of this policy
 pub record Standing (p : Policy) (c : Cursor) : Type 0 where
   pub source : SourceOf p (c .source)
-  pub stored : length (p .rules) ≡ c .rules .count
-  pub grants : GrantsOf p (record { rules = c .rules })
-  pub within : c .rule ≤ c .rules .count
+  pub grants : GrantsOf p (c .grants)
+  pub stored : Stores (listed p) (c .listed)
+  pub within : c .done ≤ c .listed .count
   pub tuples : TuplesFit p (c .tuples)
   pub held : HeldFits (c .held)
 
@@ -64,14 +71,14 @@ Left c left = (p : Policy) × Standing p c × (left ≡ leftOf p c)
 
 -- nothing is left to work out or to hand out
 unfoldable pub isOver : Cursor → Bool
-isOver c = cond (ltb (c .held .from) (c .held .to)) false (cond (ltb (c .tuples .from) (marksEnd (c .tuples))) false (leb (c .rules .count) (c .rule)))
+isOver c = cond (ltb (c .held .from) (c .held .to)) false (cond (ltb (c .tuples .from) (marksEnd (c .tuples))) false (leb (c .listed .count) (c .done)))
 
 -- a number that falls as a report is handed out: a byte held back counts one, a pair that may be a tuple more than its
--- line, a rule more than all pairs
+-- line, an action more than all pairs
 unfoldable pub remaining : Cursor → ℕ
 remaining c =
     (c .held .to - c .held .from)
-    + (lineRoom + 1) * ((marksEnd (c .tuples) - c .tuples .from) + (1 + mostTuples) * (c .rules .count - c .rule))
+    + (lineRoom + 1) * ((marksEnd (c .tuples) - c .tuples .from) + (1 + mostTuples) * (c .listed .count - c .done))
 
 -- the first of the bytes that are left at c are put at the start of a buffer, and the answer's cursor is behind them
 pub record Handed (p : Policy) (c : Cursor) (entry exit : List ℕ) (r : Chunk) : Type 0 where

@@ -1,11 +1,15 @@
--- `report::chunks::start` meets its contract: what is left is the first line and the lines of all rules.
-use mathlib.Core.Path.{refl, _∙_}
+-- `report::chunks::start` meets its contract: what is left is the first line and the blocks of all listed actions.
+use mathlib.Core.Path.{refl, ap, _∙_}
 use native.Mathlib.Omega.{arith}
 use borrow.Author.Needs.{needs}
+use Rattle.basis.specs.Numbers.{select}
+use Rattle.policy.specs.Policy.{Policy, named}
 use Rattle.policy.specs.Read.{readText}
 use Rattle.policy.specs.Value.{policyOf}
+use Rattle.policy.proofs.Forms.{actions-most}
+use Rattle.report.specs.Inner.Cursor.{Stores}
 use Rattle.report.proofs.Left.{start-left}
-use Rattle.report.proofs.Reading.{read-fits, read-stored, read-policy, report-is}
+use Rattle.report.proofs.Reading.{read-fits, read-policy, report-is}
 use Rattle.report.proofs.chunks.start.Statement.{statement}
 use Rattle.report.proofs.chunks.start.Tie as tie
 
@@ -26,23 +30,32 @@ total-requires c κs = search needs
 none-requires : tie.Need-none-requires
 none-requires c κs = search needs
 
+of-policy-requires : tie.Need-of-policy-requires
+of-policy-requires c κs = read-fits (c .before .before .before .before .before .before .before .before .before .before .before .args .text .now) (c .before .before .before .before .before .before .before .before .before .read .ensures)
+
+actions-requires : tie.Need-actions-requires
+actions-requires c κs = search needs
+
+of-grants-requires : tie.Need-of-grants-requires
+of-grants-requires c κs = ((_, c .before .of-policy .ensures), rw (c .actions .ensures) (actions-most _))
+
 returns : tie.Need-returns
 unfolding policyOf
 returns c =
-    let t = c .before .before .before .before .before .before .before .before .before .before .before .before .args .text .now in
-    let r = c .before .before .before .before .before .before .before .before .before .before .read in
+    let t = c .before .before .before .before .before .before .before .before .before .before .before .before .before .before .args .text .now in
+    let r = c .before .before .before .before .before .before .before .before .before .before .before .before .read in
     let p = policyOf (r .result .policy) in
-    let f = read-fits t (r .ensures) in
-    let source = c .before .before .before .before .before .source-of .ensures p refl refl in
-    let held = c .before .before .before .before .before .before .before .before .before .first-line .ensures in
-    let none = c .before .none .ensures in (
+    let grants = c .before .before .of-policy .ensures in
+    let source = c .before .before .before .before .before .before .before .source-of .ensures p refl refl in
+    let held = c .before .before .before .before .before .before .before .before .before .before .before .first-line .ensures in
+    let none = c .before .before .before .none .ensures in (
       p,
       record {
         source = source;
-        stored = read-stored (readText t) (r .ensures);
-        grants = record { fit = f .rules; rules = refl };
+        grants = grants;
+        stored = rw (c .before .actions .ensures) at (c .of-grants .ensures p grants);
         within = omega arith;
-        tuples = record { values = c .before .before .total .ensures (p .object) (source .sides .object); blocks = omega (arith, none); within = omega arith };
+        tuples = record { values = c .before .before .before .before .total .ensures (p .object) (source .sides .object); blocks = omega (arith, none); within = omega arith };
         held = held .0;
       },
       report-is (readText t) ∙ start-left p _ none refl refl (held .1 t (r .ensures)) (read-policy (readText t) (r .ensures)),
@@ -57,4 +70,7 @@ start-spec =
     source-of-requires
     total-requires
     none-requires
+    of-policy-requires
+    actions-requires
+    of-grants-requires
     returns)

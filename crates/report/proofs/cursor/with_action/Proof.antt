@@ -1,18 +1,18 @@
--- `report::cursor::with_rule` meets its contract: the lines of the next rule are its action's line and its tuples'.
+-- `report::cursor::with_action` meets its contract: the block of the next action is its line and its tuples'.
 use native.Mathlib.Omega.{arith}
 use borrow.Author.Needs.{needs}
 use Rattle.policy.specs.Policy.{Policy}
 use Rattle.report.specs.Inner.Cursor.{Standing}
-use Rattle.report.proofs.Left.{ruleAt, Marking, marking-few, rule-same}
-use Rattle.report.proofs.Falls.{rule-falls}
-use Rattle.report.proofs.cursor.with_rule.Statement.{statement}
-use Rattle.report.proofs.cursor.with_rule.Tie as tie
+use Rattle.report.proofs.Left.{actionAt, Marking, marking-few, action-same}
+use Rattle.report.proofs.Falls.{action-falls}
+use Rattle.report.proofs.cursor.with_action.Statement.{statement}
+use Rattle.report.proofs.cursor.with_action.Tie as tie
 
-mul-rule : tie.Need-mul-rule
-mul-rule c = let s = c .before .before in omega (arith, s .pre, s .pre .0 .1 .grants .fit .count)
+mul-action : tie.Need-mul-action
+mul-action c = let s = c .before .before in omega (arith, s .pre, s .pre .0 .1 .stored .most)
 
-array-copy-out-rule : tie.Need-array-copy-out-rule
-array-copy-out-rule c = let s = c .before .before in omega (arith, s .pre, s .pre .0 .1 .grants .fit .count)
+array-read-action : tie.Need-array-read-action
+array-read-action c = let s = c .before .before in omega (arith, s .pre, s .pre .0 .1 .stored .most)
 
 of-action-requires : tie.Need-of-action-requires
 of-action-requires c κs = let x = c .before .before .before .before .pre .0 in (x .0, x .1 .grants)
@@ -25,9 +25,9 @@ marks-requires c κs =
 count-requires : tie.Need-count-requires
 count-requires c κs = c .before .before .marks .ensures .0
 
--- the marks and their number are those of the rule's action
+-- the marks and their number are those of the action
 marking : (c : tie.After-count) (p : Policy) → Standing p (c .before .before .before .before .before .before .before .before .before .args .c)
-    → Marking p (ruleAt (c .before .before .before .before .before .before .before .before .before .args .c .rules) (c .before .before .before .before .before .before .before .before .before .args .c .rule) .action) (c .before .before .before .marks .result) (c .count .result)
+    → Marking p (actionAt (c .before .before .before .before .before .before .before .before .before .args .c)) (c .before .before .before .marks .result) (c .count .result)
 marking c p x =
     let m = c .before .before .before in
     record { blocks = m .marks .ensures .0; tuples = m .marks .ensures .1 p _ (x .source) (m .before .of-action .ensures p (x .grants)); number = c .count .ensures }
@@ -47,23 +47,23 @@ action-line-requires : tie.Need-action-line-requires
 action-line-requires c κs = omega (arith, c .before .blank .ensures)
 
 add-t16 : tie.Need-add-t16
-add-t16 c = let s = c .before .before .before .before .before .before .before .before .before .before .before .before .before .before in omega (arith, s .pre, s .pre .0 .1 .grants .fit .count)
+add-t16 c = let s = c .before .before .before .before .before .before .before .before .before .before .before .before .before .before in omega (arith, s .pre, s .pre .0 .1 .stored .most)
 
 returns : tie.Need-returns
 returns c =
     let s = c .before .before .before .before .before .before .before .before .before .before .before .before .before .before in
     let y = c .before .before .action-line .ensures in
     let l = c .before .before .before .before .blank .ensures in (
-      λ p x. rule-same x (s .pre .3) (marking (c .before .before .before .before .before) p x) (s .pre .1) (s .pre .2) y l,
-      rule-falls (s .args .c) _ (c .before .before .before .before .before .before .before .before .marks .result) _ _ (s .pre .3) (c .before .before .before .before .before .before .before .before .marks .ensures .0) (omega (arith, y .fits, l)),
+      λ p x. action-same x (s .pre .3) (marking (c .before .before .before .before .before) p x) (s .pre .1) (s .pre .2) y l,
+      action-falls (s .args .c) _ (c .before .before .before .before .before .before .before .before .marks .result) _ _ (s .pre .3) (c .before .before .before .before .before .before .before .before .marks .ensures .0) (omega (arith, y .fits, l)),
     )
 
-pub with-rule-spec : {M : Type 1} → statement M
-with-rule-spec =
+pub with-action-spec : {M : Type 1} → statement M
+with-action-spec =
     tie.close
     (tie.spec
-    mul-rule
-    array-copy-out-rule
+    mul-action
+    array-read-action
     of-action-requires
     marks-requires
     count-requires
