@@ -1,8 +1,8 @@
--- What the answers of the checks rest on: sums and attributes place by place, and one law for each answer of a width, a
--- pair and a set.
+-- What the answers of the checks rest on: tests in turn, sums and attributes place by place, and one law for each answer
+-- of a width, a direct seniority and a set.
 use Prim.Native.Nat.{ℕ, suc, _+_, _-_, _^_, _≤_, _<_}
 use mathlib.Core.Path.{_≡_, refl}
-use mathlib.Core.Bool.{false, cond, and-true, and-false, or-false}
+use mathlib.Core.Bool.{Bool, false, cond, _&&_, _||_, and-true, and-false, or-false}
 use mathlib.Core.List.{List}
 use native.Mathlib.Omega.{arith}
 use borrow.Author.Tests.{lt-ltb, le-ltb, le-leb, lt-leb, eq-eqb, ne-eqb, ltb-true, leb-true}
@@ -14,11 +14,28 @@ use Rattle.basis.specs.Lists.{sum}
 use Rattle.basis.proofs.Bools.{both-ways}
 use Rattle.basis.proofs.Walk.{part-next, part-end}
 use Rattle.sets.specs.Set.{mask}
-use Rattle.seniority.specs.declared.Direct.{Direct}
 use Rattle.policy.specs.Policy.{Side, total, attributeOf}
-use Rattle.policy.specs.Checks.{sideSizes, widthFits, directFits, directAbove, entryFits}
+use Rattle.policy.specs.Checks.{sideSizes, widthFits, directFits, entryFits}
 use Rattle.checks.specs.Inner.{sizesIn, shapeOf}
 use Rattle.checks.specs.declared.side.Shape.{Shape}
+
+-- ---- tests in turn: the answer, where the rest decides and where it does not
+
+-- a number below a limit, and the rest
+module _ (i n : ℕ) (r : Bool) where
+  pub below-rest : (b : Bool) → i < n → b ≡ r → b ≡ (ltb i n && r)
+  below-rest b h e = rw (lt-ltb i n h) e
+
+  pub below-not : n ≤ i → false ≡ (ltb i n && r)
+  below-not h = rw (le-ltb i n h)
+
+-- the order by a number first, then by the rest
+module _ (a b : ℕ) (r : Bool) where
+  pub level-rest : (t : Bool) → a ≡ b → t ≡ r → t ≡ (ltb a b || (eqb a b && r))
+  level-rest t h e = rw (h, le-ltb b b (omega arith), eq-eqb b b refl) e
+
+  pub level-not : (a ≡ b → ⊥) → ltb a b ≡ (ltb a b || (eqb a b && r))
+  level-not h = rw (ne-eqb a b h, or-false)
 
 -- ---- the first n widths from place i on
 
@@ -70,7 +87,7 @@ pub shape-sizes : (ws : List ℕ) (n : ℕ) → n ≤ length ws → (s : Side) �
 unfolding total
 shape-sizes ws n h s e = rw (e, length-take-le n ws h)
 
--- ---- a pair
+-- ---- a direct seniority
 
 module _ (x : Shape) (v j : ℕ) where
   pub direct-attributes : (a b : ℕ) → v < x .total → j < v
@@ -87,13 +104,6 @@ module _ (x : Shape) (v j : ℕ) where
   pub direct-out : x .total ≤ v → false ≡ directFits (sizesIn x) v j
   unfolding directFits
   direct-out h = rw (le-ltb v (x .total) h)
-
-module _ (l : Direct) (v j : ℕ) where
-  pub above-junior : l .senior ≡ v → ltb (l .junior) j ≡ directAbove v j l
-  above-junior e = rw (e, le-ltb v v (omega arith), eq-eqb v v refl)
-
-  pub above-senior : (l .senior ≡ v → ⊥) → ltb (l .senior) v ≡ directAbove v j l
-  above-senior e = rw (ne-eqb (l .senior) v e, or-false)
 
 -- ---- a user or an object
 

@@ -2,10 +2,10 @@
 -- over the first n words.
 use Prim.Native.Nat.{ℕ, _+_, _-_, _≤_, _<_}
 use mathlib.Core.Path.{_≡_, refl, sym, _∙_}
-use mathlib.Core.Bool.{Bool, true, false, _&&_}
+use mathlib.Core.Bool.{Bool, true, false}
 use mathlib.Core.List.{List, [], _∷_, map}
 use native.Mathlib.Omega.{arith}
-use borrow.Author.Tests.{lt-ltb, le-ltb, le-leb, lt-leb}
+use borrow.Author.Tests.{le-leb, lt-leb}
 use lib.Dec.{eqb, ltb}
 use lib.ListN.{length, getD, take, drop, length-take, List·getD-eq-default}
 use lib.Seq.{getD-take}
@@ -24,13 +24,6 @@ use Rattle.checks.specs.Inner.{sizesIn, bothIn}
 use Rattle.checks.specs.declared.side.Shape.{Shape}
 
 -- ---- one word
-
-module _ (i j user object : ℕ) where
-  pub both-second : i < user → ltb j object ≡ (ltb i user && ltb j object)
-  both-second h = rw (lt-ltb i user h)
-
-  pub both-first : user ≤ i → false ≡ (ltb i user && ltb j object)
-  both-first h = rw (le-ltb i user h)
 
 module _ (user object : Shape) (w : Word) (b : Bool) where
   module _ (h : Holding) (v : ℕ) (e : w ≡ Holds h) where

@@ -1,5 +1,6 @@
 pub mod Blank
 pub mod Rising
 pub mod Stored
+pub mod Turns
 pub mod Whole
 pub mod Widths

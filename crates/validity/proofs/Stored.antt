@@ -22,16 +22,19 @@ use Rattle.words.specs.declared.Holding.{Holding}
 use Rattle.words.specs.declared.Holding.the-variants.{User, Object}
 use Rattle.words.specs.declared.Comparison.{Comparison}
 use Rattle.words.specs.declared.Comparison.the-variants.{Dominates, Equals}
-use Rattle.policy.specs.Checks.{SideSizes}
-use Rattle.policy.specs.Value.{widthPlaces, entryPlaces, wordPlaces, slot, noEntry, noRule, entriesOf, register, ruleValue, ruleOf, linePlaces}
-use Rattle.policy.specs.Valid.{sameLine, sameEntry, sameSlot, sameRegister, sameRule}
+use Rattle.policy.specs.Checks.{SideSizes, Sizes, pairFits}
+use Rattle.policy.specs.Limits.{mostPairs}
+use Rattle.policy.specs.Policy.{pair}
+use Rattle.policy.specs.Value.{widthPlaces, entryPlaces, wordPlaces, pairPlaces, slot, noEntry, noRule, entriesOf, register, ruleValue, ruleOf, pairsValue, pairsOf, linePlaces}
+use Rattle.policy.specs.Valid.{sameLine, sameEntry, samePair, sameSlot, sameRegister, sameRule, samePairs}
 use Rattle.policy.specs.Inner.Sound.{widthsSound}
 use Rattle.policy.specs.declared.value.Entry.{Entry}
 use Rattle.policy.specs.declared.value.RuleValue.{RuleValue}
-use Rattle.policy.proofs.Same.{exact-number, exact-line, exact-entry, exact-slot}
-use Rattle.policy.proofs.Parts.{lineIn, lineAbove, numberIn, numberAbove, lines-rising, entries-rising}
+use Rattle.policy.specs.declared.value.Pair.{Pair}
+use Rattle.policy.proofs.Same.{exact-number, exact-line, exact-entry, exact-slot, exact-pair}
+use Rattle.policy.proofs.Parts.{lineIn, lineAbove, numberIn, numberAbove, pairOver, lines-rising, entries-rising, pairs-rising}
 use Rattle.policy.proofs.Rising.{rising}
-use Rattle.validity.specs.Inner.{holds, widthsValid, linesValid, registerValid}
+use Rattle.validity.specs.Inner.{holds, widthsValid, linesValid, registerValid, pairsValid}
 
 -- ---- any list
 
@@ -50,15 +53,16 @@ module _ {A : Type 0} (e : A → A → Bool) (blank : A) (xs : List A) (n m : �
 
 -- ---- a blank place
 
-eqb-swap : (a b : ℕ) → eqb a b ≡ eqb b a
+pub eqb-swap : (a b : ℕ) → eqb a b ≡ eqb b a
 eqb-swap a b = both-ways (eqb a b) (eqb b a) (λ e. eq-eqb b a (sym (eqb-true a b e))) (λ e. eq-eqb a b (sym (eqb-true b a e)))
 
-module _ (a b : ℕ) where
-  pub second-zero : a ≡ 0 → eqb b 0 ≡ (eqb 0 a && eqb 0 b)
-  second-zero h = rw (h, eqb-swap b 0)
+-- a number that must be 0, and the rest
+module _ (a : ℕ) (r : Bool) where
+  pub zero-rest : (b : Bool) → a ≡ 0 → b ≡ r → b ≡ (eqb 0 a && r)
+  zero-rest b h e = rw h e
 
-  pub first-not : (a ≡ 0 → ⊥) → false ≡ (eqb 0 a && eqb 0 b)
-  first-not h = rw (ne-eqb 0 a (λ q. h (sym q)))
+  pub zero-not : (a ≡ 0 → ⊥) → false ≡ (eqb 0 a && r)
+  zero-not h = rw (ne-eqb 0 a (λ q. h (sym q)))
 
 pub no-holding : (h : Holding) → false ≡ sameSlot (slot True) (slot (Holds h))
 unfolding written same
@@ -104,6 +108,22 @@ module _ (most total : ℕ) (es : List Entry) (n : ℕ) (k : length es ≡ entry
       ≡ (all (sameEntry noEntry) (drop n es) && rising (numberIn most total) numberAbove none (take n es))
   unfolding registerValid sameRegister register entriesOf holds
   entries-in h = rw (holds-in sameEntry noEntry es n entryPlaces k (exact-entry .self) h, entries-rising most total none (take n es))
+
+module _ (a : ℕ) (s : Sizes) (xs : List Pair) (n : ℕ) (k : length xs ≡ pairPlaces) where
+  pub pairs-out : pairPlaces < n → false ≡ pairsValid a s (record { count = n; entries = xs })
+  unfolding pairsValid samePairs pairsValue pairsOf holds
+  pairs-out h = rw (holds-out samePair (pair 0 0 0) xs n pairPlaces k h)
+
+  pub pairs-in : n ≤ pairPlaces
+      → pairsValid a s (record { count = n; entries = xs })
+      ≡ (all (samePair (pair 0 0 0)) (drop n xs) && rising (pairFits a s) pairOver none (take n xs))
+  unfolding pairsValid samePairs pairsValue pairsOf holds
+  pairs-in h =
+      rw (
+        holds-in samePair (pair 0 0 0) xs n pairPlaces k (exact-pair .self) h,
+        le-leb (length (take n xs)) mostPairs (omega (arith, length-take n xs)),
+        pairs-rising a s none (take n xs),
+      )
 
 module _ (x : RuleValue) (k : length (x .words) ≡ wordPlaces) where
   rule-holds : sameRule (ruleValue (ruleOf x)) x ≡ holds sameSlot wordPlaces (slot True) (x .words) (x .count)

@@ -7,19 +7,19 @@ use mathlib.Core.List.{List, map, map-map}
 use mathlib.Core.Option.{none}
 use native.Mathlib.Nat.{le-trans}
 use native.Mathlib.Omega.{arith}
-use borrow.Author.Tests.{eq-eqb, ne-eqb, le-leb, eqb-true, not-true, not-false}
+use borrow.Author.Tests.{eq-eqb, ne-eqb, le-leb, eqb-true, not-false}
 use lib.Dec.{eqb, leb, ltb}
 use lib.ListN.{length, take, drop, length-map, length-take}
 use lib.Seq.{length-take-le}
 use Rattle.basis.specs.Lists.{all, sum}
 use Rattle.basis.proofs.Bools.{and-left, and-right}
 use Rattle.basis.proofs.Padded.{same-padded, same-map}
-use Rattle.policy.specs.Limits.{isForm, values, userNumbers, objectNumbers, mostWords, mostValues}
+use Rattle.policy.specs.Limits.{isForm, values, actions, userNumbers, objectNumbers, mostWords, mostValues}
 use Rattle.policy.specs.Policy.{Side, total}
 use Rattle.policy.specs.Checks.{SideSizes, Sizes, sideSizes, sizes, wordFits, widthsEqual, balanced}
 use Rattle.policy.specs.Value.{widthPlaces, wordPlaces, wordsIn, rulePlaces, noRule, register, sideOf, sideValue, entriesOf, ruleOf, ruleValue, rulesOf, rulesValue, policyOf, valueOf}
 use Rattle.policy.specs.Valid.{sameSide, sameRegister, sameRule, sameRules, sameValue, valid}
-use Rattle.policy.specs.Inner.Sound.{widthsSound, sideSound, entriesSound, ruleSound, listsSound, sound}
+use Rattle.policy.specs.Inner.Sound.{widthsSound, sideSound, entriesSound, ruleSound, rulesSound, listsSound, sound}
 use Rattle.policy.specs.declared.value.SideValue.{SideValue}
 use Rattle.policy.specs.declared.value.RuleValue.{RuleValue}
 use Rattle.policy.specs.declared.value.Rules.{Rules}
@@ -30,8 +30,9 @@ use Rattle.policy.proofs.Valid.{valid-sound}
 use Rattle.checks.specs.Inner.{sizesIn, bothIn, shapeOf}
 use Rattle.checks.specs.declared.side.Shape.{Shape}
 use Rattle.checks.proofs.Laws.{shape-sizes}
-use Rattle.validity.specs.Inner.{holds, widthsValid, linesValid, sideValid, registerValid, ruleValid, rulesValid, listsValid}
+use Rattle.validity.specs.Inner.{holds, widthsValid, linesValid, sideValid, registerValid, ruleValid, rulesValid, pairsValid, listsValid}
 use Rattle.validity.proofs.Rising.{rising-map, rising-all}
+use Rattle.validity.proofs.Turns.{turn-fails, turn-rest}
 use Rattle.validity.proofs.Widths.{sound-sum}
 
 -- ---- a side
@@ -143,24 +144,25 @@ unfolding policyOf
 both-are v u o x y =
     ap (λ (z : SideSizes). record { user = z; object = sizesIn o }) x ∙ ap (λ (z : SideSizes). record { user = sideSizes (sideOf (v .user)); object = z }) y
 
-value-order : (su so ru ro rr f lu lo ku ko eu eo er : Bool)
-    → ((su && (so && (ru && (ro && rr)))) && (f && (lu && (lo && (ku && (ko && (eu && (eo && er))))))))
-    ≡ (f && ((su && (lu && ku)) && ((so && (lo && ko)) && ((ru && eu) && ((ro && eo) && (rr && er))))))
-value-order false so ru ro rr f lu lo ku ko eu eo er = simp and-false
-value-order true false ru ro rr f lu lo ku ko eu eo er = simp and-false
-value-order true true false ro rr f lu lo ku ko eu eo er = simp and-false
-value-order true true true false rr f lu lo ku ko eu eo er = simp and-false
-value-order true true true true false f lu lo ku ko eu eo er = simp and-false
-value-order true true true true true f false lo ku ko eu eo er = refl
-value-order true true true true true f true false ku ko eu eo er = simp and-false
-value-order true true true true true f true true ku ko eu eo er = refl
+value-order : (su so ru ro rr rp f lu lo ku ko eu eo er ep : Bool)
+    → ((su && (so && (ru && (ro && (rr && rp))))) && (f && (lu && (lo && (ku && (ko && (eu && (eo && (er && ep)))))))))
+    ≡ (f && ((su && (lu && ku)) && ((so && (lo && ko)) && ((ru && eu) && ((ro && eo) && ((rr && er) && (rp && ep)))))))
+value-order false so ru ro rr rp f lu lo ku ko eu eo er ep = simp and-false
+value-order true false ru ro rr rp f lu lo ku ko eu eo er ep = simp and-false
+value-order true true false ro rr rp f lu lo ku ko eu eo er ep = simp and-false
+value-order true true true false rr rp f lu lo ku ko eu eo er ep = simp and-false
+value-order true true true true false rp f lu lo ku ko eu eo er ep = simp and-false
+value-order true true true true true false f lu lo ku ko eu eo er ep = simp and-false
+value-order true true true true true true f false lo ku ko eu eo er ep = refl
+value-order true true true true true true f true false ku ko eu eo er ep = simp and-false
+value-order true true true true true true f true true ku ko eu eo er ep = refl
 
 valid-parts : (v : PolicyValue)
     → valid v
     ≡ (isForm (v .form)
     && (sideValid (values (v .form)) (v .user)
-    && (sideValid (values (v .form)) (v .object) && listsValid (v .form) (sizes (policyOf v)) (v .users) (v .objects) (v .rules))))
-unfolding sameValue valueOf policyOf sound listsSound sideValid registerValid rulesValid listsValid
+    && (sideValid (values (v .form)) (v .object) && listsValid (v .form) (sizes (policyOf v)) (v .users) (v .objects) (v .rules) (v .pairs))))
+unfolding sameValue valueOf policyOf sound listsSound sideValid registerValid rulesValid pairsValid listsValid
 valid-parts v =
     valid-sound v
     ∙ (rw (eq-eqb (v .form) (v .form) refl)
@@ -169,6 +171,7 @@ valid-parts v =
     (sameSide (sideValue (sideOf (v .object))) (v .object))
     (sameRegister (register (entriesOf (v .users))) (v .users))
     (sameRegister (register (entriesOf (v .objects))) (v .objects))
+    (sameRules (rulesValue (rulesOf (v .rules))) (v .rules))
     _
     (isForm (v .form))
     (leb 1 (length (sideOf (v .user) .widths)))
@@ -177,27 +180,28 @@ valid-parts v =
     (sideSound (values (v .form)) (sideOf (v .object)))
     (entriesSound userNumbers (total (sideOf (v .user))) none (entriesOf (v .users)))
     (entriesSound objectNumbers (total (sideOf (v .object))) none (entriesOf (v .objects)))
+    (rulesSound (actions (v .form)) (sizes (policyOf v)) none (rulesOf (v .rules)))
     _))
 
 -- the answers about the value
 module _ (v : PolicyValue) (a : Bool) (f : a ≡ isForm (v .form)) where
   pub form-not : not a ≡ true → false ≡ valid v
-  form-not e = sym (valid-parts v ∙ rw (← f, not-true a e))
+  form-not e = turn-fails f e _ ∙ sym (valid-parts v)
 
   module _ (e : not a ≡ false) (m : ℕ) (k : m ≡ values (v .form)) (b : Bool) (g : b ≡ sideValid m (v .user)) where
     user : b ≡ sideValid (values (v .form)) (v .user)
     user = rw k at g
 
     pub user-not : not b ≡ true → false ≡ valid v
-    user-not h = sym (valid-parts v ∙ rw (← f, not-false a e, ← user, not-true b h))
+    user-not h = turn-rest f e (turn-fails user h _) ∙ sym (valid-parts v)
 
     module _ (h : not b ≡ false) (d : Bool) (t : d ≡ sideValid m (v .object)) where
       object : d ≡ sideValid (values (v .form)) (v .object)
       object = rw k at t
 
       pub object-not : not d ≡ true → false ≡ valid v
-      object-not l = sym (valid-parts v ∙ rw (← f, not-false a e, ← user, not-false b h, ← object, not-true d l))
+      object-not l = turn-rest f e (turn-rest user h (turn-fails object l _)) ∙ sym (valid-parts v)
 
       pub lists-left : not d ≡ false → {s : Sizes} → s ≡ sizes (policyOf v)
-          → {r : Bool} → r ≡ listsValid (v .form) s (v .users) (v .objects) (v .rules) → r ≡ valid v
-      lists-left l x q = q ∙ sym (valid-parts v ∙ rw (← f, not-false a e, ← user, not-false b h, ← object, not-false d l, ← x))
+          → {r : Bool} → r ≡ listsValid (v .form) s (v .users) (v .objects) (v .rules) (v .pairs) → r ≡ valid v
+      lists-left l x q = turn-rest f e (turn-rest user h (turn-rest object l (rw x at q))) ∙ sym (valid-parts v)

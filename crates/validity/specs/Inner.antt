@@ -9,15 +9,16 @@ use lib.ListN.{length, take}
 use Rattle.basis.specs.Lists.{same, padded}
 use Rattle.seniority.specs.Seniority.{direct}
 use Rattle.seniority.specs.declared.Direct.{Direct}
-use Rattle.policy.specs.Limits.{actions, userNumbers, objectNumbers}
+use Rattle.policy.specs.Limits.{actions, userNumbers, objectNumbers, mostPairs}
 use Rattle.policy.specs.Checks.{SideSizes, Sizes}
-use Rattle.policy.specs.Value.{widthPlaces, sideValue, register, ruleValue, rulesValue, sideOf, entriesOf, ruleOf, rulesOf, linePlaces}
-use Rattle.policy.specs.Valid.{sameLine, sameSide, sameRegister, sameRule, sameRules}
-use Rattle.policy.specs.Inner.Sound.{widthsSound, linesSound, sideSound, entriesSound, ruleSound, rulesSound}
+use Rattle.policy.specs.Value.{widthPlaces, sideValue, register, ruleValue, rulesValue, pairsValue, sideOf, entriesOf, ruleOf, rulesOf, pairsOf, linePlaces}
+use Rattle.policy.specs.Valid.{sameLine, sameSide, sameRegister, sameRule, sameRules, samePairs}
+use Rattle.policy.specs.Inner.Sound.{widthsSound, linesSound, sideSound, entriesSound, ruleSound, rulesSound, pairsSound}
 use Rattle.policy.specs.declared.value.SideValue.{SideValue}
 use Rattle.policy.specs.declared.value.Register.{Register}
 use Rattle.policy.specs.declared.value.RuleValue.{RuleValue}
 use Rattle.policy.specs.declared.value.Rules.{Rules}
+use Rattle.policy.specs.declared.value.Pairs.{Pairs}
 
 -- an array of m places holds n elements and is blank behind them
 unfoldable pub holds : {A : Type 0} → (A → A → Bool) → ℕ → A → List A → ℕ → Bool
@@ -49,10 +50,17 @@ ruleValid n s x = sameRule (ruleValue (ruleOf x)) x && ruleSound n s (ruleOf x)
 unfoldable pub rulesValid : ℕ → Sizes → Rules → Bool
 rulesValid n s x = sameRules (rulesValue (rulesOf x)) x && rulesSound n s none (rulesOf x)
 
+-- ---- pairs
+
+-- of n actions and sides of these sizes
+unfoldable pub pairsValid : ℕ → Sizes → Pairs → Bool
+pairsValid n s x =
+    samePairs (pairsValue (pairsOf x)) x && (leb (length (pairsOf x)) mostPairs && pairsSound n s none (pairsOf x))
+
 -- ---- the value
 
 -- the lists, for sides of these sizes
-unfoldable pub listsValid : ℕ → Sizes → Register → Register → Rules → Bool
-listsValid form s users objects rules =
+unfoldable pub listsValid : ℕ → Sizes → Register → Register → Rules → Pairs → Bool
+listsValid form s users objects rules pairs =
     registerValid userNumbers (s .user .values) users
-    && (registerValid objectNumbers (s .object .values) objects && rulesValid (actions form) s rules)
+    && (registerValid objectNumbers (s .object .values) objects && (rulesValid (actions form) s rules && pairsValid (actions form) s pairs))

@@ -9,17 +9,19 @@ ghost use Rattle.validity.specs.Inner.{listsValid};
 
 mod behind;
 mod order;
+mod pairs;
 mod register;
 mod rules;
 mod side;
 
 use checks::side::Shape;
 use policy::limits;
+use policy::value::Pairs;
 use policy::value::PolicyValue;
 use policy::value::Register;
 use policy::value::Rules;
 
-// The users, the objects and the rules, for sides of these shapes.
+// The users, the objects, the rules and the pairs, for sides of these shapes.
 fn lists_valid(
     form: u32,
     u: Shape,
@@ -27,9 +29,10 @@ fn lists_valid(
     users: Register,
     objects: Register,
     rules: Rules,
+    pairs: Pairs,
 ) -> bool
     requires { ⌜ (u .total ≤ mostValues) × (o .total ≤ mostValues) × (u .attributes ≤ widthPlaces) × (o .attributes ≤ widthPlaces) ⌝ }
-    ensures { λ r. ⌜ r ≡ listsValid form (bothIn u o) users objects rules ⌝ }
+    ensures { λ r. ⌜ r ≡ listsValid form (bothIn u o) users objects rules pairs ⌝ }
 {
     let user_entries = users.entries;
     if !register::register_valid(limits::USER_NUMBERS, u.total, user_entries, users.count) {
@@ -44,8 +47,13 @@ fn lists_valid(
     ) {
         return false;
     }
-    let entries = rules.entries;
-    rules::rules_valid(limits::actions(form), u, o, entries, rules.count)
+    let actions = limits::actions(form);
+    let rule_entries = rules.entries;
+    if !rules::rules_valid(actions, u, o, rule_entries, rules.count) {
+        return false;
+    }
+    let pair_entries = pairs.entries;
+    pairs::pairs_valid(actions, u, o, pair_entries, pairs.count)
 }
 
 // Check 11.
@@ -71,5 +79,6 @@ pub fn check(v: PolicyValue) -> bool
     let users = v.users;
     let objects = v.objects;
     let rules = v.rules;
-    lists_valid(v.form, u, o, users, objects, rules)
+    let pairs = v.pairs;
+    lists_valid(v.form, u, o, users, objects, rules, pairs)
 }

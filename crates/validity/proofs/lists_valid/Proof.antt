@@ -1,7 +1,7 @@
--- `validity::lists_valid` meets its contract: the users, the objects and the rules in turn.
-use borrow.Author.Tests.{not-true, not-false}
+-- `validity::lists_valid` meets its contract: the users, the objects, the rules and the pairs in turn.
 use borrow.Author.Needs.{needs}
 use Rattle.validity.specs.Inner.{listsValid}
+use Rattle.validity.proofs.Turns.{turn-fails, turn-rest}
 use Rattle.validity.proofs.lists_valid.Statement.{statement}
 use Rattle.validity.proofs.lists_valid.Tie as tie
 
@@ -10,9 +10,7 @@ register-valid-requires c κs = search needs
 
 returns : tie.Need-returns
 unfolding listsValid
-returns c =
-    let u = c .before .register-valid in
-    rw (← u .ensures, not-true (u .result) (c .if1 .taken))
+returns c = turn-fails (c .before .register-valid .ensures) (c .if1 .taken) _
 
 register-valid-requires-2 : tie.Need-register-valid-requires-2
 register-valid-requires-2 c κs = search needs
@@ -20,9 +18,8 @@ register-valid-requires-2 c κs = search needs
 returns-2 : tie.Need-returns-2
 unfolding listsValid
 returns-2 c =
-    let u = c .before .before .before .before .register-valid in
-    let o = c .before .register-valid2 in
-    rw (← u .ensures, not-false (u .result) (c .before .before .before .if1 .left), ← o .ensures, not-true (o .result) (c .if2 .taken))
+    turn-rest (c .before .before .before .before .register-valid .ensures) (c .before .before .before .if1 .left)
+    (turn-fails (c .before .register-valid2 .ensures) (c .if2 .taken) _)
 
 actions-requires : tie.Need-actions-requires
 actions-requires c κs = search needs
@@ -33,16 +30,24 @@ rules-valid-requires c κs = search needs
 returns-3 : tie.Need-returns-3
 unfolding listsValid
 returns-3 c =
-    let u = c .before .before .before .before .before .before .before .register-valid in
-    let o = c .before .before .before .before .register-valid2 in
-    rw (
-      ← u .ensures,
-      not-false (u .result) (c .before .before .before .before .before .before .if1 .left),
-      ← o .ensures,
-      not-false (o .result) (c .before .before .before .if2 .left),
-      ← c .before .actions .ensures,
-    )
-    (c .rules-valid .ensures)
+    let o = c .before .before .before .before in
+    let u = o .before .before .before in
+    turn-rest (u .before .register-valid .ensures) (u .if1 .left)
+    (turn-rest (o .before .register-valid2 .ensures) (o .if2 .left)
+    (rw (← c .before .before .before .actions .ensures) (turn-fails (c .before .rules-valid .ensures) (c .if3 .taken) _)))
+
+pairs-valid-requires : tie.Need-pairs-valid-requires
+pairs-valid-requires c κs = search needs
+
+returns-4 : tie.Need-returns-4
+unfolding listsValid
+returns-4 c =
+    let r = c .before .before in
+    let o = r .before .before .before .before in
+    let u = o .before .before .before in
+    turn-rest (u .before .register-valid .ensures) (u .if1 .left)
+    (turn-rest (o .before .register-valid2 .ensures) (o .if2 .left)
+    (rw (← r .before .before .before .actions .ensures) (turn-rest (r .before .rules-valid .ensures) (r .if3 .left) (c .pairs-valid .ensures))))
 
 pub lists-valid-spec : {M : Type 1} → statement M
 lists-valid-spec =
@@ -54,4 +59,6 @@ lists-valid-spec =
     returns-2
     actions-requires
     rules-valid-requires
-    returns-3)
+    returns-3
+    pairs-valid-requires
+    returns-4)

@@ -1,4 +1,4 @@
--- `validity::order::direct_rises` meets its contract: the first rises, and a later one by its pair.
+-- `validity::order::direct_rises` meets its contract: the first rises, and a later one by its values.
 use borrow.Author.Tests.{eq-eqb, ne-eqb}
 use borrow.Author.Needs.{needs}
 use Rattle.validity.proofs.order.direct_rises.Statement.{statement}
