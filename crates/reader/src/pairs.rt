@@ -1,9 +1,8 @@
 // The pairs of a text.
 ghost use mathlib.Core.Path.{_≡_};
 ghost use mathlib.Core.Bool.{_||_};
-ghost use lib.Dec.{eqb, ltb};
+ghost use lib.Dec.{eqb};
 ghost use Rattle.policy.specs.Checks.{pairAbove};
-ghost use Rattle.policy.specs.Limits.{mostPairs};
 ghost use Rattle.reader.specs.Inner.Cursor.{Stands};
 ghost use Rattle.reader.specs.Inner.Lists.{faultBy, PairsFrom};
 use crate::cursor::Cursor;
@@ -29,13 +28,13 @@ fn rises(count: usize, last: Pair, pair: Pair) -> bool
     checks::pair::above(last, pair)
 }
 
-// What the line of a pair breaks behind `count` others, in the order of testing: refusals 6, 7 and 21.
-fn fault(fits: bool, rises: bool, count: usize) -> Fault
-    ensures { λ r. ⌜ r ≡ faultBy fits rises (ltb count mostPairs) ⌝ }
+// What the line of a pair breaks, in the order of testing: refusals 6, 7 and 21.
+fn fault(fits: bool, rises: bool, room: bool) -> Fault
+    ensures { λ r. ⌜ r ≡ faultBy fits rises room ⌝ }
 {
     if fits {
         if rises {
-            if count < PAIR_PLACES {
+            if room {
                 return Fault::None;
             }
             return Fault::Is(Refusal::TooManyPairs);
@@ -66,7 +65,8 @@ pub fn read(text: &[u8], cursor: Cursor, actions: u32, users: u32, objects: u32)
         };
         let fits = checks::pair::fits(actions, users, objects, pair);
         let rising = rises(count, last, pair);
-        let f = fault(fits, rising, count);
+        let room = count < PAIR_PLACES;
+        let f = fault(fits, rising, room);
         if let Fault::Is(r) = f {
             c = crate::cursor::stop(c, r);
         } else {

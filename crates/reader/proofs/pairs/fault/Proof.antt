@@ -1,13 +1,12 @@
 -- `reader::pairs::fault` meets its contract.
-use borrow.Author.Tests.{lt-ltb, le-ltb}
 use Rattle.reader.proofs.pairs.fault.Statement.{statement}
 use Rattle.reader.proofs.pairs.fault.Tie as tie
 
 returns : tie.Need-returns
-returns c = rw (c .before .before .if1 .taken, c .before .if2 .taken, lt-ltb _ _ (c .if3 .taken))
+returns c = rw (c .before .before .if1 .taken, c .before .if2 .taken, c .if3 .taken)
 
 returns-2 : tie.Need-returns-2
-returns-2 c = rw (c .before .before .if1 .taken, c .before .if2 .taken, le-ltb _ _ (c .if3 .left))
+returns-2 c = rw (c .before .before .if1 .taken, c .before .if2 .taken, c .if3 .left)
 
 returns-3 : tie.Need-returns-3
 returns-3 c = rw (c .before .if1 .taken, c .if2 .left)
