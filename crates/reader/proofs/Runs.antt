@@ -104,23 +104,25 @@ module _ {t : List ℕ} {k : Kind} {A : Type 0} {z : Test A} {c d : Cursor} {xs 
   abbrev next : A
   next = z .says (d .numbers)
 
+  abbrev fault : LineFault
+  fault = faultBy (z .fits xs next) (z .rises xs next) (z .room xs)
+
   module _ (q : d .ahead ≡ Line k) where
-    tested-refusal : (x : Listed k A) (p : Policy) → TestedBy k z x p → refusalAt (x .with xs p) k (fieldsAt t d)
-        ≡ firstBroken (check 6 (not (z .fits xs next)) ∷ check 7 (not (z .rises xs next)) ∷ check 21 (not (z .room xs)) ∷ [])
+    tested-refusal : (x : Listed k A) (p : Policy) → TestedBy k z x p → refusalAt (x .with xs p) k (fieldsAt t d) ≡ numberIn fault
     tested-refusal x p f =
         plain-refusal t d k (l .stands k q) (x .with xs p) (z .fits xs next) (z .rises xs next) (z .room xs) (f .layout)
         (f .range xs (d .numbers)) (f .rise xs (d .numbers)) (f .space xs)
+        ∙ faults-first (z .fits xs next) (z .rises xs next) (z .room xs)
 
-    abbrev fault : LineFault
-    fault = faultBy (z .fits xs next) (z .rises xs next) (z .room xs)
-
+    -- a line that breaks nothing is taken
     pub tested-more : fault ≡ None → (b : Cursor) → NextOf t d k b → TestedLines t k z (placeOf k) c b (xs ++ (next ∷ []))
     tested-more e b i =
         one-read t k (TestedBy k z) l q b i next
-        (λ x p f v. (tested-refusal x p f ∙ faults-first (z .fits xs next) (z .rises xs next) (z .room xs) ∙ ap numberIn e, f .said _ _ ∙ ap (z .says) (sym (l .stands k q .numbers))))
+        (λ x p f v. (tested-refusal x p f ∙ ap numberIn e, f .said _ _ ∙ ap (z .says) (sym (l .stands k q .numbers))))
 
+    -- and another refused
     pub tested-out : (r : Refusal) → fault ≡ Is r → (b : Cursor) → b ≡ bareAt (d .at) (d .line) (Fault r) → TestedLines t k z (placeOf k) c b xs
-    tested-out r e b i = refused-read t k (TestedBy k z) l q b r i (λ x p f v. tested-refusal x p f ∙ faults-first (z .fits xs next) (z .rises xs next) (z .room xs) ∙ ap numberIn e)
+    tested-out r e b i = refused-read t k (TestedBy k z) l q b r i (λ x p f v. tested-refusal x p f ∙ ap numberIn e)
 
 -- ---- one list behind others
 

@@ -59,19 +59,20 @@ pub record ReadBy (t : List ℕ) (k : Kind) {A : Type 0} (Fits : Listed k A → 
 
 -- ---- lines without words
 
+-- a layout without words
 pub record Wordless (x : Layout) : Type 0 where
   pub form : (fs : List (List ℕ)) → formFits x fs ≡ numbersFit x fs
   pub words : (fs : List (List ℕ)) → wordsOf x fs ≡ []
   pub balance : balances x [] ≡ true
 
--- the element that a line says, and whether it passes checks 6, 7 and 21 behind others
+-- the element that a line says, and whether it passes checks 6, 7 and 21 behind the others of its list
 pub record Test (A : Type 0) : Type 0 where
   pub says : Numbers → A
   pub fits : List A → A → Bool
   pub rises : List A → A → Bool
   pub room : List A → Bool
 
--- lines of kind k, of which any stand behind those of a policy, are so tested
+-- lines of kind k are so tested, whichever of them stand before in the list of a policy
 pub record TestedBy (k : Kind) {A : Type 0} (z : Test A) (x : Listed k A) (p : Policy) : Type 0 where
   pub layout : Wordless (layoutOf k)
   pub said : (n : Numbers) (ws : List Word) → x .said n ws ≡ z .says n
