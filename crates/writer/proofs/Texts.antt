@@ -8,18 +8,19 @@ use Rattle.text.specs.Number.{decimal}
 use Rattle.text.specs.Parts.{comma, join, textOf as linesText}
 use Rattle.text.specs.Kind.{wordOf, layoutOf}
 use Rattle.text.specs.declared.kind.Kind.{Kind}
-use Rattle.text.specs.declared.kind.Kind.the-variants.{Policy as PolicyKind, Uattr, Oattr, Usen, Osen, User, Object, Rule as RuleKind, End}
-use Rattle.text.specs.declared.kind.Layout.the-variants.{Bare, One, Two}
+use Rattle.text.specs.declared.kind.Kind.the-variants.{Policy as PolicyKind, Uattr, Oattr, Usen, Osen, User, Object, Rule as RuleKind, Pair as PairKind, End}
+use Rattle.text.specs.declared.kind.Layout.the-variants.{Bare, One, Two, Three}
 use Rattle.words.specs.Word.{written}
-use Rattle.policy.specs.Line.{Line, noNumbers, oneNumber, twoNumbers, plain, ruleLine}
+use Rattle.policy.specs.Line.{Line, noNumbers, oneNumber, twoNumbers, threeNumbers, plain, ruleLine}
 use Rattle.policy.specs.Policy.{Rule}
 use Rattle.policy.specs.Text.{linesOf, laterFields, lineText, textOf}
-use Rattle.policy.specs.Value.{sideOf, entriesOf, ruleOf, rulesOf, policyOf}
+use Rattle.policy.specs.Value.{sideOf, entriesOf, ruleOf, rulesOf, pairsOf, policyOf}
 use Rattle.policy.specs.declared.value.PolicyValue.{PolicyValue}
 use Rattle.policy.specs.declared.value.Entry.{Entry}
+use Rattle.policy.specs.declared.value.Pair.{Pair}
 use Rattle.policy.specs.declared.value.RuleValue.{RuleValue}
 use Rattle.policy.specs.declared.value.Slot.{Slot}
-use Rattle.writer.specs.Inner.Put.{each, feed, field, wordFields, bareLine, oneLine, twoLine, formulaLine, directLine, entryLine}
+use Rattle.writer.specs.Inner.Put.{each, feed, field, wordFields, bareLine, oneLine, twoLine, threeLine, formulaLine, directLine, entryLine, pairLine}
 use Rattle.writer.specs.Inner.Put as Put
 use Rattle.writer.specs.Inner.Whole.{sidesText, listsText}
 
@@ -45,6 +46,17 @@ module _ (k : Kind) where
   unfolding lineText laterFields twoLine each
   two a b e =
       rw (e, fields-end (wordOf k) (decimal a ∷ decimal b ∷ []), append-nil, append-assoc (field (decimal a)) (field (decimal b)) feed)
+
+  three : (a b d : ℕ) → layoutOf k ≡ Three → lineText (plain k (threeNumbers a b d)) ++ feed ≡ threeLine (wordOf k) a b d
+  unfolding lineText laterFields threeLine each
+  three a b d e =
+      rw (
+        e,
+        fields-end (wordOf k) (decimal a ∷ decimal b ∷ decimal d ∷ []),
+        append-nil,
+        append-assoc (field (decimal a)) (field (decimal b) ++ field (decimal d)) feed,
+        append-assoc (field (decimal b)) (field (decimal d)) feed,
+      )
 
 each-written : (ws : List Slot) → each field (map written (map (λ (s : Slot). s .word) ws)) ≡ wordFields ws
 unfolding each
@@ -88,10 +100,10 @@ said-end = bare End refl
 -- ---- all lists
 
 abbrev pub valueText : PolicyValue → List ℕ
-valueText v = sidesText (v .form) (v .user) (v .object) ++ listsText (v .users) (v .objects) (v .rules)
+valueText v = sidesText (v .form) (v .user) (v .object) ++ listsText (v .users) (v .objects) (v .rules) (v .pairs)
 
 pub text-is : (v : PolicyValue) → textOf (policyOf v) ≡ valueText v
-unfolding textOf linesOf policyOf sideOf entriesOf rulesOf
+unfolding textOf linesOf policyOf sideOf entriesOf rulesOf pairsOf
 text-is v =
     rw (
       said-next,
@@ -103,6 +115,7 @@ text-is v =
       said-list (λ (e : Entry). plain User (twoNumbers (e .number) (e .set))) (entryLine (wordOf User)) (λ e. two User (e .number) (e .set) refl),
       said-list (λ (e : Entry). plain Object (twoNumbers (e .number) (e .set))) (entryLine (wordOf Object)) (λ e. two Object (e .number) (e .set) refl),
       said-rules,
+      said-list (λ (x : Pair). plain PairKind (threeNumbers (x .action) (x .user) (x .object))) (pairLine (wordOf PairKind)) (λ x. three PairKind (x .action) (x .user) (x .object) refl),
       said-end,
     )
     (simp append-assoc)

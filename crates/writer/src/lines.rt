@@ -4,12 +4,14 @@ ghost use mathlib.Core.Bool.{true};
 ghost use Prim.Native.Nat.{_≤_};
 ghost use lib.ListN.{take};
 ghost use Rattle.basis.specs.Lists.{all};
-ghost use Rattle.policy.specs.Value.{widthPlaces, entryPlaces, rulePlaces, linePlaces};
-ghost use Rattle.writer.specs.Inner.Put.{Room, Put, each, bareLine, oneLine, directLine, entryLine, ruleLine, ruleWritable};
+ghost use Rattle.policy.specs.Value.{widthPlaces, entryPlaces, rulePlaces, pairPlaces, linePlaces};
+ghost use Rattle.writer.specs.Inner.Put.{Room, Put, each, bareLine, oneLine, directLine, entryLine, ruleLine, pairLine, ruleWritable};
 use crate::line;
 use policy::value::ENTRY_PLACES;
 use policy::value::Entry;
 use policy::value::LINE_PLACES;
+use policy::value::PAIR_PLACES;
+use policy::value::Pair;
 use policy::value::RULE_PLACES;
 use policy::value::RuleValue;
 use policy::value::WIDTH_PLACES;
@@ -97,6 +99,28 @@ pub fn put_rules(
         let rule = rules[i];
         let words = rule.words;
         let m = line::put_formula(word, rule.action, words, rule.count, &mut buf[at..]);
+        at += m;
+        i += 1;
+    }
+    at
+}
+
+// The first n pairs.
+pub fn put_pairs(
+    word: &[u8],
+    pairs: [Pair; PAIR_PLACES],
+    n: usize,
+    buf: &mut [u8],
+    start: usize,
+) -> usize
+    requires { ⌜ (n ≤ pairPlaces) × Room (each (pairLine (now word)) (take n pairs)) start (now buf) ⌝ }
+    ensures { λ r. ⌜ Put (each (pairLine (now (word .entry))) (take n pairs)) start (now (buf .entry)) (now (buf .exit)) r ⌝ }
+{
+    let mut at = start;
+    let mut i = 0;
+    while i < n {
+        let pair = pairs[i];
+        let m = line::put_three(word, pair.action, pair.user, pair.object, &mut buf[at..]);
         at += m;
         i += 1;
     }
