@@ -1,4 +1,4 @@
--- What the rules grant an action, going from one to the next, and the entry of one lane, summed bit by bit.
+-- What rules say of an action, going from one to the next, and the entry of one lane, summed bit by bit.
 use Prim.Native.Nat.{ℕ, suc, _+_, _*_, _^_, _%_, _≤_, _<_}
 use mathlib.Core.Path.{_≡_, refl, sym, ap, _∙_, subst}
 use mathlib.Core.Bool.{Bool, true, false, cond}
@@ -13,23 +13,22 @@ use lib.ListN.{length, getD, set, take, drop, replicate, getD-replicate}
 use lib.Pow.{pow-mono, shl-exact}
 use lib.Seq.{getD-set-same, getD-set-other}
 use borrow.Author.Tests.{eq-eqb, ne-eqb}
-use Rattle.basis.specs.Choice.{given}
+use Rattle.basis.specs.Choice.{given, there}
 use Rattle.basis.proofs.Places.{taken-in}
 use Rattle.basis.proofs.Walk.{part-next}
 use Rattle.sets.specs.Set.{has, setOf}
 use Rattle.sets.proofs.Laws.{has-zero, setOf-lt}
 use Rattle.words.specs.declared.Word.{Word}
-use Rattle.policy.specs.Policy.{Rule, Policy, formulaIn}
+use Rattle.policy.specs.Policy.{Policy, formulaIn}
 use Rattle.policy.specs.Value.{ruleOf, rulesOf, wordsIn}
-use Rattle.policy.specs.Limits.{actions, mostActions}
+use Rattle.policy.specs.Limits.{mostActions}
 use Rattle.policy.specs.declared.value.RuleValue.{RuleValue}
 use Rattle.policy.specs.declared.value.Rules.{Rules}
 use Rattle.policy.proofs.Forms.{actions-most}
-use Rattle.formula.specs.Truth.{Sets, run, truth, grants}
+use Rattle.formula.specs.Truth.{Sets, run, truth}
 use Rattle.formula.specs.Inner.Lane.{entryBits}
 use Rattle.formula.specs.Inner.Fits.{RuleFits, RulesFit}
-use Rattle.formula.specs.Inner.Grant.{grantsAt, GrantsOf}
-use Rattle.formula.specs.declared.grant.Grant.{Grant}
+use Rattle.formula.specs.Inner.Grant.{ruleTrue, GrantsOf}
 use Rattle.formula.specs.declared.grant.Grants.{Grants}
 
 -- ---- rules
@@ -42,7 +41,7 @@ pub rule-at : (n : ℕ) (rs : Rules) → RulesFit n rs → rs .count ≤ length 
     → RuleFits n (getD (rs .entries) i noWords)
 rule-at n rs x l i h = x .each (getD (rs .entries) i noWords) (taken-in noWords (rs .entries) (rs .count) i h l)
 
--- what some rules grant an action
+-- what the formulas of some rules say of an action
 unfoldable pub outcome : Policy → Sets → List RuleValue → ℕ → Bool
 outcome p s rs a = given (formulaIn (map ruleOf rs) a) false (truth p s)
 
@@ -53,15 +52,14 @@ either false ws x f = refl
 
 module _ (p : Policy) (s : Sets) where
   outcome-first : (r : RuleValue) (rs : List RuleValue) (a : ℕ)
-      → outcome p s (r ∷ rs) a ≡ cond (eqb (r .action) a) (truth p s (wordsIn (r .count) (r .words))) (outcome p s rs a)
+      → outcome p s (r ∷ rs) a ≡ cond (eqb (r .action) a) (ruleTrue p r s) (outcome p s rs a)
   unfolding outcome formulaIn ruleOf
   outcome-first r rs a =
       either (eqb (r .action) a) (wordsIn (r .count) (r .words)) (formulaIn (map ruleOf rs) a) (truth p s)
 
   -- the rule at place i is the action's, or is not
   module _ (rs : List RuleValue) (n i a : ℕ) (h : i < n) (l : n ≤ length rs) where
-    pub outcome-found : getD rs i noWords .action ≡ a
-        → truth p s (wordsIn (getD rs i noWords .count) (getD rs i noWords .words)) ≡ outcome p s (drop i (take n rs)) a
+    pub outcome-found : getD rs i noWords .action ≡ a → ruleTrue p (getD rs i noWords) s ≡ outcome p s (drop i (take n rs)) a
     outcome-found e =
         rw (part-next noWords rs i n h l, outcome-first (getD rs i noWords) (drop (i + 1) (take n rs)) a, eq-eqb (getD rs i noWords .action) a e)
 
@@ -70,22 +68,22 @@ module _ (p : Policy) (s : Sets) where
         rw (part-next noWords rs i n h l, outcome-first (getD rs i noWords) (drop (i + 1) (take n rs)) a, ne-eqb (getD rs i noWords .action) a e)
 
   -- no words, and so nothing is true
-  pub nothing-true : (g : Grant) → g .rule .count ≡ 0 → truth p s (wordsIn (g .rule .count) (g .rule .words)) ≡ false
+  pub nothing-true : (r : RuleValue) → r .count ≡ 0 → ruleTrue p r s ≡ false
   unfolding truth run
-  nothing-true g e = rw e
+  nothing-true r e = rw e
 
   -- no rule, and so no words
-  pub outcome-none : (g : Grant) (a : ℕ) → g .rule .count ≡ 0 → truth p s (wordsIn (g .rule .count) (g .rule .words)) ≡ outcome p s [] a
+  pub outcome-none : (r : RuleValue) (a : ℕ) → r .count ≡ 0 → ruleTrue p r s ≡ outcome p s [] a
   unfolding outcome formulaIn truth run
-  outcome-none g a e = rw e
+  outcome-none r a e = rw e
 
   -- all rules
-  pub outcome-all : (g : Grants) (a : ℕ) → GrantsOf p g → outcome p s (take (g .rules .count) (g .rules .entries)) a ≡ grants p a s
-  unfolding outcome rulesOf grants
-  outcome-all g a x = ap (λ (l : List Rule). given (formulaIn l a) false (truth p s)) (sym (x .rules))
+  pub outcome-all : (rs : Rules) (a : ℕ) → outcome p s (take (rs .count) (rs .entries)) a ≡ given (formulaIn (rulesOf rs) a) false (truth p s)
+  unfolding outcome rulesOf
+  outcome-all rs a = refl
 
-  -- rules of n actions grant no other
-  outcome-past : (rs : List RuleValue) (n a : ℕ) → ((r : RuleValue) → List·Memᴰ r rs → RuleFits n r) → n ≤ a → outcome p s rs a ≡ false
+  -- rules of n actions say nothing of another
+  pub outcome-past : (rs : List RuleValue) (n a : ℕ) → ((r : RuleValue) → List·Memᴰ r rs → RuleFits n r) → n ≤ a → outcome p s rs a ≡ false
   unfolding outcome formulaIn
   outcome-past [] n a f h = refl
   outcome-past (r ∷ rs) n a f h =
@@ -93,20 +91,30 @@ module _ (p : Policy) (s : Sets) where
       outcome-first r rs a
       ∙ rw (ne-eqb (r .action) a (λ e. omega (arith, l .action))) (outcome-past rs n a (λ x m. f x (List·Memᴰ·tail m)) h)
 
-  pub grants-past : (g : Grants) (a : ℕ) → GrantsOf p g → actions (p .form) ≤ a → grants p a s ≡ false
-  grants-past g a x h =
-      sym (outcome-all g a x) ∙ outcome-past (take (g .rules .count) (g .rules .entries)) (actions (p .form)) a (x .fit .each) h
+-- the rule at place i is the action's, or is not
+module _ (rs : List RuleValue) (n i a : ℕ) (h : i < n) (l : n ≤ length rs) where
+  abbrev own : List RuleValue → Bool
+  own xs = there (formulaIn (map ruleOf xs) a)
+
+  pub rule-there : getD rs i noWords .action ≡ a → true ≡ own (drop i (take n rs))
+  unfolding formulaIn ruleOf
+  rule-there e = rw (part-next noWords rs i n h l, eq-eqb (getD rs i noWords .action) a e)
+
+  pub rule-passed : (getD rs i noWords .action ≡ a → ⊥) → own (drop (i + 1) (take n rs)) ≡ own (drop i (take n rs))
+  unfolding formulaIn ruleOf
+  rule-passed e = rw (part-next noWords rs i n h l, ne-eqb (getD rs i noWords .action) a e)
 
 -- ---- all actions
 
--- every rule has its place among the actions of any form
-pub rule-placed : (p : Policy) (g : Grants) → GrantsOf p g → g .rules .count ≤ length (g .rules .entries) → (i : ℕ) → i < g .rules .count
-    → RuleFits mostActions (getD (g .rules .entries) i noWords)
-rule-placed p g x l i h =
-    let f = rule-at (actions (p .form)) (g .rules) (x .fit) l i h in
-    record { action = lt-of-lt-of-le (f .action) (actions-most (p .form)); words = f .words }
+-- rules that fit the actions of one form fit those of any
+pub rules-placed : (p : Policy) (g : Grants) → GrantsOf p g → RulesFit mostActions (g .rules)
+rules-placed p g x =
+    record {
+      count = x .fit .count;
+      each = λ r m. let f = x .fit .each r m in record { action = lt-of-lt-of-le (f .action) (actions-most (p .form)); words = f .words };
+    }
 
--- in lane k the vectors of all actions say what these rules grant
+-- in lane k the vectors of all actions say what the formulas of these rules say
 abbrev pub Says : Policy → Sets → List RuleValue → List ℕ → ℕ → Type 0
 Says p s rs vectors k = (a : ℕ) → a < mostActions → has (getD vectors a 0) k ≡ outcome p s rs a
 
@@ -114,18 +122,25 @@ pub says-none : (p : Policy) (s : Sets) (k : ℕ) → Says p s [] (replicate mos
 unfolding outcome formulaIn
 says-none p s k a h = rw (getD-replicate {A = ℕ} mostActions a 0 0 h) (has-zero k)
 
+-- a place set, seen at every place
+pub set-seen : (P : ℕ → ℕ → Type 0) (xs : List ℕ) (i x : ℕ) → i < length xs → P i x
+    → ((a : ℕ) → (i ≡ a → ⊥) → P a (getD xs a 0)) → (a : ℕ) → P a (getD (set xs i x) a 0)
+set-seen P xs i x l new old a =
+    elim (ℕ-discrete i a) [
+      | yes q ↦ subst (λ (y : ℕ). P y (getD (set xs i x) y 0)) q (subst (P i) (sym (getD-set-same xs i x 0 l)) new)
+      | no q ↦ subst (P a) (sym (getD-set-other xs i a x 0 (λ z. q (sym z)))) (old a q)
+    ]
+
 -- one rule more, before the others, takes the place of its action
 pub says-next : (p : Policy) (s : Sets) (rs : List RuleValue) (n i : ℕ) → i < n → n ≤ length rs → RuleFits mostActions (getD rs i noWords)
     → (vectors : List ℕ) (x k : ℕ) → length vectors ≡ mostActions
-    → has x k ≡ grantsAt p (record { rule = getD rs i noWords }) s
+    → has x k ≡ ruleTrue p (getD rs i noWords) s
     → Says p s (drop (i + 1) (take n rs)) vectors k → Says p s (drop i (take n rs)) (set vectors (getD rs i noWords .action) x) k
-says-next p s rs n i h l f vectors x k m e old a b =
+says-next p s rs n i h l f vectors x k m e old =
     let r = getD rs i noWords in
-    elim (ℕ-discrete (r .action) a) [
-      | yes q ↦ subst (λ (y : ℕ). has (getD (set vectors (r .action) x) y 0) k ≡ outcome p s (drop i (take n rs)) y) q
-          (ap (λ (y : ℕ). has y k) (getD-set-same vectors (r .action) x 0 (omega (arith, f .action, m))) ∙ e ∙ outcome-found p s rs n i (r .action) h l refl)
-      | no q ↦ ap (λ (y : ℕ). has y k) (getD-set-other vectors (r .action) a x 0 (λ z. q (sym z))) ∙ old a b ∙ outcome-passed p s rs n i a h l q
-    ]
+    set-seen (λ a y. a < mostActions → has y k ≡ outcome p s (drop i (take n rs)) a) vectors (r .action) x (omega (arith, f .action, m))
+    (λ b. e ∙ outcome-found p s rs n i (r .action) h l refl)
+    (λ a q b. old a b ∙ outcome-passed p s rs n i a h l q)
 
 -- ---- entries
 

@@ -1,23 +1,77 @@
-// What every action is granted at 64 pairs, and the same as table entries.
+// Where every action is granted among 64 pairs of sets, and the same as table entries.
 ghost use Prim.Native.Nat.{ℕ, _<_};
 ghost use mathlib.Core.Path.{_≡_};
+ghost use mathlib.Core.Bool.{false, _&&_, _||_};
+ghost use lib.Dec.{eqb};
 ghost use lib.ListN.{getD};
+ghost use Rattle.basis.specs.Choice.{given};
+ghost use Rattle.basis.specs.Lists.{any};
 ghost use Rattle.sets.specs.Set.{has, setOf};
 ghost use Rattle.policy.specs.Limits.{mostActions};
-ghost use Rattle.policy.specs.Policy.{Policy};
+ghost use Rattle.policy.specs.Policy.{Policy, formulaIn};
+ghost use Rattle.policy.specs.Value.{rulesOf, pairsOf};
 ghost use Rattle.formula.specs.Truth as truth;
-ghost use Rattle.formula.specs.Truth.{Sets};
+ghost use Rattle.formula.specs.Truth.{Sets, truth as trueAt, pairHolds};
+ghost use Rattle.formula.specs.Inner.Fits.{RulesFit, PairsFit};
 ghost use Rattle.formula.specs.Inner.Grant.{GrantsOf};
 ghost use Rattle.formula.specs.Inner.Lane.{lanes, AttributesOf, InLane};
 use crate::attributes::Attributes;
 use crate::grant;
-use crate::grant::Grant;
 use crate::grant::Grants;
+use crate::pairs;
 use crate::side::VECTORS;
 use policy::limits::MOST_ACTIONS;
+use policy::value::Pairs;
+use policy::value::Rules;
 
-// For each action the pairs at which it is granted. The last rule comes first, so an action's first one counts.
-pub fn of_pairs(
+// For each action the pairs of sets at which its formula is true. The last rule comes first, so an action's first one
+// counts.
+fn by_rules(
+    sides: Attributes,
+    users: &[u64; VECTORS],
+    objects: &[u64; VECTORS],
+    rules: Rules,
+) -> [u64; MOST_ACTIONS]
+    requires { ⌜ ((p : Policy) × AttributesOf p sides) × RulesFit mostActions rules ⌝ }
+    ensures { λ r. ⌜ ((p : Policy) (k : ℕ) (s : Sets) → AttributesOf p sides → InLane p (now (users .entry)) (now (objects .entry)) k s → (a : ℕ) → a < mostActions → has (getD r a 0) k ≡ given (formulaIn (rulesOf rules) a) false (trueAt p s)) ⌝ }
+{
+    let entries = rules.entries;
+    let mut r = [0u64; MOST_ACTIONS];
+    let mut i = rules.count;
+    while 0 < i {
+        i -= 1;
+        let rule = entries[i];
+        let a = rule.action as usize;
+        r[a] = grant::where_true(sides, users, objects, rule);
+    }
+    r
+}
+
+// For each action the pairs of sets that are handed in, and those at which one of its pairs holds.
+fn with_pairs(
+    users: &[u64; VECTORS],
+    objects: &[u64; VECTORS],
+    from: [u64; MOST_ACTIONS],
+    pairs: Pairs,
+) -> [u64; MOST_ACTIONS]
+    requires { ⌜ PairsFit mostActions pairs ⌝ }
+    ensures { λ r. ⌜ ((p : Policy) (k : ℕ) (s : Sets) → InLane p (now (users .entry)) (now (objects .entry)) k s → (a : ℕ) → a < mostActions → has (getD r a 0) k ≡ (has (getD from a 0) k || any (λ x. eqb (x .action) a && pairHolds p s x) (pairsOf pairs))) ⌝ }
+{
+    let entries = pairs.entries;
+    let n = pairs.count;
+    let mut r = from;
+    let mut i: usize = 0;
+    while i < n {
+        let pair = entries[i];
+        let a = pair.action as usize;
+        r[a] = r[a] | pairs::held(users, objects, pair);
+        i += 1;
+    }
+    r
+}
+
+// For each action the pairs of sets at which it is granted.
+pub fn of_lanes(
     sides: Attributes,
     users: &[u64; VECTORS],
     objects: &[u64; VECTORS],
@@ -27,16 +81,13 @@ pub fn of_pairs(
     ensures { λ r. ⌜ ((p : Policy) (k : ℕ) (s : Sets) → AttributesOf p sides → GrantsOf p grants → InLane p (now (users .entry)) (now (objects .entry)) k s → (a : ℕ) → a < mostActions → has (getD r a 0) k ≡ truth.grants p a s) ⌝ }
 {
     let rules = grants.rules;
-    let entries = rules.entries;
-    let mut r = [0u64; MOST_ACTIONS];
-    let mut i = rules.count;
-    while 0 < i {
-        i -= 1;
-        let rule = entries[i];
-        let a = rule.action as usize;
-        r[a] = grant::where_granted(sides, users, objects, Grant { rule });
-    }
-    r
+    let pairs = grants.pairs;
+    with_pairs(
+        users,
+        objects,
+        by_rules(sides, users, objects, rules),
+        pairs,
+    )
 }
 
 // The table entry of pair k: bit a is set where action a is granted. The loop goes over as many actions as any form

@@ -1,16 +1,20 @@
 // What grants an action, and where it does: the one place that says so, for 64 pairs at once.
 ghost use Prim.Native.Nat.{ℕ, _≤_};
 ghost use mathlib.Core.Path.{_≡_};
+ghost use mathlib.Core.Bool.{false};
+ghost use Rattle.basis.specs.Choice.{given, there};
 ghost use Rattle.sets.specs.Set.{has};
-ghost use Rattle.policy.specs.Policy.{Policy};
-ghost use Rattle.policy.specs.Value.{wordPlaces, policyOf};
-ghost use Rattle.formula.specs.Truth.{Sets};
-ghost use Rattle.formula.specs.Inner.Fits.{ValueFits};
-ghost use Rattle.formula.specs.Inner.Grant.{grantsAt, GrantOf, GrantsOf};
+ghost use Rattle.policy.specs.Policy.{Policy, formulaIn, named as isNamed};
+ghost use Rattle.policy.specs.Value.{wordPlaces, rulesOf, policyOf};
+ghost use Rattle.formula.specs.Truth.{Sets, truth};
+ghost use Rattle.formula.specs.Inner.Fits.{RulesFit, ValueFits};
+ghost use Rattle.formula.specs.Inner.Grant.{ruleTrue, grantsAt, GrantFits, GrantOf, GrantsOf};
 ghost use Rattle.formula.specs.Inner.Lane.{AttributesOf, InLane};
 use crate::attributes::Attributes;
 use crate::evaluate;
+use crate::pairs;
 use crate::side::VECTORS;
+use policy::value::Pairs;
 use policy::value::PolicyValue;
 use policy::value::RuleValue;
 use policy::value::Rules;
@@ -18,14 +22,16 @@ use policy::value::Slot;
 use policy::value::WORD_PLACES;
 use words::Word;
 
-// What grants the actions of a policy: its rules.
+// What grants the actions of a policy: its rules and its pairs.
 pub struct Grants {
     pub rules: Rules,
+    pub pairs: Pairs,
 }
 
-// What grants one action: its rule, and one without words where it has none.
+// What grants one action: its rule, and one without words where it has none, and its pairs.
 pub struct Grant {
     pub rule: RuleValue,
+    pub pairs: Pairs,
 }
 
 // What grants the actions of this policy.
@@ -34,21 +40,56 @@ pub fn of_policy(policy: PolicyValue) -> Grants
     ensures { λ r. ⌜ GrantsOf (policyOf policy) r ⌝ }
 {
     let rules = policy.rules;
-    Grants { rules }
+    let pairs = policy.pairs;
+    Grants { rules, pairs }
 }
 
-// What grants nothing.
-fn nothing() -> Grant
-    ensures { λ r. ⌜ r .rule .count ≡ 0 ⌝ }
+// A rule without words, true nowhere.
+fn no_rule() -> RuleValue
+    ensures { λ r. ⌜ r .count ≡ 0 ⌝ }
 {
     let words = [Slot { word: Word::False }; WORD_PLACES];
-    Grant {
-        rule: RuleValue {
-            action: 0,
-            count: 0,
-            words,
-        },
+    RuleValue {
+        action: 0,
+        count: 0,
+        words,
     }
+}
+
+// The rule of an action, and one without words where it has none.
+fn rule_of(rules: Rules, action: u32) -> RuleValue
+    requires { ⌜ ((n : ℕ) × RulesFit n rules) ⌝ }
+    ensures { λ r. ⌜ (r .count ≤ wordPlaces) × ((p : Policy) (s : Sets) → ruleTrue p r s ≡ given (formulaIn (rulesOf rules) action) false (truth p s)) ⌝ }
+{
+    let entries = rules.entries;
+    let n = rules.count;
+    let mut i: usize = 0;
+    while i < n {
+        let rule = entries[i];
+        if rule.action == action {
+            return rule;
+        }
+        i += 1;
+    }
+    no_rule()
+}
+
+// Whether one of some rules is the action's.
+fn has_rule(rules: Rules, action: u32) -> bool
+    requires { ⌜ ((n : ℕ) × RulesFit n rules) ⌝ }
+    ensures { λ r. ⌜ r ≡ there (formulaIn (rulesOf rules) action) ⌝ }
+{
+    let entries = rules.entries;
+    let n = rules.count;
+    let mut i: usize = 0;
+    while i < n {
+        let rule = entries[i];
+        if rule.action == action {
+            return true;
+        }
+        i += 1;
+    }
+    false
 }
 
 // What grants an action.
@@ -57,33 +98,53 @@ pub fn of_action(grants: Grants, action: u32) -> Grant
     ensures { λ r. ⌜ ((p : Policy) → GrantsOf p grants → GrantOf p action r) ⌝ }
 {
     let rules = grants.rules;
-    let entries = rules.entries;
-    let n = rules.count;
-    let mut i: usize = 0;
-    while i < n {
-        let rule = entries[i];
-        if rule.action == action {
-            return Grant { rule };
-        }
-        i += 1;
-    }
-    nothing()
+    let all = grants.pairs;
+    let rule = rule_of(rules, action);
+    let pairs = pairs::of_action(all, action);
+    Grant { rule, pairs }
 }
 
-// The pairs at which this grants: those at which its formula is true.
+// Whether the action has a rule or a pair.
+pub fn named(grants: Grants, action: u32) -> bool
+    requires { ⌜ ((p : Policy) × GrantsOf p grants) ⌝ }
+    ensures { λ r. ⌜ ((p : Policy) → GrantsOf p grants → r ≡ isNamed p action) ⌝ }
+{
+    let rules = grants.rules;
+    if has_rule(rules, action) {
+        return true;
+    }
+    let all = grants.pairs;
+    pairs::name(all, action)
+}
+
+// The pairs of sets at which the formula of a rule is true.
+pub fn where_true(
+    sides: Attributes,
+    users: &[u64; VECTORS],
+    objects: &[u64; VECTORS],
+    rule: RuleValue,
+) -> u64
+    requires { ⌜ ((p : Policy) × AttributesOf p sides) × (rule .count ≤ wordPlaces) ⌝ }
+    ensures { λ r. ⌜ ((p : Policy) (k : ℕ) (s : Sets) → AttributesOf p sides → InLane p (now (users .entry)) (now (objects .entry)) k s → has r k ≡ ruleTrue p rule s) ⌝ }
+{
+    if rule.count == 0 {
+        return 0;
+    }
+    let words = rule.words;
+    evaluate::truths(sides, users, objects, words, rule.count)
+}
+
+// The pairs of sets at which this grants: those at which its formula is true, and those at which a pair of it holds.
 pub fn where_granted(
     sides: Attributes,
     users: &[u64; VECTORS],
     objects: &[u64; VECTORS],
     grant: Grant,
 ) -> u64
-    requires { ⌜ ((p : Policy) × AttributesOf p sides) × (grant .rule .count ≤ wordPlaces) ⌝ }
+    requires { ⌜ ((p : Policy) × AttributesOf p sides) × GrantFits grant ⌝ }
     ensures { λ r. ⌜ ((p : Policy) (k : ℕ) (s : Sets) → AttributesOf p sides → InLane p (now (users .entry)) (now (objects .entry)) k s → has r k ≡ grantsAt p grant s) ⌝ }
 {
     let rule = grant.rule;
-    if rule.count == 0 {
-        return 0;
-    }
-    let words = rule.words;
-    evaluate::truths(sides, users, objects, words, rule.count)
+    let own = grant.pairs;
+    where_true(sides, users, objects, rule) | pairs::any_held(users, objects, own)
 }

@@ -1,5 +1,5 @@
-// What formulas decide. A formula is evaluated at 64 pairs of a user set and an object set at once: bit k of a number
-// is the truth at pair k.
+// What formulas and pairs decide, at 64 pairs of a user set and an object set at once: bit k of a number says whether an
+// action is granted at pair k.
 ghost use Prim.Native.Nat.{_^_, _<_};
 ghost use mathlib.Core.Path.{_≡_};
 ghost use mathlib.Core.Bool.{true};
@@ -17,6 +17,7 @@ pub mod blocks;
 pub mod entries;
 mod evaluate;
 pub mod grant;
+mod pairs;
 pub mod side;
 
 use crate::attributes::Attributes;
@@ -67,7 +68,7 @@ fn answer(v: PolicyValue, action: u32, user: u32, object: u32) -> Decision
     }
 }
 
-// Whether an action is granted to a user set on an object set, by the action's formula.
+// Whether an action is granted to a user set on an object set, by the action's formula and its pairs.
 pub fn decide(v: PolicyValue, action: u32, user: u32, object: u32) -> Decision
     ensures { λ r. ⌜ replyOf r ≡ spec.decide v action (at user object) ⌝ }
 {

@@ -23,7 +23,7 @@ use Rattle.policy.proofs.Forms.{actions-most}
 use Rattle.formula.specs.Truth.{Sets, at, grants}
 use Rattle.formula.specs.Inner.Grant.{GrantsOf}
 use Rattle.formula.specs.declared.grant.Grants.{Grants}
-use Rattle.formula.proofs.Granting.{grants-past}
+use Rattle.formula.proofs.Pairing.{grants-past}
 use Rattle.labels.specs.Compile.{entryOf}
 use Rattle.labels.specs.Compile.{likeUsers}
 use Rattle.labels.specs.Apart.{Separates}

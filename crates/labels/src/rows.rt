@@ -56,7 +56,7 @@ fn put_block(
     requires { ⌜ ((p : Policy) × AttributesOf p sides × GrantsOf p grants) × (count ≤ lanes) × (start + count ≤ mostSets) × (length (now row) ≡ mostSets) ⌝ }
     ensures { λ _. ⌜ (length (now (row .exit)) ≡ mostSets) × ((p : Policy) (u : ℕ) → AttributesOf p sides → GrantsOf p grants → ((k : ℕ) → k < count → InLane p (now (users .entry)) (now (objects .entry)) k (at u (start + k))) → ((o : ℕ) → o < start → getD (now (row .entry)) o 0 ≡ entryOf p (at u o)) → (o : ℕ) → o < start + count → getD (now (row .exit)) o 0 ≡ entryOf p (at u o)) ⌝ }
 {
-    let granted = entries::of_pairs(sides, users, objects, grants);
+    let granted = entries::of_lanes(sides, users, objects, grants);
     for k in 0..count {
         row[start + k] = entries::entry(&granted, k);
     }

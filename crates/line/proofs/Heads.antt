@@ -1,4 +1,4 @@
--- What taking a line apart says of its refusal: a fault is the lowest one, and a line taken breaks none of 2 to 4.
+-- What taking a line apart says of its refusal: a fault is the first one, and a line taken breaks none of 2 to 4.
 use Prim.Native.Nat.{ℕ}
 use mathlib.Core.Path.{_≡_, refl, sym, ap}
 use mathlib.Core.Bool.{Bool, true, false, cond, not}

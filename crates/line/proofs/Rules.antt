@@ -203,7 +203,7 @@ unfolding admittedRule
 rule-stored least form s a fs y e h =
     ap (λ (z : RuleLine). z .rule) e ∙ rule-held a fs (ruleIn a (drop 2 fs)) refl (first-none _ _ (sym (ap (λ (z : RuleLine). z .fault) e) ∙ h))
 
--- ---- the lowest refusal of a rule's line
+-- ---- the first refusal of a rule's line
 
 abbrev pub numberIn : Fault → Option ℕ
 numberIn None = none

@@ -161,4 +161,5 @@ module _ (t : Word → Bool) (fails : t missing ≡ false) where
         users = e i .users;
         objects = e i .objects;
         rules = record { count = e i .rules .count; entries = r i };
+        pairs = e i .pairs;
       }

@@ -96,6 +96,7 @@ packedPolicy v =
       users = v .users;
       objects = v .objects;
       rules = packedRules (rulesOf (v .rules));
+      pairs = v .pairs;
     }
 
 -- ---- and back
@@ -115,4 +116,5 @@ unpackedPolicy p =
       users = p .users;
       objects = p .objects;
       rules = unpackedRules (p .rules);
+      pairs = p .pairs;
     }

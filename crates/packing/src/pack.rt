@@ -70,6 +70,7 @@ pub fn pack(from: PolicyValue) -> PackedPolicy
     let object = from.object;
     let users = from.users;
     let objects = from.objects;
+    let pairs = from.pairs;
     let values = from.rules;
     let packed = rules(values);
     PackedPolicy {
@@ -79,5 +80,6 @@ pub fn pack(from: PolicyValue) -> PackedPolicy
         users,
         objects,
         rules: packed,
+        pairs,
     }
 }

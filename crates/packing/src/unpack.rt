@@ -111,6 +111,7 @@ pub fn unpack(from: PackedPolicy) -> PolicyValue
     let object = from.object;
     let users = from.users;
     let objects = from.objects;
+    let pairs = from.pairs;
     let packed = from.rules;
     let values = rules(packed);
     PolicyValue {
@@ -120,5 +121,6 @@ pub fn unpack(from: PackedPolicy) -> PolicyValue
         users,
         objects,
         rules: values,
+        pairs,
     }
 }

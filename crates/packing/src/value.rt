@@ -1,4 +1,5 @@
 // A policy value as it crosses to C and Rust: an enum cannot cross, so each word goes as its number.
+use policy::value::Pairs;
 use policy::value::RULE_PLACES;
 use policy::value::Register;
 use policy::value::SideValue;
@@ -28,4 +29,5 @@ pub struct PackedPolicy {
     pub users: Register,
     pub objects: Register,
     pub rules: PackedRules,
+    pub pairs: Pairs,
 }

@@ -7,6 +7,7 @@ pub mod WidthLines
 pub mod DirectLines
 pub mod EntryLines
 pub mod RuleLines
+pub mod PairLines
 pub mod Sections
 pub mod Answers
 pub mod Whole

@@ -49,7 +49,7 @@ formula-refusal : (t : List ℕ) (c : Cursor) → LineAt t c RuleKind → (p : P
     inRange RuleKind (p .form) (sizes p) (c .numbers) ws ≡ i → rises RuleKind p (c .numbers) ≡ r → all (widthsEqual (sizes p)) ws ≡ e
     → refusalAt p RuleKind (fieldsAt t c)
     ≡ firstBroken (check 5 (not (areWords (drop 2 (fieldsAt t c)))) ∷ check 6 (not i) ∷ check 7 (not r) ∷ check 8 (not e) ∷ check 9 (not (balanced 0 ws)) ∷ [])
-unfolding refusalAt formFits numbersFit wordsOf balances
+unfolding refusalAt firstBroken formFits numbersFit wordsOf balances
 formula-refusal t c l p i r e f g h = rw (l .form, ← l .numbers, f, g, h) refl
 
 -- what is held between two lines; as each action rises, there are no more rules than actions below the least that rises

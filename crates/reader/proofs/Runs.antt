@@ -8,51 +8,50 @@ use Rattle.basis.specs.Choice.{check, firstBroken}
 use Rattle.basis.specs.Lists.{all}
 use Rattle.text.specs.Kind.{layoutOf, placeOf}
 use Rattle.text.specs.declared.kind.Kind.{Kind}
-use Rattle.text.specs.declared.kind.Layout.{Layout}
-use Rattle.text.specs.declared.kind.Layout.the-variants.{One, Two}
+use Rattle.text.specs.declared.kind.Layout.the-variants.{One, Two, Three}
 use Rattle.policy.specs.Answers.{numberOf}
-use Rattle.policy.specs.Checks.{sizes, inRange, rises, balances, withLineOf}
-use Rattle.policy.specs.Line.{formFits, numbersOf, wordsOf, lineOf}
+use Rattle.policy.specs.Checks.{sizes, inRange, rises, pairRoom, balances, withLineOf}
+use Rattle.policy.specs.Line.{numbersOf, wordsOf, lineOf}
 use Rattle.policy.specs.Policy.{Policy}
 use Rattle.policy.specs.declared.refusal.Refusal.{Refusal}
 use Rattle.line.specs.Inner.Head.{numbersFit}
+use Rattle.line.specs.declared.rule.Fault.{Fault as LineFault}
+use Rattle.line.specs.declared.rule.Fault.the-variants.{None, Is}
+use Rattle.line.proofs.Rules.{numberIn}
 use Rattle.reader.specs.Inner.Cursor.{fieldsAt, refusalAt, left, bareAt, LineAt, Stands, Reads, NextOf, aheadIs}
-use Rattle.reader.specs.Inner.Lists.{Listed, ReadBy}
+use Rattle.reader.specs.Inner.Lists.{Listed, ReadBy, Wordless, Test, TestedBy, TestedLines, faultBy}
 use Rattle.reader.specs.declared.cursor.Ahead.the-variants.{Line, Fault}
 use Rattle.reader.specs.declared.cursor.Cursor.{Cursor}
 use Rattle.reader.proofs.Cursors.{fault-bare, ahead-not, next-past, left-taken, left-refused}
 
 -- ---- a line without words
 
--- a layout without words
-record Wordless (x : Layout) : Type 0 where
-  form : (fs : List (List ℕ)) → formFits x fs ≡ numbersFit x fs
-  words : (fs : List (List ℕ)) → wordsOf x fs ≡ []
-  balance : balances x [] ≡ true
-
-one-wordless : Wordless One
+pub one-wordless : Wordless One
 unfolding numbersFit wordsOf balances
 one-wordless = record { form = λ fs. refl; words = λ fs. refl; balance = refl }
 
-two-wordless : Wordless Two
+pub two-wordless : Wordless Two
 unfolding numbersFit wordsOf balances
 two-wordless = record { form = λ fs. refl; words = λ fs. refl; balance = refl }
 
-module _ (t : List ℕ) (c : Cursor) (k : Kind) (l : LineAt t c k) (p : Policy) (i r : Bool) where
-  -- only 6 and 7 can be broken
-  module _ (w : Wordless (layoutOf k)) (e : inRange k (p .form) (sizes p) (c .numbers) [] ≡ i) (f : rises k p (c .numbers) ≡ r) where
-    plain-refusal : refusalAt p k (fieldsAt t c) ≡ firstBroken (check 6 (not i) ∷ check 7 (not r) ∷ [])
-    unfolding refusalAt firstBroken all
-    plain-refusal =
-        rw (w .form (fieldsAt t c), l .form, w .words (fieldsAt t c), w .balance, ← l .numbers, e, f) refl
+pub three-wordless : Wordless Three
+unfolding numbersFit wordsOf balances
+three-wordless = record { form = λ fs. refl; words = λ fs. refl; balance = refl }
 
-  pub one-refusal : layoutOf k ≡ One → inRange k (p .form) (sizes p) (c .numbers) [] ≡ i → rises k p (c .numbers) ≡ r
-      → refusalAt p k (fieldsAt t c) ≡ firstBroken (check 6 (not i) ∷ check 7 (not r) ∷ [])
-  one-refusal h = plain-refusal (rw h one-wordless)
+-- only 6, 7 and 21 can be broken
+pub plain-refusal : (t : List ℕ) (c : Cursor) (k : Kind) → LineAt t c k → (p : Policy) (i r m : Bool) → Wordless (layoutOf k)
+    → inRange k (p .form) (sizes p) (c .numbers) [] ≡ i → rises k p (c .numbers) ≡ r → pairRoom k p ≡ m
+    → refusalAt p k (fieldsAt t c) ≡ firstBroken (check 6 (not i) ∷ check 7 (not r) ∷ check 21 (not m) ∷ [])
+unfolding refusalAt firstBroken all
+plain-refusal t c k l p i r m w e f g = rw (w .form (fieldsAt t c), l .form, w .words (fieldsAt t c), w .balance, ← l .numbers, e, f, g) refl
 
-  pub two-refusal : layoutOf k ≡ Two → inRange k (p .form) (sizes p) (c .numbers) [] ≡ i → rises k p (c .numbers) ≡ r
-      → refusalAt p k (fieldsAt t c) ≡ firstBroken (check 6 (not i) ∷ check 7 (not r) ∷ [])
-  two-refusal h = plain-refusal (rw h two-wordless)
+-- the first of them
+faults-first : (i r m : Bool) → firstBroken (check 6 (not i) ∷ check 7 (not r) ∷ check 21 (not m) ∷ []) ≡ numberIn (faultBy i r m)
+unfolding firstBroken
+faults-first false r m = refl
+faults-first true false m = refl
+faults-first true true false = refl
+faults-first true true true = refl
 
 -- ---- the lines
 
@@ -97,6 +96,33 @@ module _ (t : List ℕ) (k : Kind) {A : Type 0} (Fits : Listed k A → Policy �
             past = rw q (λ h j z. absurd (fault-bare r j z));
             left = λ x p g z. i .left x p g z ∙ left-refused t d k r b e q (x .with xs p) (f x p g z);
           }
+
+-- ---- lines that are tested
+
+module _ {t : List ℕ} {k : Kind} {A : Type 0} {z : Test A} {c d : Cursor} {xs : List A} (l : TestedLines t k z (placeOf k) c d xs) where
+  -- what the line ahead says
+  abbrev next : A
+  next = z .says (d .numbers)
+
+  abbrev fault : LineFault
+  fault = faultBy (z .fits xs next) (z .rises xs next) (z .room xs)
+
+  module _ (q : d .ahead ≡ Line k) where
+    tested-refusal : (x : Listed k A) (p : Policy) → TestedBy k z x p → refusalAt (x .with xs p) k (fieldsAt t d) ≡ numberIn fault
+    tested-refusal x p f =
+        plain-refusal t d k (l .stands k q) (x .with xs p) (z .fits xs next) (z .rises xs next) (z .room xs) (f .layout)
+        (f .range xs (d .numbers)) (f .rise xs (d .numbers)) (f .space xs)
+        ∙ faults-first (z .fits xs next) (z .rises xs next) (z .room xs)
+
+    -- a line that breaks nothing is taken
+    pub tested-more : fault ≡ None → (b : Cursor) → NextOf t d k b → TestedLines t k z (placeOf k) c b (xs ++ (next ∷ []))
+    tested-more e b i =
+        one-read t k (TestedBy k z) l q b i next
+        (λ x p f v. (tested-refusal x p f ∙ ap numberIn e, f .said _ _ ∙ ap (z .says) (sym (l .stands k q .numbers))))
+
+    -- and another refused
+    pub tested-out : (r : Refusal) → fault ≡ Is r → (b : Cursor) → b ≡ bareAt (d .at) (d .line) (Fault r) → TestedLines t k z (placeOf k) c b xs
+    tested-out r e b i = refused-read t k (TestedBy k z) l q b r i (λ x p f v. tested-refusal x p f ∙ ap numberIn e)
 
 -- ---- one list behind others
 

@@ -1,14 +1,16 @@
 -- Where the lines of each kind stand in a policy, and what is asked of them.
-use mathlib.Core.Path.{refl}
+use mathlib.Core.Path.{_≡_, refl, ap}
 use Prim.Native.Nat.{ℕ}
 use Rattle.seniority.specs.Seniority.{direct}
 use Rattle.seniority.specs.declared.Direct.{Direct}
-use Rattle.text.specs.declared.kind.Kind.the-variants.{Uattr, Oattr, Usen, Osen, User, Object, Rule as RuleKind}
-use Rattle.policy.specs.Checks.{sideSizes, inRange, directRises, entryRises, ruleRises, rises, withUser, withObject, withUsers, withObjects, withRules, extended}
-use Rattle.policy.specs.Limits.{userNumbers, objectNumbers}
-use Rattle.policy.specs.Policy.{Rule, total}
+use Rattle.text.specs.declared.kind.Kind.the-variants.{Uattr, Oattr, Usen, Osen, User, Object, Rule as RuleKind, Pair as PairKind}
+use Rattle.policy.specs.Checks.{SideSizes, sideSizes, directFits, pairFits, pairIn, inRange, directRises, ruleRises, rises, withUser, withObject, withUsers, withObjects, withRules, withPairs, extended}
+use Rattle.policy.specs.Limits.{values, actions, userNumbers, objectNumbers}
+use Rattle.policy.specs.Policy.{Rule, Policy, total}
 use Rattle.policy.specs.declared.value.Entry.{Entry}
-use Rattle.reader.specs.Inner.Lists.{Listed, WidthKind, DirectKind, EntryKind, RuleKindOf}
+use Rattle.policy.specs.declared.value.Pair.{Pair}
+use Rattle.reader.specs.Inner.Lists.{Listed, TestedBy, widthTest, directTest, entryTest, pairTest, RuleKindOf}
+use Rattle.reader.proofs.Runs.{one-wordless, two-wordless, three-wordless}
 
 -- ---- widths
 
@@ -38,13 +40,13 @@ object-widths =
       same = λ p. refl;
     }
 
-pub uattr : WidthKind Uattr user-widths
+pub uattr : {p : Policy} {n : ℕ} → values (p .form) ≡ n → TestedBy Uattr (widthTest n) user-widths p
 unfolding user-widths inRange rises total
-uattr = record { layout = refl; said = λ n ws. refl; range = λ p n ws. refl; rise = λ p n. refl; form = λ ws p. refl }
+uattr e = record { layout = one-wordless; said = λ n ws. refl; range = λ xs n. rw e; rise = λ xs n. refl; space = λ xs. refl }
 
-pub oattr : WidthKind Oattr object-widths
+pub oattr : {p : Policy} {n : ℕ} → values (p .form) ≡ n → TestedBy Oattr (widthTest n) object-widths p
 unfolding object-widths inRange rises total
-oattr = record { layout = refl; said = λ n ws. refl; range = λ p n ws. refl; rise = λ p n. refl; form = λ ws p. refl }
+oattr e = record { layout = one-wordless; said = λ n ws. refl; range = λ xs n. rw e; rise = λ xs n. refl; space = λ xs. refl }
 
 -- ---- seniorities
 
@@ -74,13 +76,27 @@ object-directs =
       same = λ p. refl;
     }
 
-unfoldable pub usen : DirectKind Usen user-directs
+pub usen : {p : Policy} {s : SideSizes} → sideSizes (p .user) ≡ s → TestedBy Usen (directTest s) user-directs p
 unfolding user-directs inRange rises directRises total
-usen = record { side = λ p. sideSizes (p .user); layout = refl; said = λ n ws. refl; range = λ p n ws. refl; rise = λ p n. refl; kept = λ ls p. refl }
+usen e =
+    record {
+      layout = two-wordless;
+      said = λ n ws. refl;
+      range = λ xs n. ap (λ (s : SideSizes). directFits s (n .first) (n .second)) e;
+      rise = λ xs n. refl;
+      space = λ xs. refl;
+    }
 
-unfoldable pub osen : DirectKind Osen object-directs
+pub osen : {p : Policy} {s : SideSizes} → sideSizes (p .object) ≡ s → TestedBy Osen (directTest s) object-directs p
 unfolding object-directs inRange rises directRises total
-osen = record { side = λ p. sideSizes (p .object); layout = refl; said = λ n ws. refl; range = λ p n ws. refl; rise = λ p n. refl; kept = λ ls p. refl }
+osen e =
+    record {
+      layout = two-wordless;
+      said = λ n ws. refl;
+      range = λ xs n. ap (λ (s : SideSizes). directFits s (n .first) (n .second)) e;
+      rise = λ xs n. refl;
+      space = λ xs. refl;
+    }
 
 -- ---- users and objects
 
@@ -113,13 +129,13 @@ objects =
       same = λ p. refl;
     }
 
-unfoldable pub user : EntryKind User userNumbers users
-unfolding users inRange rises entryRises
-user = record { total = λ p. total (p .user); layout = refl; said = λ n ws. refl; range = λ p n ws. refl; rise = λ p n. refl; kept = λ es p. refl }
+pub user : {p : Policy} {n : ℕ} → total (p .user) ≡ n → TestedBy User (entryTest userNumbers n) users p
+unfolding users inRange rises
+user e = record { layout = two-wordless; said = λ n ws. refl; range = λ xs n. rw e; rise = λ xs n. refl; space = λ xs. refl }
 
-unfoldable pub object : EntryKind Object objectNumbers objects
-unfolding objects inRange rises entryRises
-object = record { total = λ p. total (p .object); layout = refl; said = λ n ws. refl; range = λ p n ws. refl; rise = λ p n. refl; kept = λ es p. refl }
+pub object : {p : Policy} {n : ℕ} → total (p .object) ≡ n → TestedBy Object (entryTest objectNumbers n) objects p
+unfolding objects inRange rises
+object e = record { layout = two-wordless; said = λ n ws. refl; range = λ xs n. rw e; rise = λ xs n. refl; space = λ xs. refl }
 
 -- ---- rules
 
@@ -139,3 +155,22 @@ rules =
 pub rule : RuleKindOf rules
 unfolding rules rises ruleRises
 rule = record { said = λ n ws. refl; rise = λ p n. refl; form = λ rs p. refl; sizes = λ rs p. refl }
+
+-- ---- pairs
+
+unfoldable pub pairs : Listed PairKind Pair
+unfolding extended
+pairs =
+    record {
+      items = λ p. p .pairs;
+      with = λ xs p. withPairs xs p;
+      said = λ n ws. pairIn n;
+      extends = λ p n ws. refl;
+      got = λ xs p. refl;
+      again = λ xs ys p. refl;
+      same = λ p. refl;
+    }
+
+pub pair : {p : Policy} {n u o : ℕ} → actions (p .form) ≡ n → total (p .user) ≡ u → total (p .object) ≡ o → TestedBy PairKind (pairTest n u o) pairs p
+unfolding pairs inRange pairFits rises
+pair e f g = record { layout = three-wordless; said = λ n ws. refl; range = λ xs n. rw (e, f, g); rise = λ xs n. refl; space = λ xs. refl }

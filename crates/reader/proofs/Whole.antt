@@ -11,10 +11,10 @@ use Rattle.text.specs.declared.kind.Kind.{Kind}
 use Rattle.text.specs.declared.kind.Kind.the-variants.{Uattr, Oattr, Usen, Osen, User, Object, End}
 use Rattle.policy.specs.Answers.{numberOf, ReadAs, valueIn}
 use Rattle.policy.specs.Checks.{sideSizes}
-use Rattle.policy.specs.Limits.{textBytes, mostValues, values, userNumbers, objectNumbers}
+use Rattle.policy.specs.Limits.{textBytes, mostValues, values, actions, userNumbers, objectNumbers}
 use Rattle.policy.specs.Policy.{Side, Policy, blank, total}
 use Rattle.policy.specs.Read.{Refused, readText}
-use Rattle.policy.specs.Value.{widthPlaces, sideValue, register, rulesValue, valueOf}
+use Rattle.policy.specs.Value.{widthPlaces, sideValue, register, rulesValue, pairsValue, valueOf}
 use Rattle.policy.specs.declared.refusal.Refusal.{Refusal}
 use Rattle.policy.specs.declared.refusal.Refusal.the-variants.{TextTooLong}
 use Rattle.policy.specs.declared.value.Reading.{Reading}
@@ -22,24 +22,26 @@ use Rattle.policy.specs.declared.value.Verdict.{Verdict}
 use Rattle.policy.specs.declared.value.Verdict.the-variants.{Accepted as AcceptedText, Refused as RefusedText}
 use Rattle.policy.specs.declared.value.Register.{Register}
 use Rattle.policy.specs.declared.value.Rules.{Rules}
+use Rattle.policy.specs.declared.value.Pairs.{Pairs}
 use Rattle.policy.specs.declared.value.SideValue.{SideValue}
 use Rattle.policy.proofs.Forms.{values-most}
 use Rattle.checks.specs.Inner.{sizesIn}
 use Rattle.checks.specs.declared.side.Shape.{Shape}
 use Rattle.reader.specs.Inner.Cursor.{left, outcomeOf, Reads, FirstOf}
-use Rattle.reader.specs.Inner.Lists.{shapeWith, withSides, Sized, WidthsFrom, SenioritiesFrom, EntriesFrom, RulesFrom, FormFrom, SidesFrom, ListsFrom}
+use Rattle.reader.specs.Inner.Lists.{shapeWith, withSides, Sized, WidthsFrom, SenioritiesFrom, EntriesFrom, RulesFrom, PairsFrom, FormFrom, SidesFrom, ListsFrom}
 use Rattle.reader.specs.declared.cursor.Ahead.the-variants.{Fault}
 use Rattle.reader.specs.declared.cursor.Cursor.{Cursor}
 use Rattle.reader.specs.declared.entries.EntriesRead.{EntriesRead}
 use Rattle.reader.specs.declared.form.FormRead.{FormRead}
 use Rattle.reader.specs.declared.lists.ListsRead.{ListsRead}
+use Rattle.reader.specs.declared.pairs.PairsRead.{PairsRead}
 use Rattle.reader.specs.declared.rules.RulesRead.{RulesRead}
 use Rattle.reader.specs.declared.seniorities.SenioritiesRead.{SenioritiesRead}
 use Rattle.reader.specs.declared.sides.SidesRead.{SidesRead}
 use Rattle.reader.specs.declared.widths.WidthsRead.{WidthsRead}
 use Rattle.reader.proofs.Answers.{said-fault}
 use Rattle.reader.proofs.Runs.{then}
-use Rattle.reader.proofs.Sections.{user-widths, object-widths, uattr, oattr, user-directs, object-directs, usen, osen, users, objects, user, object, rules, rule}
+use Rattle.reader.proofs.Sections.{user-widths, object-widths, uattr, oattr, user-directs, object-directs, usen, osen, users, objects, user, object, rules, rule, pairs, pair}
 
 -- ---- a side
 
@@ -83,15 +85,15 @@ module _ {t : List ℕ} {c : Cursor} {f : FormRead} (g : FormFrom t c f) {most :
   objectSide = record { widths = v .widths; lines = q .directs }
 
   sides-lines : Reads t c (suc (placeOf Osen)) (b .cursor) (withSides (f .form) userSide objectSide)
-  unfolding blank user-widths object-widths user-directs object-directs usen osen
+  unfolding blank user-widths object-widths user-directs object-directs
   sides-lines =
       let side : List ℕ → Side = λ ws. record { widths = ws; lines = [] } in
       let none : Reads t c (placeOf Uattr) (f .cursor) (withSides (f .form) (side []) (side [])) =
       record { stands = g .stands; past = g .past; left = g .left blank refl } in
-      let us = then none (w .lines) user-widths (record { kind = uattr; most = sym m }) refl in
-      let os = then us (v .lines) object-widths (record { kind = oattr; most = sym m }) refl in
-      let ul = then os (p .lines) user-directs (record { kind = usen; side = shape-sizes (side (w .widths)) (u .shape) (w .shape) }) refl in
-      then ul (q .lines) object-directs (record { kind = osen; side = shape-sizes (side (v .widths)) (o .shape) (v .shape) }) refl
+      let us = then none (w .lines) user-widths (uattr (sym m)) refl in
+      let os = then us (v .lines) object-widths (oattr (sym m)) refl in
+      let ul = then os (p .lines) user-directs (usen (shape-sizes (side (w .widths)) (u .shape) (w .shape))) refl in
+      then ul (q .lines) object-directs (osen (shape-sizes (side (v .widths)) (o .shape) (v .shape))) refl
 
   pub sides-read : SidesFrom t c (record { form = f .form; user = a .side; ushape = u .shape; object = b .side; oshape = o .shape; cursor = b .cursor })
   sides-read =
@@ -109,33 +111,36 @@ module _ {t : List ℕ} {c : Cursor} {f : FormRead} (g : FormFrom t c f) {most :
 
 -- ---- all lists
 
-value-made : (p : Policy) (a b : SideValue) (c d : Register) (e : Rules) → a ≡ sideValue (p .user) → b ≡ sideValue (p .object) → c ≡ register (p .users)
-    → d ≡ register (p .objects) → e ≡ rulesValue (p .rules)
-    → record { form = p .form; user = a; object = b; users = c; objects = d; rules = e } ≡ valueOf p
+value-made : (p : Policy) (a b : SideValue) (c d : Register) (e : Rules) (f : Pairs) → a ≡ sideValue (p .user) → b ≡ sideValue (p .object) → c ≡ register (p .users)
+    → d ≡ register (p .objects) → e ≡ rulesValue (p .rules) → f ≡ pairsValue (p .pairs)
+    → record { form = p .form; user = a; object = b; users = c; objects = d; rules = e; pairs = f } ≡ valueOf p
 unfolding valueOf
-value-made p a b c d e f g h i j = rw (f, g, h, i, j)
+value-made p a b c d e f g h i j k l = rw (g, h, i, j, k, l)
 
 module _ {t : List ℕ} {c : Cursor} {s : SidesRead} (h : SidesFrom t c s)
     {e : EntriesRead} (u : EntriesFrom t User userNumbers (s .ushape .total) (s .cursor) e)
     {f : EntriesRead} (o : EntriesFrom t Object objectNumbers (s .oshape .total) (e .cursor) f)
-    {r : RulesRead} (l : RulesFrom t (s .form) (s .ushape) (s .oshape) (f .cursor) r) where
+    {r : RulesRead} (l : RulesFrom t (s .form) (s .ushape) (s .oshape) (f .cursor) r)
+    {most : ℕ} (m : most ≡ actions (s .form)) {a : PairsRead} (x : PairsFrom t most (s .ushape .total) (s .oshape .total) (r .cursor) a) where
   abbrev policyRead : Policy
-  policyRead = record { form = s .form; user = h .user; object = h .object; users = u .entries; objects = o .entries; rules = l .list }
+  policyRead = record { form = s .form; user = h .user; object = h .object; users = u .entries; objects = o .entries; rules = l .list; pairs = x .list }
 
-  lists-lines : Reads t c (placeOf End) (r .cursor) policyRead
-  unfolding users objects rules user object
+  lists-lines : Reads t c (placeOf End) (a .cursor) policyRead
+  unfolding users objects rules pairs
   lists-lines =
-      let us = then (h .lines) (u .lines) users (record { kind = user; total = shape-total (h .user) (s .ushape) (h .user-shape) }) refl in
-      let os = then us (o .lines) objects (record { kind = object; total = shape-total (h .object) (s .oshape) (h .object-shape) }) refl in
-      then os (l .lines) rules
-      (record { kind = rule; form = refl; sizes = rw (shape-sizes (h .user) (s .ushape) (h .user-shape), shape-sizes (h .object) (s .oshape) (h .object-shape)) }) refl
+      let us = then (h .lines) (u .lines) users (user (shape-total (h .user) (s .ushape) (h .user-shape))) refl in
+      let os = then us (o .lines) objects (object (shape-total (h .object) (s .oshape) (h .object-shape))) refl in
+      let rs = then os (l .lines) rules
+      (record { kind = rule; form = refl; sizes = rw (shape-sizes (h .user) (s .ushape) (h .user-shape), shape-sizes (h .object) (s .oshape) (h .object-shape)) }) refl in
+      then rs (x .lines) pairs (pair (sym m) (shape-total (h .user) (s .ushape) (h .user-shape)) (shape-total (h .object) (s .oshape) (h .object-shape))) refl
 
   pub lists-read : ListsFrom t c
-      (record { policy = record { form = s .form; user = s .user; object = s .object; users = e .register; objects = f .register; rules = r .rules }; cursor = r .cursor })
+      (record { policy = record { form = s .form; user = s .user; object = s .object; users = e .register; objects = f .register; rules = r .rules; pairs = a .pairs }; cursor = a .cursor })
   lists-read =
       record {
         policy = policyRead;
-        value = value-made policyRead (s .user) (s .object) (e .register) (f .register) (r .rules) (h .user-value) (h .object-value) (u .register) (o .register) (l .rules);
+        value = value-made policyRead (s .user) (s .object) (e .register) (f .register) (r .rules) (a .pairs) (h .user-value) (h .object-value) (u .register) (o .register)
+            (l .rules) (x .pairs);
         lines = lists-lines;
       }
 

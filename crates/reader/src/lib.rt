@@ -13,6 +13,7 @@ mod cursor;
 mod entries;
 mod form;
 mod lists;
+mod pairs;
 mod rules;
 mod seniorities;
 mod sides;

@@ -26,13 +26,17 @@ pub fn read(text: &[u8], s: SidesRead) -> ListsRead
     let o = crate::entries::read(text, c, Kind::Object, OBJECT_NUMBERS, os.total);
     let c = o.cursor;
     let r = crate::rules::read(text, c, s.form, us, os);
-    let cursor = r.cursor;
+    let c = r.cursor;
+    let most = policy::limits::actions(s.form);
+    let p = crate::pairs::read(text, c, most, us.total, os.total);
+    let cursor = p.cursor;
     // Lists leave what they were handed back in once all are read, and so are copied once.
     let user = s.user;
     let object = s.object;
     let users = u.register;
     let objects = o.register;
     let rules = r.rules;
+    let pairs = p.pairs;
     let policy = PolicyValue {
         form: s.form,
         user,
@@ -40,6 +44,7 @@ pub fn read(text: &[u8], s: SidesRead) -> ListsRead
         users,
         objects,
         rules,
+        pairs,
     };
     ListsRead { policy, cursor }
 }

@@ -22,7 +22,7 @@ pub fn read(text: &[u8], cursor: Cursor, kind: Kind, shape: Shape) -> Senioritie
     requires { ⌜ Stands (now text) cursor × (shape .attributes ≤ widthPlaces) × (shape .total ≤ mostValues) ⌝ }
     ensures { λ r. ⌜ SenioritiesFrom (now (text .entry)) kind shape cursor r ⌝ }
 {
-    // Below every pair, as the upper value of a pair is above 0.
+    // Below every line, as the upper value of a line is above 0.
     let mut last = Direct {
         senior: 0,
         junior: 0,

@@ -1,7 +1,7 @@
 -- The lines of one kind, which stand together in a text, as a list of a policy: what the functions that read it go by.
 use Prim.Native.Nat.{ℕ, suc, _≤_}
 use mathlib.Core.Path.{_≡_}
-use mathlib.Core.Bool.{true}
+use mathlib.Core.Bool.{Bool, true, cond, _&&_}
 use mathlib.Core.List.{List, [], _∷_, _++_}
 use lib.Dec.{ltb}
 use lib.ListN.{length}
@@ -11,22 +11,29 @@ use Rattle.seniority.specs.Seniority.{direct}
 use Rattle.seniority.specs.declared.Direct.{Direct}
 use Rattle.text.specs.Kind.{layoutOf, placeOf}
 use Rattle.text.specs.declared.kind.Kind.{Kind}
-use Rattle.text.specs.declared.kind.Kind.the-variants.{Policy as PolicyKind, Osen, Rule as RuleKind, End}
-use Rattle.text.specs.declared.kind.Layout.the-variants.{One, Two}
+use Rattle.text.specs.declared.kind.Kind.the-variants.{Policy as PolicyKind, Osen, Rule as RuleKind, Pair as PairKind, End}
+use Rattle.text.specs.declared.kind.Layout.{Layout}
 use Rattle.text.specs.declared.number.Numbers.{Numbers}
 use Rattle.words.specs.declared.Word.{Word}
-use Rattle.policy.specs.Checks.{SideSizes, Sizes, sizes, widthFits, directFits, directAbove, entryFits, inRange, rises, withForm, extended}
-use Rattle.policy.specs.Limits.{mostValues, values}
+use Rattle.policy.specs.Checks.{SideSizes, Sizes, sizes, widthFits, directFits, directAbove, entryFits, entryRises, pairIn, pairRises, pairRoom, inRange, rises, balances, withForm, extended}
+use Rattle.policy.specs.Limits.{mostValues, mostPairs}
+use Rattle.policy.specs.Line.{formFits, wordsOf}
 use Rattle.policy.specs.Policy.{Side, Rule, Policy}
-use Rattle.policy.specs.Value.{widthPlaces, linePlaces, sideValue, register, rulesValue, valueOf}
+use Rattle.policy.specs.Value.{widthPlaces, linePlaces, sideValue, register, rulesValue, pairsValue, valueOf}
+use Rattle.policy.specs.declared.refusal.Refusal.the-variants.{OutOfRange, NotRising, TooManyPairs}
 use Rattle.policy.specs.declared.value.Entry.{Entry}
+use Rattle.policy.specs.declared.value.Pair.{Pair}
 use Rattle.checks.specs.Inner.{sizesIn, bothIn}
 use Rattle.checks.specs.declared.side.Shape.{Shape}
+use Rattle.line.specs.Inner.Head.{numbersFit}
+use Rattle.line.specs.declared.rule.Fault.{Fault}
+use Rattle.line.specs.declared.rule.Fault.the-variants.{None, Is}
 use Rattle.reader.specs.Inner.Cursor.{left, Stands, Past, Reads}
 use Rattle.reader.specs.declared.cursor.Cursor.{Cursor}
 use Rattle.reader.specs.declared.entries.EntriesRead.{EntriesRead}
 use Rattle.reader.specs.declared.form.FormRead.{FormRead}
 use Rattle.reader.specs.declared.lists.ListsRead.{ListsRead}
+use Rattle.reader.specs.declared.pairs.PairsRead.{PairsRead}
 use Rattle.reader.specs.declared.rules.RulesRead.{RulesRead}
 use Rattle.reader.specs.declared.seniorities.SenioritiesRead.{SenioritiesRead}
 use Rattle.reader.specs.declared.sides.SidesRead.{SidesRead}
@@ -50,18 +57,41 @@ pub record ReadBy (t : List ℕ) (k : Kind) {A : Type 0} (Fits : Listed k A → 
   pub past : Past (placeOf k) c → Past i d
   pub left : (x : Listed k A) (p : Policy) → Fits x p → x .items p ≡ [] → left t c p ≡ left t d (x .with xs p)
 
+-- ---- lines without words
+
+-- a layout without words
+pub record Wordless (x : Layout) : Type 0 where
+  pub form : (fs : List (List ℕ)) → formFits x fs ≡ numbersFit x fs
+  pub words : (fs : List (List ℕ)) → wordsOf x fs ≡ []
+  pub balance : balances x [] ≡ true
+
+-- the element that a line says, and whether it passes checks 6, 7 and 21 behind the others of its list
+pub record Test (A : Type 0) : Type 0 where
+  pub says : Numbers → A
+  pub fits : List A → A → Bool
+  pub rises : List A → A → Bool
+  pub room : List A → Bool
+
+-- lines of kind k are so tested, whichever of them stand before in the list of a policy
+pub record TestedBy (k : Kind) {A : Type 0} (z : Test A) (x : Listed k A) (p : Policy) : Type 0 where
+  pub layout : Wordless (layoutOf k)
+  pub said : (n : Numbers) (ws : List Word) → x .said n ws ≡ z .says n
+  pub range : (xs : List A) (n : Numbers) → inRange k (x .with xs p .form) (sizes (x .with xs p)) n [] ≡ z .fits xs (z .says n)
+  pub rise : (xs : List A) (n : Numbers) → rises k (x .with xs p) n ≡ z .rises xs (z .says n)
+  pub space : (xs : List A) → pairRoom k (x .with xs p) ≡ z .room xs
+
+-- between two cursors stand such lines
+abbrev pub TestedLines : List ℕ → Kind → {A : Type 0} → Test A → ℕ → Cursor → Cursor → List A → Type 0
+TestedLines t k z i c d xs = ReadBy t k (TestedBy k z) i c d xs
+
+-- the first that is broken of 6, 7 and 21
+abbrev pub faultBy : (fits rises room : Bool) → Fault
+faultBy fits rises room = cond fits (cond rises (cond room None (Is TooManyPairs)) (Is NotRising)) (Is OutOfRange)
+
 -- ---- widths
 
-pub record WidthKind (k : Kind) (x : Listed k ℕ) : Type 0 where
-  pub layout : layoutOf k ≡ One
-  pub said : (n : Numbers) (ws : List Word) → x .said n ws ≡ n .first
-  pub range : (p : Policy) (n : Numbers) (ws : List Word) → inRange k (p .form) (sizes p) n ws ≡ widthFits (values (p .form)) (sum (x .items p)) (n .first)
-  pub rise : (p : Policy) (n : Numbers) → rises k p n ≡ true
-  pub form : (ws : List ℕ) (p : Policy) → x .with ws p .form ≡ p .form
-
-pub record WidthsFit (k : Kind) (n : ℕ) (x : Listed k ℕ) (p : Policy) : Type 0 where
-  pub kind : WidthKind k x
-  pub most : values (p .form) ≡ n
+abbrev pub widthTest : ℕ → Test ℕ
+widthTest most = record { says = λ n. n .first; fits = λ ws w. widthFits most (sum ws) w; rises = λ ws w. true; room = λ ws. true }
 
 abbrev pub shapeWith : List ℕ → Shape
 shapeWith ws = record { attributes = length ws; widths = padded widthPlaces 0 ws; total = sum ws }
@@ -71,7 +101,7 @@ pub record WidthsFrom (t : List ℕ) (k : Kind) (most : ℕ) (c : Cursor) (r : W
   pub shape : r .shape ≡ shapeWith widths
   pub few : length widths ≤ sum widths
   pub small : sum widths ≤ most
-  pub lines : ReadBy t k (WidthsFit k most) (suc (placeOf k)) c (r .cursor) widths
+  pub lines : TestedLines t k (widthTest most) (suc (placeOf k)) c (r .cursor) widths
 
 -- a side's attributes have their places, and its values are few enough
 pub record Sized (x : Shape) : Type 0 where
@@ -80,41 +110,35 @@ pub record Sized (x : Shape) : Type 0 where
 
 -- ---- seniorities
 
-pub record DirectKind (k : Kind) (x : Listed k Direct) : Type 0 where
-  pub side : Policy → SideSizes
-  pub layout : layoutOf k ≡ Two
-  pub said : (n : Numbers) (ws : List Word) → x .said n ws ≡ direct (n .first) (n .second)
-  pub range : (p : Policy) (n : Numbers) (ws : List Word) → inRange k (p .form) (sizes p) n ws ≡ directFits (side p) (n .first) (n .second)
-  pub rise : (p : Policy) (n : Numbers) → rises k p n ≡ given (last (x .items p)) true (directAbove (n .first) (n .second))
-  pub kept : (ls : List Direct) (p : Policy) → side (x .with ls p) ≡ side p
-
-pub record DirectsFit (k : Kind) (s : SideSizes) (x : Listed k Direct) (p : Policy) : Type 0 where
-  pub kind : DirectKind k x
-  pub side : kind .side p ≡ s
+abbrev pub directTest : SideSizes → Test Direct
+directTest s =
+    record {
+      says = λ n. direct (n .first) (n .second);
+      fits = λ ls l. directFits s (l .senior) (l .junior);
+      rises = λ ls l. given (last ls) true (directAbove (l .senior) (l .junior));
+      room = λ ls. true;
+    }
 
 pub record SenioritiesFrom (t : List ℕ) (k : Kind) (s : Shape) (c : Cursor) (r : SenioritiesRead) : Type 0 where
   pub directs : List Direct
   pub side : r .side ≡ record { attributes = s .attributes; widths = s .widths; lines = length directs; seniority = padded linePlaces (direct 0 0) directs }
-  pub lines : ReadBy t k (DirectsFit k (sizesIn s)) (suc (placeOf k)) c (r .cursor) directs
+  pub lines : TestedLines t k (directTest (sizesIn s)) (suc (placeOf k)) c (r .cursor) directs
 
 -- ---- users and objects
 
-pub record EntryKind (k : Kind) (most : ℕ) (x : Listed k Entry) : Type 0 where
-  pub total : Policy → ℕ
-  pub layout : layoutOf k ≡ Two
-  pub said : (n : Numbers) (ws : List Word) → x .said n ws ≡ record { number = n .first; set = n .second }
-  pub range : (p : Policy) (n : Numbers) (ws : List Word) → inRange k (p .form) (sizes p) n ws ≡ entryFits most (total p) (n .first) (n .second)
-  pub rise : (p : Policy) (n : Numbers) → rises k p n ≡ given (last (x .items p)) true (λ e. ltb (e .number) (n .first))
-  pub kept : (es : List Entry) (p : Policy) → total (x .with es p) ≡ total p
-
-pub record EntriesFit (k : Kind) (most n : ℕ) (x : Listed k Entry) (p : Policy) : Type 0 where
-  pub kind : EntryKind k most x
-  pub total : kind .total p ≡ n
+abbrev pub entryTest : (most total : ℕ) → Test Entry
+entryTest most total =
+    record {
+      says = λ n. record { number = n .first; set = n .second };
+      fits = λ es e. entryFits most total (e .number) (e .set);
+      rises = λ es e. entryRises es (e .number);
+      room = λ es. true;
+    }
 
 pub record EntriesFrom (t : List ℕ) (k : Kind) (most total : ℕ) (c : Cursor) (r : EntriesRead) : Type 0 where
   pub entries : List Entry
   pub register : r .register ≡ register entries
-  pub lines : ReadBy t k (EntriesFit k most total) (suc (placeOf k)) c (r .cursor) entries
+  pub lines : TestedLines t k (entryTest most total) (suc (placeOf k)) c (r .cursor) entries
 
 -- ---- rules
 
@@ -134,6 +158,23 @@ pub record RulesFrom (t : List ℕ) (form : ℕ) (user object : Shape) (c : Curs
   pub rules : r .rules ≡ rulesValue list
   pub lines : ReadBy t RuleKind (RulesFit form (bothIn user object)) (suc (placeOf RuleKind)) c (r .cursor) list
 
+-- ---- pairs
+
+-- with n actions, u user values and o object values
+abbrev pub pairTest : (n u o : ℕ) → Test Pair
+pairTest n u o =
+    record {
+      says = pairIn;
+      fits = λ xs x. ltb (x .action) n && (ltb (x .user) u && ltb (x .object) o);
+      rises = pairRises;
+      room = λ xs. ltb (length xs) mostPairs;
+    }
+
+pub record PairsFrom (t : List ℕ) (n u o : ℕ) (c : Cursor) (r : PairsRead) : Type 0 where
+  pub list : List Pair
+  pub pairs : r .pairs ≡ pairsValue list
+  pub lines : TestedLines t PairKind (pairTest n u o) (suc (placeOf PairKind)) c (r .cursor) list
+
 -- ---- the form, which is of one line
 
 pub record FormFrom (t : List ℕ) (c : Cursor) (r : FormRead) : Type 0 where
@@ -144,7 +185,7 @@ pub record FormFrom (t : List ℕ) (c : Cursor) (r : FormRead) : Type 0 where
 -- ---- the form and both sides
 
 abbrev pub withSides : ℕ → Side → Side → Policy
-withSides form user object = record { form = form; user = user; object = object; users = []; objects = []; rules = [] }
+withSides form user object = record { form = form; user = user; object = object; users = []; objects = []; rules = []; pairs = [] }
 
 pub record SidesFrom (t : List ℕ) (c : Cursor) (r : SidesRead) : Type 0 where
   pub user : Side

@@ -21,8 +21,8 @@ Inv-loop row₀ users objects start count granted k₀ row k =
 abbrev μ-loop : tie.MeasureT-loop
 μ-loop row₀ users objects start count granted k₀ row k = count - k
 
-of-pairs-requires : tie.Need-of-pairs-requires Inv-loop μ-loop
-of-pairs-requires c κs = search needs
+of-lanes-requires : tie.Need-of-lanes-requires Inv-loop μ-loop
+of-lanes-requires c κs = search needs
 
 loop-holds : tie.Need-loop-holds Inv-loop μ-loop
 loop-holds c =
@@ -58,7 +58,7 @@ returns : tie.Need-returns Inv-loop μ-loop
 returns c = (
   c .before .loop .inv .1,
   λ p u sides grants lane old o h.
-      let g = c .before .before .of-pairs in
+      let g = c .before .before .of-lanes in
       c .before .loop .inv .2 (λ i. entryOf p (at u i)) old
       (λ k l. lane-entry p _ grants (g .result) k _ (g .ensures p k _ sides grants (lane k l))) o (omega arith),
 )
@@ -69,7 +69,7 @@ put-block-spec =
     (tie.spec
     Inv-loop
     μ-loop
-    of-pairs-requires
+    of-lanes-requires
     loop-holds
     entry-requires
     add-row

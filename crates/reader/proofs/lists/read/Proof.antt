@@ -13,12 +13,28 @@ read-requires-2 c κs = search needs
 read-requires-3 : tie.Need-read-requires-3
 read-requires-3 c κs = search needs
 
+actions-requires : tie.Need-actions-requires
+actions-requires c κs = search needs
+
+read-requires-4 : tie.Need-read-requires-4
+read-requires-4 c κs = search needs
+
 returns : tie.Need-returns
 returns c k h =
-    let r = c .before .before .before .before .before .before in
+    let p = c .before .before .before .before .before .before .before in
+    let m = p .before in
+    let r = m .before .before in
     let o = r .before .before in
     let u = o .before .before in
-    lists-read h (u .read .ensures) (o .read2 .ensures) (r .read3 .ensures)
+    lists-read h (u .read .ensures) (o .read2 .ensures) (r .read3 .ensures) (m .actions .ensures) (p .read4 .ensures)
 
 pub read-spec : {M : Type 1} → statement M
-read-spec = tie.close (tie.spec read-requires read-requires-2 read-requires-3 returns)
+read-spec =
+    tie.close
+    (tie.spec
+    read-requires
+    read-requires-2
+    read-requires-3
+    actions-requires
+    read-requires-4
+    returns)

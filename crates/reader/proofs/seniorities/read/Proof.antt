@@ -1,4 +1,4 @@
--- `reader::seniorities::read` meets its contract: what is held stands for the pairs read, and each line leaves less.
+-- `reader::seniorities::read` meets its contract: what is held stands for the lines read, and each line leaves less.
 use Rattle.basis.specs.Lists.{padded}
 use Rattle.reader.proofs.Cursors.{ahead-there, toRead, next-less, stop-less}
 use Rattle.reader.proofs.DirectLines.{DirectsHeld, no-directs, directs-read, direct-room, direct-more, direct-level, direct-out}

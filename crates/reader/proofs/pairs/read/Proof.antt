@@ -1,0 +1,95 @@
+-- `reader::pairs::read` meets its contract: what is held stands for the pairs read, and each line leaves less.
+use mathlib.Core.Path.{refl}
+use Rattle.basis.specs.Lists.{padded}
+use Rattle.policy.specs.Value.{pairsValue}
+use Rattle.reader.proofs.Cursors.{ahead-there, toRead, next-less, stop-less}
+use Rattle.reader.proofs.PairLines.{PairsHeld, no-pairs-held, pairs-read, pair-room, pair-more, pair-out}
+use borrow.Author.Needs.{needs}
+use Rattle.reader.proofs.pairs.read.Statement.{statement}
+use Rattle.reader.proofs.pairs.read.Tie as tie
+
+abbrev Inv-loop : tie.InvT-loop
+Inv-loop text actions users objects last₀ entries₀ count₀ c₀ last entries count c = PairsHeld text actions users objects c₀ (record { count = count; entries = entries }) last c
+
+abbrev μ-loop : tie.MeasureT-loop
+μ-loop text actions users objects last₀ entries₀ count₀ c₀ last entries count c = toRead text c
+
+loop-holds : tie.Need-loop-holds Inv-loop μ-loop
+unfolding pairsValue padded
+loop-holds c = no-pairs-held _ _ _ _ _ _ refl (c .before .pre)
+
+is-at-requires : tie.Need-is-at-requires Inv-loop μ-loop
+is-at-requires c κs = search needs
+
+fits-requires : tie.Need-fits-requires Inv-loop μ-loop
+fits-requires c κs = search needs
+
+rises-requires : tie.Need-rises-requires Inv-loop μ-loop
+rises-requires c κs = search needs
+
+fault-requires : tie.Need-fault-requires Inv-loop μ-loop
+fault-requires c κs = search needs
+
+enum-known-f : tie.Need-enum-known-f Inv-loop μ-loop
+enum-known-f c = search needs
+
+stop-requires : tie.Need-stop-requires Inv-loop μ-loop
+stop-requires c κs = search needs
+
+loop-less : tie.Need-loop-less Inv-loop μ-loop
+loop-less c = search stop-less
+
+loop-again : tie.Need-loop-again Inv-loop μ-loop
+loop-again c = search pair-out
+
+enum-told : tie.Need-enum-told Inv-loop μ-loop
+enum-told c = search needs
+
+mul-entries : tie.Need-mul-entries Inv-loop μ-loop
+mul-entries c = let f = c .before .before in let h = pair-room (f .before .before .before .before .before .loop .inv) _ (f .before .before .fits2 .ensures) _ (f .before .rises .ensures) _ (f .fault .ensures) (c .enum-told .given .1) in search needs
+
+array-set-from-entries : tie.Need-array-set-from-entries Inv-loop μ-loop
+array-set-from-entries c = let f = c .before .before in pair-room (f .before .before .before .before .before .loop .inv) _ (f .before .before .fits2 .ensures) _ (f .before .rises .ensures) _ (f .fault .ensures) (c .enum-told .given .1)
+
+add-count : tie.Need-add-count Inv-loop μ-loop
+add-count c = let f = c .before .before in let h = pair-room (f .before .before .before .before .before .loop .inv) _ (f .before .before .fits2 .ensures) _ (f .before .rises .ensures) _ (f .fault .ensures) (c .enum-told .given .1) in search needs
+
+next-requires : tie.Need-next-requires Inv-loop μ-loop
+next-requires c κs = (c .before .before .before .before .before .before .before .loop .inv .lines .stands, search ahead-there)
+
+loop-less-2 : tie.Need-loop-less-2 Inv-loop μ-loop
+loop-less-2 c = search next-less
+
+loop-again-2 : tie.Need-loop-again-2 Inv-loop μ-loop
+loop-again-2 c =
+    let f = c .before .before .before in
+    let d = f .before .before in
+    pair-more (d .before .before .before .loop .inv) _ (d .fits2 .ensures) _ (f .before .rises .ensures) _ (f .fault .ensures) _ (d .before .before .is-at .ensures) (d .before .if1 .taken) _
+    (c .before .enum-told .given .1) (c .next .ensures)
+
+returns : tie.Need-returns Inv-loop μ-loop
+returns c = search pairs-read
+
+pub read-spec : {M : Type 1} → statement M
+read-spec =
+    tie.close
+    (tie.spec
+    Inv-loop
+    μ-loop
+    loop-holds
+    is-at-requires
+    fits-requires
+    rises-requires
+    fault-requires
+    enum-known-f
+    stop-requires
+    loop-less
+    loop-again
+    enum-told
+    mul-entries
+    array-set-from-entries
+    add-count
+    next-requires
+    loop-less-2
+    loop-again-2
+    returns)
