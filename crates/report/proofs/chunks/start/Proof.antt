@@ -1,13 +1,10 @@
 -- `report::chunks::start` meets its contract: what is left is the first line and the blocks of all listed actions.
-use mathlib.Core.Path.{refl, ap, _∙_}
+use mathlib.Core.Path.{refl, _∙_}
 use native.Mathlib.Omega.{arith}
 use borrow.Author.Needs.{needs}
-use Rattle.basis.specs.Numbers.{select}
-use Rattle.policy.specs.Policy.{Policy, named}
 use Rattle.policy.specs.Read.{readText}
 use Rattle.policy.specs.Value.{policyOf}
 use Rattle.policy.proofs.Forms.{actions-most}
-use Rattle.report.specs.Inner.Cursor.{Stores}
 use Rattle.report.proofs.Left.{start-left}
 use Rattle.report.proofs.Reading.{read-fits, read-policy, report-is}
 use Rattle.report.proofs.chunks.start.Statement.{statement}
