@@ -187,19 +187,22 @@ fn text(size: Size) -> String {
     text + &pairs(size) + "end\n"
 }
 
-/// The pair lines: in each action's share the pairs of values are equally far
-/// apart, and begin somewhat later than in the action before.
+/// The pair lines, equally many of each action. Their user values are senior and
+/// their object values junior, which the fewest sets hold: much is left to formulas.
 fn pairs(size: Size) -> String {
     let (actions, values) = (MOST_ACTIONS as u32, size.values);
-    let share = size.pairs / actions;
-    let mut lines = String::new();
+    let mut pairs = Vec::new();
     for action in 0..actions {
-        for k in 0..share {
-            let place = (actions * k + action) * values * values / (actions * share);
-            lines += &format!("pair,{action},{},{}\n", place / values, place % values);
+        for k in 0..size.pairs / actions {
+            let place = (action + k) % (values * values);
+            pairs.push((action, values - 1 - place % values, place / values));
         }
     }
+    pairs.sort();
+    let lines = pairs.iter();
     lines
+        .map(|(action, user, object)| format!("pair,{action},{user},{object}\n"))
+        .collect()
 }
 
 /// Leaves two by two, each two joined; then all of these joined, and `n`.

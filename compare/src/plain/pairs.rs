@@ -24,28 +24,19 @@ pub type Row = [u8; SETS];
 /// Pairs, and for each object value the object sets that hold it or a junior of it.
 pub struct Rows<'a> {
     pairs: &'a [Pair],
-    /// All bits set where the object set does.
-    holders: [Row; VALUES],
-    sets: usize,
+    /// All bits of a byte are set where the object set does. None where there is no pair.
+    holders: Vec<Row>,
 }
 
 impl<'a> Rows<'a> {
     /// Of some pairs of a valid policy and of all its object sets.
     pub fn of(policy: &Policy, pairs: &'a [Pair], objects: &[Held]) -> Self {
-        let mut holders = [[0; SETS]; VALUES];
+        let mut holders = Vec::new();
         if !pairs.is_empty() {
             let values = Shape::of(&policy.object).values;
-            for (value, row) in (0..values).zip(&mut holders) {
-                for (holds, object) in row.iter_mut().zip(objects) {
-                    *holds = 0u8.wrapping_sub((object.closed >> value & 1) as u8);
-                }
-            }
+            holders.extend((0..values).map(|value| holding(value, objects)));
         }
-        Rows {
-            pairs,
-            holders,
-            sets: objects.len(),
-        }
+        Rows { pairs, holders }
     }
 
     /// The actions that pairs grant to a user set, at each object set.
@@ -57,12 +48,20 @@ impl<'a> Rows<'a> {
         }
         let mut row = [0; SETS];
         for (holder, actions) in self.holders.iter().zip(actions) {
-            if actions != 0 {
-                for (entry, holds) in row[..self.sets].iter_mut().zip(holder) {
-                    *entry |= holds & actions;
-                }
+            for (entry, holds) in row.iter_mut().zip(holder) {
+                *entry |= holds & actions;
             }
         }
         row
     }
+}
+
+fn holding(value: u32, objects: &[Held]) -> Row {
+    let mut row = [0; SETS];
+    for (holds, object) in row.iter_mut().zip(objects) {
+        if object.closed >> value & 1 == 1 {
+            *holds = u8::MAX;
+        }
+    }
+    row
 }
