@@ -1,6 +1,6 @@
 /*
  * A screen's morning: the hall's card is read, its policy compiled, and a member of staff opens a session, works and
- * closes it.
+ * closes it. At noon the card gains a pair.
  *
  * usage: example FILE, where FILE is a policy text such as examples/front-desk.txt.
  */
@@ -65,6 +65,40 @@ static void list(uint32_t action) {
     printf("\n");
 }
 
+/* The text of the policy, beside that of the card. */
+static void write_card(size_t length) {
+    struct helvemoik_counted written = helvemoik_write(policy, copy, sizeof copy);
+    printf("write: refusal %u, %zu bytes, %s\n", (unsigned)written.refusal, written.count,
+           written.count == length && memcmp(copy, card, length) == 0 ? "the same text" : "another text");
+}
+
+static void compile(void) {
+    counts = helvemoik_compile(policy, user_labels, sizeof user_labels, object_labels, sizeof object_labels,
+                               table, sizeof table);
+    printf("compile: refusal %u, NU %u, NO %u\n", (unsigned)counts.refusal, (unsigned)counts.users,
+           (unsigned)counts.objects);
+}
+
+static void decide(uint32_t action, uint32_t user, uint32_t object) {
+    printf("decide %u %u %u: %s\n", (unsigned)action, (unsigned)user, (unsigned)object,
+           word(helvemoik_decide(policy, action, user, object)));
+}
+
+/* `pair,3,1,0`: editors get action 3 on drafts. Another card is compiled anew and begins with a fresh board. */
+static void gain_pair(size_t length) {
+    decide(3, 2, 1);
+    policy.pairs.entries[policy.pairs.count++] = (struct helvemoik_pair){ 3, 1, 0 };
+    write_card(length);
+    compile();
+    list(3);
+    decide(3, 2, 1);
+    board = helvemoik_fresh();
+    took("open 1 5 2", helvemoik_open(board, policy, 1, 5, 2));
+    request(5, 3, 0);
+    request(5, 3, 1);
+    took("close 1 5", helvemoik_close(board, policy, 1, 5));
+}
+
 int main(int argc, char **argv) {
     size_t length = argc > 1 ? load(argv[1]) : 0;
     struct helvemoik_reading reading = helvemoik_read(card, length);
@@ -74,17 +108,11 @@ int main(int argc, char **argv) {
     policy = reading.policy;
     printf("valid: %s\n", helvemoik_valid(policy) ? "yes" : "no");
 
-    struct helvemoik_counted written = helvemoik_write(policy, copy, sizeof copy);
-    printf("write: refusal %u, %zu bytes, %s\n", (unsigned)written.refusal, written.count,
-           written.count == length && memcmp(copy, card, length) == 0 ? "the same text" : "another text");
-
-    counts = helvemoik_compile(policy, user_labels, sizeof user_labels, object_labels, sizeof object_labels,
-                               table, sizeof table);
-    printf("compile: refusal %u, NU %u, NO %u\n", (unsigned)counts.refusal, (unsigned)counts.users,
-           (unsigned)counts.objects);
+    write_card(length);
+    compile();
     for (uint32_t action = 0; action < 4; action++)
         list(action);
-    printf("decide 1 2 2: %s\n", word(helvemoik_decide(policy, 1, 2, 2)));
+    decide(1, 2, 2);
     struct helvemoik_separation apart = helvemoik_apart(policy, 1, 2);
     printf("apart 1 2: answer %u, action %u, object set %u\n", (unsigned)apart.answer, (unsigned)apart.action,
            (unsigned)apart.object);
@@ -104,6 +132,7 @@ int main(int argc, char **argv) {
     request(5, 0, 63);
     took("close 2 5", helvemoik_close(board, policy, 2, 5));
     request(5, 0, 0);
+    gain_pair(length);
 
     /* A word that no policy has: check 11 refuses the policy. */
     policy.rules.entries[0].words[0] = 9 * 65536;

@@ -24,12 +24,13 @@ extern "C" {
 
 /* ---- sizes */
 
-/* The limits of document 01. */
+/* The limits of documents 01 and 02. */
 enum {
     HELVEMOIK_TEXT_BYTES = 8192,  /* the longest text that is read, and room for any text that is written */
     HELVEMOIK_MOST_VALUES = 7,    /* values of a side */
     HELVEMOIK_MOST_ACTIONS = 8,
     HELVEMOIK_MOST_WORDS = 32,    /* words of a formula */
+    HELVEMOIK_MOST_PAIRS = 64,    /* pair lines */
     HELVEMOIK_USER_NUMBERS = 32,
     HELVEMOIK_OBJECT_NUMBERS = 64,
     HELVEMOIK_SESSIONS = 32       /* session numbers */
@@ -44,13 +45,14 @@ enum {
     HELVEMOIK_ENTRY_PLACES = HELVEMOIK_OBJECT_NUMBERS,
     HELVEMOIK_WORD_PLACES = HELVEMOIK_MOST_WORDS,
     HELVEMOIK_RULE_PLACES = HELVEMOIK_MOST_ACTIONS,
+    HELVEMOIK_PAIR_PLACES = HELVEMOIK_MOST_PAIRS,
     /* room for the labels of a side, for a table, and for the tuples of an action */
     HELVEMOIK_MOST_LABELS = 1 << HELVEMOIK_MOST_VALUES,
     HELVEMOIK_MOST_TABLE = HELVEMOIK_MOST_LABELS * HELVEMOIK_MOST_LABELS,
     HELVEMOIK_MOST_TUPLES = HELVEMOIK_MOST_LABELS * HELVEMOIK_MOST_LABELS
 };
 
-/* ---- refusals, by the numbers of document 01 */
+/* ---- refusals, by the numbers of documents 01 and 02 */
 
 enum {
     HELVEMOIK_TEXT_TOO_LONG = 1,
@@ -72,7 +74,8 @@ enum {
     HELVEMOIK_SESSION_NOT_OPEN = 17,
     HELVEMOIK_SESSION_OF_ANOTHER = 18,
     HELVEMOIK_SET_OUT_OF_REACH = 19,
-    HELVEMOIK_BUFFER_TOO_SHORT = 20
+    HELVEMOIK_BUFFER_TOO_SHORT = 20,
+    HELVEMOIK_TOO_MANY_PAIRS = 21
 };
 
 /* The answers of a decision and of a session call that are no refusal. */
@@ -131,6 +134,18 @@ struct helvemoik_rules {
     struct helvemoik_rule entries[HELVEMOIK_RULE_PLACES];
 };
 
+/* `pair,A,V,W`: the action, the user value and the object value. */
+struct helvemoik_pair {
+    uint32_t action;
+    uint32_t user;
+    uint32_t object;
+};
+
+struct helvemoik_pairs {
+    size_t count;
+    struct helvemoik_pair entries[HELVEMOIK_PAIR_PLACES];
+};
+
 struct helvemoik_policy {
     uint32_t form;
     struct helvemoik_side user;
@@ -138,6 +153,7 @@ struct helvemoik_policy {
     struct helvemoik_register users;
     struct helvemoik_register objects;
     struct helvemoik_rules rules;
+    struct helvemoik_pairs pairs;
 };
 
 /* ---- the board: an entry for each session number; while the session is open, its user and the set it holds */
@@ -195,14 +211,14 @@ struct helvemoik_step {
 };
 
 /* The library is for x86-64. A compiler that lays out otherwise what a call takes or gives refuses this line. */
-typedef char helvemoik_layout[sizeof(struct helvemoik_policy) == 2640 && sizeof(struct helvemoik_board) == 384
-                              && sizeof(struct helvemoik_reading) == 2656 && sizeof(struct helvemoik_counted) == 16
+typedef char helvemoik_layout[sizeof(struct helvemoik_policy) == 3416 && sizeof(struct helvemoik_board) == 384
+                              && sizeof(struct helvemoik_reading) == 3432 && sizeof(struct helvemoik_counted) == 16
                               && sizeof(struct helvemoik_counts) == 12 && sizeof(struct helvemoik_separation) == 12
                               && sizeof(struct helvemoik_step) == 388 ? 1 : -1];
 
 /* ---- calls on a policy */
 
-/* The policy of a text, or the refusal (1 to 10) and its line. */
+/* The policy of a text, or the refusal (1 to 10, or 21, which is tested between 7 and 8) and its line. */
 struct helvemoik_reading helvemoik_read(const uint8_t *text, size_t text_length);
 
 /* The text of a policy, at the buffer's start; what lies past it stays. Refusals 11, 20, which leave the buffer. */
@@ -211,7 +227,10 @@ struct helvemoik_counted helvemoik_write(struct helvemoik_policy policy, uint8_t
 /* Check 11: whether the policy is what reading some accepted text yields. */
 bool helvemoik_valid(struct helvemoik_policy policy);
 
-/* Whether the action's formula is true at a user set and an object set: granted or denied. Refusals 11, 12, 19. */
+/*
+ * Whether the action is granted at a user set and an object set, by its formula and its pairs: granted or denied.
+ * Refusals 11, 12, 19.
+ */
 uint32_t helvemoik_decide(struct helvemoik_policy policy, uint32_t action, uint32_t user, uint32_t object);
 
 /*

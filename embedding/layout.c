@@ -59,6 +59,15 @@ static void rules_numbers(struct numbers *n, const struct helvemoik_rules *rules
     }
 }
 
+static void pairs_numbers(struct numbers *n, const struct helvemoik_pairs *pairs) {
+    NUMBER(pairs->count);
+    for (size_t i = 0; i < HELVEMOIK_PAIR_PLACES; i++) {
+        NUMBER(pairs->entries[i].action);
+        NUMBER(pairs->entries[i].user);
+        NUMBER(pairs->entries[i].object);
+    }
+}
+
 static void policy_numbers(struct numbers *n, const struct helvemoik_policy *policy) {
     NUMBER(policy->form);
     side_numbers(n, &policy->user);
@@ -66,6 +75,7 @@ static void policy_numbers(struct numbers *n, const struct helvemoik_policy *pol
     register_numbers(n, &policy->users);
     register_numbers(n, &policy->objects);
     rules_numbers(n, &policy->rules);
+    pairs_numbers(n, &policy->pairs);
 }
 
 static void board_numbers(struct numbers *n, const struct helvemoik_board *board) {
@@ -166,6 +176,23 @@ static void put_word(struct text *text, uint32_t word) {
         put(text, "%u", (unsigned)(word & 255));
 }
 
+static void put_rules(struct text *text, const struct helvemoik_rules *rules) {
+    for (size_t i = 0; i < within(rules->count, HELVEMOIK_RULE_PLACES); i++) {
+        const struct helvemoik_rule *rule = &rules->entries[i];
+        put(text, "rule,%u", (unsigned)rule->action);
+        for (size_t k = 0; k < within(rule->count, HELVEMOIK_WORD_PLACES); k++)
+            put_word(text, rule->words[k]);
+        put(text, "\n");
+    }
+}
+
+static void put_pairs(struct text *text, const struct helvemoik_pairs *pairs) {
+    for (size_t i = 0; i < within(pairs->count, HELVEMOIK_PAIR_PLACES); i++) {
+        const struct helvemoik_pair *pair = &pairs->entries[i];
+        put(text, "pair,%u,%u,%u\n", (unsigned)pair->action, (unsigned)pair->user, (unsigned)pair->object);
+    }
+}
+
 static void put_policy(struct text *text, const struct helvemoik_policy *policy) {
     text->length = 0;
     put(text, "policy,%u\n", (unsigned)policy->form);
@@ -175,13 +202,8 @@ static void put_policy(struct text *text, const struct helvemoik_policy *policy)
     put_seniority(text, "osen", &policy->object);
     put_register(text, "user", &policy->users);
     put_register(text, "object", &policy->objects);
-    for (size_t i = 0; i < within(policy->rules.count, HELVEMOIK_RULE_PLACES); i++) {
-        const struct helvemoik_rule *rule = &policy->rules.entries[i];
-        put(text, "rule,%u", (unsigned)rule->action);
-        for (size_t k = 0; k < within(rule->count, HELVEMOIK_WORD_PLACES); k++)
-            put_word(text, rule->words[k]);
-        put(text, "\n");
-    }
+    put_rules(text, &policy->rules);
+    put_pairs(text, &policy->pairs);
     put(text, "end\n");
 }
 
@@ -215,13 +237,13 @@ static void singles(struct helvemoik_side *side) {
         side->widths[side->attributes] = 1;
 }
 
-/* The attributes and seniorities of a string of digits: widths, then each pair of values. */
-static void some(struct helvemoik_side *side, const char *widths, const char *pairs) {
+/* The attributes and seniorities of strings of digits: widths, and each line's two values. */
+static void some(struct helvemoik_side *side, const char *widths, const char *lines) {
     for (; *widths; widths++)
         side->widths[side->attributes++] = (uint32_t)(*widths - '0');
-    for (; *pairs; pairs += 2) {
-        side->seniority[side->lines].senior = (uint32_t)(pairs[0] - '0');
-        side->seniority[side->lines].junior = (uint32_t)(pairs[1] - '0');
+    for (; *lines; lines += 2) {
+        side->seniority[side->lines].senior = (uint32_t)(lines[0] - '0');
+        side->seniority[side->lines].junior = (uint32_t)(lines[1] - '0');
         side->lines++;
     }
 }
@@ -252,7 +274,24 @@ static void rule(struct helvemoik_rules *rules, uint32_t action, const uint32_t 
     r->words[r->count++] = word(N, 0, 0);
 }
 
-/* All places of one side's seniorities and the other's widths, of users, objects, rules and words. */
+static void pair(struct helvemoik_pairs *pairs, uint32_t action, uint32_t user, uint32_t object) {
+    struct helvemoik_pair *p = &pairs->entries[pairs->count++];
+    p->action = action;
+    p->user = user;
+    p->object = object;
+}
+
+/* All places, in even steps through the actions and the values of both sides. */
+static void all_pairs(struct helvemoik_pairs *pairs) {
+    const uint32_t values = HELVEMOIK_MOST_VALUES;
+    const uint32_t step = HELVEMOIK_MOST_ACTIONS * values * values / HELVEMOIK_PAIR_PLACES;
+    for (uint32_t i = 0; i < HELVEMOIK_PAIR_PLACES; i++) {
+        uint32_t k = i * step + step - 1;
+        pair(pairs, k / (values * values), k / values % values, k % values);
+    }
+}
+
+/* All places of one side's seniorities and the other's widths, of users, objects, rules, words and pairs. */
 static void full(struct helvemoik_policy *policy, struct helvemoik_side *one, struct helvemoik_side *other) {
     const uint32_t leaves[] = { word(U, 6, 0), word(O, 0, 0), word(T, 0, 0), word(U, 1, 0), word(O, 5, 0),
                                 word(F, 0, 0), word(U, 3, 0), word(O, 4, 0) };
@@ -263,6 +302,7 @@ static void full(struct helvemoik_policy *policy, struct helvemoik_side *one, st
     enter(&policy->objects, HELVEMOIK_ENTRY_PLACES, HELVEMOIK_ENTRY_PLACES - 1, 1 << HELVEMOIK_MOST_VALUES);
     for (uint32_t a = 0; a < HELVEMOIK_RULE_PLACES; a++)
         rule(&policy->rules, a, leaves, sizeof leaves / sizeof *leaves, HELVEMOIK_WORD_PLACES / 2 - a);
+    all_pairs(&policy->pairs);
 }
 
 /* Few of everything, with comparisons among the words; counts that stand in one struct differ. */
@@ -276,6 +316,10 @@ static void few(struct helvemoik_policy *policy) {
     rule(&policy->rules, 1, leaves, sizeof leaves / sizeof *leaves, 7);
     rule(&policy->rules, 4, leaves, sizeof leaves / sizeof *leaves, 3);
     rule(&policy->rules, 6, leaves, sizeof leaves / sizeof *leaves, 1);
+    pair(&policy->pairs, 1, 0, 4);
+    pair(&policy->pairs, 1, 5, 2);
+    pair(&policy->pairs, 6, 3, 1);
+    pair(&policy->pairs, 7, 2, 0);
 }
 
 /* ---- what the archive reads of a policy, and what it writes */

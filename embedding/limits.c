@@ -50,6 +50,22 @@ static void hold_words(void) {
     expect(refusal_of(bytes) == HELVEMOIK_WRONG_FIELD_COUNT, "words", HELVEMOIK_MOST_WORDS + 1);
 }
 
+/* A text of so many pairs. */
+static void put_pairs(char *bytes, size_t room, int count) {
+    int n = snprintf(bytes, room, "policy,1\nuattr,5\noattr,5\n");
+    for (int i = 0; i < count; i++)
+        n += snprintf(bytes + n, room - (size_t)n, "pair,%d,%d,%d\n", i / 25, i / 5 % 5, i % 5);
+    snprintf(bytes + n, room - (size_t)n, "end\n");
+}
+
+static void hold_pairs(void) {
+    char bytes[1024];
+    put_pairs(bytes, sizeof bytes, HELVEMOIK_MOST_PAIRS);
+    expect(refusal_of(bytes) == 0, "pairs", HELVEMOIK_MOST_PAIRS);
+    put_pairs(bytes, sizeof bytes, HELVEMOIK_MOST_PAIRS + 1);
+    expect(refusal_of(bytes) == HELVEMOIK_TOO_MANY_PAIRS, "pairs", HELVEMOIK_MOST_PAIRS + 1);
+}
+
 /* ---- limits of a result */
 
 static uint32_t compiled(struct helvemoik_policy policy, size_t u, size_t o, size_t t) {
@@ -128,7 +144,11 @@ int main(void) {
     hold_greatest("policy,1\nuattr,1\noattr,1\nuser,%d,0\nend\n", HELVEMOIK_USER_NUMBERS - 1);
     hold_greatest("policy,1\nuattr,1\noattr,1\nobject,%d,0\nend\n", HELVEMOIK_OBJECT_NUMBERS - 1);
     hold_greatest("policy,1\nuattr,1\noattr,1\nrule,%d,t\nend\n", HELVEMOIK_MOST_ACTIONS - 1);
+    hold_greatest("policy,1\nuattr,1\noattr,1\npair,%d,0,0\nend\n", HELVEMOIK_MOST_ACTIONS - 1);
+    hold_greatest("policy,1\nuattr,7\noattr,1\npair,0,%d,0\nend\n", HELVEMOIK_MOST_VALUES - 1);
+    hold_greatest("policy,1\nuattr,1\noattr,7\npair,0,0,%d\nend\n", HELVEMOIK_MOST_VALUES - 1);
     hold_words();
+    hold_pairs();
     hold_results();
     hold_reading_refusals();
     hold_answers();

@@ -89,6 +89,8 @@ int main(int argc, char **argv) {
     SIZE(register);
     SIZE(rule);
     SIZE(rules);
+    SIZE(pair);
+    SIZE(pairs);
     SIZE(policy);
     SIZE(session);
     SIZE(board);

@@ -1,10 +1,11 @@
 //! The types of the header `embedding/helvemoik.h`, which cross as they are.
 
-/// The limits of document 01.
+/// The limits of documents 01 and 02.
 pub const TEXT_BYTES: usize = 8192;
 pub const MOST_VALUES: usize = 7;
 pub const MOST_ACTIONS: usize = 8;
 pub const MOST_WORDS: usize = 32;
+pub const MOST_PAIRS: usize = 64;
 pub const OBJECT_NUMBERS: usize = 64;
 
 /// The entries of a board.
@@ -16,6 +17,7 @@ pub const LINE_PLACES: usize = MOST_VALUES * (MOST_VALUES - 1) / 2;
 pub const ENTRY_PLACES: usize = OBJECT_NUMBERS;
 pub const WORD_PLACES: usize = MOST_WORDS;
 pub const RULE_PLACES: usize = MOST_ACTIONS;
+pub const PAIR_PLACES: usize = MOST_PAIRS;
 
 /// Room for the labels of a side, and for a table.
 pub const MOST_LABELS: usize = 1 << MOST_VALUES;
@@ -77,6 +79,31 @@ pub struct PackedRules {
     pub entries: [PackedRule; RULE_PLACES],
 }
 
+/// A pair line: an action, a user value and an object value.
+#[repr(C)]
+#[derive(Debug, Clone, Copy, Default, PartialEq, Eq, PartialOrd, Ord)]
+pub struct Pair {
+    pub action: u32,
+    pub user: u32,
+    pub object: u32,
+}
+
+#[repr(C)]
+#[derive(Debug, Clone, Copy, PartialEq, Eq)]
+pub struct Pairs {
+    pub count: usize,
+    pub entries: [Pair; PAIR_PLACES],
+}
+
+impl Default for Pairs {
+    fn default() -> Self {
+        Pairs {
+            count: 0,
+            entries: [Pair::default(); PAIR_PLACES],
+        }
+    }
+}
+
 /// A policy value; the default is the blank one.
 #[repr(C)]
 #[derive(Debug, Clone, Copy, Default, PartialEq, Eq)]
@@ -87,6 +114,7 @@ pub struct PackedPolicy {
     pub users: Register,
     pub objects: Register,
     pub rules: PackedRules,
+    pub pairs: Pairs,
 }
 
 /// The answer of reading; refusal 0 is accepted.

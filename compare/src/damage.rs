@@ -79,7 +79,7 @@ fn change_form(rng: &mut Rng, value: &mut PackedPolicy) {
 /// One of the counts of a value.
 fn count_of<'a>(rng: &mut Rng, value: &'a mut PackedPolicy) -> &'a mut usize {
     let rule = rule_place(rng, value);
-    match rng.below(8) {
+    match rng.below(9) {
         0 => &mut value.user.attributes,
         1 => &mut value.object.attributes,
         2 => &mut value.user.lines,
@@ -87,6 +87,7 @@ fn count_of<'a>(rng: &mut Rng, value: &'a mut PackedPolicy) -> &'a mut usize {
         4 => &mut value.users.count,
         5 => &mut value.objects.count,
         6 => &mut value.rules.count,
+        7 => &mut value.pairs.count,
         _ => &mut value.rules.entries[rule].count,
     }
 }
@@ -134,11 +135,12 @@ fn leave_over(rng: &mut Rng, value: &mut PackedPolicy) {
         true => (&mut value.user, &mut value.users),
         false => (&mut value.object, &mut value.objects),
     };
-    match rng.below(6) {
+    match rng.below(7) {
         0 => side.widths[place_behind(rng, side.attributes, WIDTH_PLACES)] = number,
         1 => *line_number(rng, &mut side.seniority, side.lines, place_behind) = number,
         2 => *entry_number(rng, &mut register.entries, register.count, place_behind) = number,
-        3 => {
+        3 => *pair_number(rng, &mut value.pairs, place_behind) = number,
+        4 => {
             let rule = rule_place(rng, value);
             let rule = &mut value.rules.entries[rule];
             rule.words[place_behind(rng, rule.count, WORD_PLACES)] = number << 16;
@@ -183,6 +185,15 @@ fn entry_number<'a>(
     }
 }
 
+fn pair_number<'a>(rng: &mut Rng, pairs: &'a mut Pairs, place: Place) -> &'a mut u32 {
+    let pair = &mut pairs.entries[place(rng, pairs.count, PAIR_PLACES)];
+    match rng.below(3) {
+        0 => &mut pair.action,
+        1 => &mut pair.user,
+        _ => &mut pair.object,
+    }
+}
+
 /// A width, value, number, set or action becomes another, often out of range.
 fn change_number(rng: &mut Rng, value: &mut PackedPolicy) {
     let odd = odd(rng);
@@ -201,10 +212,11 @@ fn number_of<'a>(rng: &mut Rng, value: &'a mut PackedPolicy) -> &'a mut u32 {
         true => (&mut value.user, &mut value.users),
         false => (&mut value.object, &mut value.objects),
     };
-    match rng.below(4) {
+    match rng.below(5) {
         0 => &mut side.widths[place(rng, side.attributes, WIDTH_PLACES)],
         1 => line_number(rng, &mut side.seniority, side.lines, place),
         2 => entry_number(rng, &mut register.entries, register.count, place),
+        3 => pair_number(rng, &mut value.pairs, place),
         _ => &mut value.rules.entries[rule].action,
     }
 }
@@ -251,10 +263,11 @@ fn break_order(rng: &mut Rng, value: &mut PackedPolicy) {
         true => (&mut value.user, &mut value.users),
         false => (&mut value.object, &mut value.objects),
     };
-    match rng.below(4) {
+    match rng.below(5) {
         0 => disorder(rng, &mut side.widths, side.attributes),
         1 => disorder(rng, &mut side.seniority, side.lines),
         2 => disorder(rng, &mut register.entries, register.count),
+        3 => disorder(rng, &mut value.pairs.entries, value.pairs.count),
         _ => disorder(rng, &mut value.rules.entries, value.rules.count),
     }
 }
@@ -276,7 +289,7 @@ fn widen(rng: &mut Rng, value: &mut PackedPolicy) {
         true => (&mut value.user, &mut value.users),
         false => (&mut value.object, &mut value.objects),
     };
-    match rng.below(4) {
+    match rng.below(5) {
         0 => append(&mut side.widths, &mut side.attributes, one),
         1 => {
             let line = Direct {
@@ -291,6 +304,14 @@ fn widen(rng: &mut Rng, value: &mut PackedPolicy) {
                 set: other,
             };
             append(&mut register.entries, &mut register.count, entry);
+        }
+        3 => {
+            let pair = Pair {
+                action: 7 - rng.below(2),
+                user: one,
+                object: other,
+            };
+            append(&mut value.pairs.entries, &mut value.pairs.count, pair);
         }
         _ => {
             let mut rule = PackedRule {

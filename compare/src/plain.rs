@@ -2,12 +2,14 @@
 //!
 //! The policy value has the same arrays and is handed by reference, the board
 //! is changed in place; every call makes the same checks, check 11 included.
-//! Formulas are evaluated for one pair of sets at a time.
+//! Formulas are evaluated for one pair of sets at a time, pairs for a user set and
+//! all object sets at a time.
 
 pub mod board;
 pub mod checks;
 pub mod formula;
 pub mod labels;
+pub mod pairs;
 pub mod policy;
 pub mod reader;
 pub mod tuples;

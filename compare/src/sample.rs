@@ -1,13 +1,15 @@
 //! The policies, boards and calls that are measured.
 
 use crate::boundary::{
-    Board, PackedCounts, PackedPolicy, Session, MOST_LABELS, MOST_TABLE, SESSIONS, TEXT_BYTES,
+    Board, PackedCounts, PackedPolicy, Session, MOST_ACTIONS, MOST_LABELS, MOST_TABLE, SESSIONS,
+    TEXT_BYTES,
 };
 use crate::engine::{Archive, Engine, Labels};
 use crate::plain::policy::Policy;
 use crate::plain::{self, unpacked};
 use reference::cases::Rng;
 use reference::machine::Call;
+use std::fmt::{self, Display};
 
 /// How many of each thing a policy has.
 #[derive(Clone, Copy)]
@@ -19,32 +21,60 @@ pub struct Size {
     pub rules: u32,
     /// Of each rule; an even number.
     pub words: u32,
+    /// Equally many of each action, and not more of one than there are pairs of values.
+    pub pairs: u32,
 }
 
-/// From a small policy to one at every limit.
-pub const SIZES: [Size; 3] = [
+const SMALL: Size = Size {
+    values: 2,
+    users: 2,
+    objects: 4,
+    rules: 2,
+    words: 4,
+    pairs: 0,
+};
+
+const MIDDLE: Size = Size {
+    values: 4,
+    users: 8,
+    objects: 16,
+    rules: 4,
+    words: 16,
+    pairs: 0,
+};
+
+const LARGE: Size = Size {
+    values: 7,
+    users: 32,
+    objects: 64,
+    rules: 8,
+    words: 32,
+    pairs: 0,
+};
+
+/// From a small policy to one at every limit but that of pairs; then each once
+/// more with as many pairs as there can be.
+pub const SIZES: [Size; 6] = [
+    SMALL,
+    MIDDLE,
+    LARGE,
+    Size { pairs: 32, ..SMALL },
     Size {
-        values: 2,
-        users: 2,
-        objects: 4,
-        rules: 2,
-        words: 4,
+        pairs: 64,
+        ..MIDDLE
     },
-    Size {
-        values: 4,
-        users: 8,
-        objects: 16,
-        rules: 4,
-        words: 16,
-    },
-    Size {
-        values: 7,
-        users: 32,
-        objects: 64,
-        rules: 8,
-        words: 32,
-    },
+    Size { pairs: 64, ..LARGE },
 ];
+
+impl Display for Size {
+    fn fmt(&self, f: &mut fmt::Formatter<'_>) -> fmt::Result {
+        write!(f, "{0} + {0}", self.values)?;
+        match self.pairs {
+            0 => Ok(()),
+            pairs => write!(f, ", {pairs} pairs"),
+        }
+    }
+}
 
 /// What one size is measured on.
 pub struct Sample {
@@ -154,7 +184,25 @@ fn text(size: Size) -> String {
     for rule in 0..size.rules {
         text += &format!("rule,{rule},{}\n", formula(size, rule));
     }
-    text + "end\n"
+    text + &pairs(size) + "end\n"
+}
+
+/// The pair lines, equally many of each action. Their user values are senior and
+/// their object values junior, which the fewest sets hold: much is left to formulas.
+fn pairs(size: Size) -> String {
+    let (actions, values) = (MOST_ACTIONS as u32, size.values);
+    let mut pairs = Vec::new();
+    for action in 0..actions {
+        for k in 0..size.pairs / actions {
+            let place = (action + k) % (values * values);
+            pairs.push((action, values - 1 - place % values, place / values));
+        }
+    }
+    pairs.sort();
+    let lines = pairs.iter();
+    lines
+        .map(|(action, user, object)| format!("pair,{action},{user},{object}\n"))
+        .collect()
 }
 
 /// Leaves two by two, each two joined; then all of these joined, and `n`.
@@ -227,6 +275,14 @@ fn calls(size: Size, policy: &Policy) -> Vec<Call> {
 mod tests {
     use super::*;
     use reference::machine::{run, Answer};
+
+    #[test]
+    fn samples_have_the_pairs_of_their_size() {
+        for size in SIZES {
+            let sample = Sample::of(size);
+            assert_eq!(sample.policy.pairs().len(), size.pairs as usize);
+        }
+    }
 
     #[test]
     fn no_call_of_a_sample_is_refused() {

@@ -3,7 +3,7 @@
 
 use crate::boundary::*;
 use reference::machine::Sessions;
-use reference::policy::{Policy, Rule, Word};
+use reference::policy::{self, Policy, Rule, Word};
 use reference::text::{read, write};
 
 /// The value that reading yields for a policy.
@@ -15,6 +15,7 @@ pub fn packed(policy: &Policy) -> PackedPolicy {
         users: register(&policy.users),
         objects: register(&policy.objects),
         rules: rules(&policy.rules),
+        pairs: pairs(&policy.pairs),
     }
 }
 
@@ -53,6 +54,21 @@ fn rules(rules: &[Rule]) -> PackedRules {
         for (word, from) in entry.words.iter_mut().zip(&rule.words) {
             *word = packed_word(from);
         }
+    }
+    value
+}
+
+fn pairs(pairs: &[policy::Pair]) -> Pairs {
+    let mut value = Pairs {
+        count: pairs.len(),
+        ..Pairs::default()
+    };
+    for (entry, from) in value.entries.iter_mut().zip(pairs) {
+        *entry = Pair {
+            action: from.action,
+            user: from.user,
+            object: from.object,
+        };
     }
     value
 }
@@ -100,6 +116,7 @@ pub fn yielded(value: &PackedPolicy) -> Option<Policy> {
 /// The lists up to the counts; none where a count is past its array or a word is none.
 fn lists(value: &PackedPolicy) -> Option<Policy> {
     let rules = value.rules.entries.get(..value.rules.count)?;
+    let pairs = value.pairs.entries.get(..value.pairs.count)?;
     Some(Policy {
         user_widths: value.user.widths.get(..value.user.attributes)?.to_vec(),
         object_widths: value.object.widths.get(..value.object.attributes)?.to_vec(),
@@ -108,6 +125,7 @@ fn lists(value: &PackedPolicy) -> Option<Policy> {
         users: entries(&value.users)?,
         objects: entries(&value.objects)?,
         rules: rules.iter().map(rule).collect::<Option<_>>()?,
+        pairs: pairs.iter().map(pair).collect(),
     })
 }
 
@@ -142,6 +160,14 @@ fn rule(rule: &PackedRule) -> Option<Rule> {
     })
 }
 
+fn pair(pair: &Pair) -> policy::Pair {
+    policy::Pair {
+        action: pair.action,
+        user: pair.user,
+        object: pair.object,
+    }
+}
+
 /// The sessions that a board holds.
 pub fn sessions(board: &Board) -> Sessions {
     (0..)
@@ -160,7 +186,7 @@ mod tests {
     }
 
     const TEXT: &str = "policy,1\nuattr,2\noattr,1\nusen,1,0\nuser,0,2\nobject,0,1\n\
-        rule,0,u0,o0,a\nrule,3,u1,n\nend\n";
+        rule,0,u0,o0,a\nrule,3,u1,n\npair,0,1,0\npair,5,0,0\nend\n";
 
     #[test]
     fn a_read_value_is_yielded() {
@@ -169,6 +195,12 @@ mod tests {
             value.rules.entries[0].words[..4],
             [0x50000, 0x60000, 0x30000, 0]
         );
+        let second = Pair {
+            action: 5,
+            user: 0,
+            object: 0,
+        };
+        assert_eq!(value.pairs.entries[1..3], [second, Pair::default()]);
         assert_eq!(yielded(&value), read(TEXT.as_bytes()).ok());
     }
 
@@ -178,8 +210,14 @@ mod tests {
         let mut leftover = value(TEXT);
         leftover.rules.entries[1].words[2] = 0x10000;
         assert_eq!(yielded(&leftover), None);
+        let mut leftover = value(TEXT);
+        leftover.pairs.entries[PAIR_PLACES - 1].object = 1;
+        assert_eq!(yielded(&leftover), None);
         let mut count = value(TEXT);
         count.users.count = usize::MAX;
+        assert_eq!(yielded(&count), None);
+        let mut count = value(TEXT);
+        count.pairs.count = PAIR_PLACES + 1;
         assert_eq!(yielded(&count), None);
     }
 

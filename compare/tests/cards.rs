@@ -69,7 +69,7 @@ impl Screen {
         }
     }
 
-    /// By the formula; where it decides, tuples and labels must say the same.
+    /// By formula and pairs; where it decides, tuples and labels must say the same.
     fn decide(&self, action: u32, user_set: u32, object_set: u32) -> u32 {
         let answer = Archive.decide(&self.policy, action, user_set, object_set);
         if answer <= GRANTED {

@@ -4,6 +4,12 @@ use helvemoik_compare::comparison::{compare, Coverage, Plan};
 use helvemoik_compare::engine::{Archive, Engine};
 use helvemoik_compare::plain::Plain;
 
+/// The answers of reading, refusals 1 to 10 and 21 among them.
+const READINGS: [u32; 12] = [0, 1, 2, 3, 4, 5, 6, 7, 8, 9, 10, 21];
+
+/// The kinds of calls that go by what is granted, and so by pairs too.
+const BY_PAIRS: [&str; 5] = ["apart", "compile", "decide", "list", "request"];
+
 /// The answers of each kind of call: 0 and above as the header has them, 11 to 20 refused.
 const ANSWERS: [(&str, &[u32]); 13] = [
     ("valid", &[0, 1]),
@@ -25,7 +31,8 @@ fn covered(engine: &dyn Engine, plan: Plan) -> Coverage {
     let coverage = compare(engine, plan).unwrap_or_else(|difference| panic!("{difference}"));
     println!("{coverage}");
     assert!(coverage.texts() >= plan.texts && coverage.calls() >= plan.calls);
-    assert!(coverage.readings().into_iter().eq(0..=10));
+    assert_eq!(coverage.readings(), READINGS);
+    assert_eq!(coverage.by_pairs(), BY_PAIRS);
     for (kind, answers) in ANSWERS {
         assert_eq!(coverage.answers(kind), answers, "{kind}");
     }

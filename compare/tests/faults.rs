@@ -33,11 +33,25 @@ enum Fault {
     OnlyOneIsOpen,
     RequestTidiesTheBoard,
     AddKeepsTheNumber,
+    Tests21Before7,
+    MissesALeftoverPair,
+    MissesAHugePairCount,
+    TakesPairsInAnyOrder,
+    TakesAPairTwice,
+    TakesAnyPairAction,
+    TakesAnyUserValueInAPair,
+    TakesAnyObjectValueInAPair,
+    WritesNoPairs,
+    DecidesWithoutPairs,
+    ListsWithoutPairs,
+    ListsThePairsOfAll,
+    CompilesWithoutPairs,
+    TellsApartWithoutPairs,
 }
 
 use Fault::*;
 
-const FAULTS: [Fault; 26] = [
+const FAULTS: [Fault; 40] = [
     LineOffByOne,
     PolicyBesideARefusal,
     WritesPastTheText,
@@ -64,6 +78,20 @@ const FAULTS: [Fault; 26] = [
     OnlyOneIsOpen,
     RequestTidiesTheBoard,
     AddKeepsTheNumber,
+    Tests21Before7,
+    MissesALeftoverPair,
+    MissesAHugePairCount,
+    TakesPairsInAnyOrder,
+    TakesAPairTwice,
+    TakesAnyPairAction,
+    TakesAnyUserValueInAPair,
+    TakesAnyObjectValueInAPair,
+    WritesNoPairs,
+    DecidesWithoutPairs,
+    ListsWithoutPairs,
+    ListsThePairsOfAll,
+    CompilesWithoutPairs,
+    TellsApartWithoutPairs,
 ];
 
 /// Plain Rust with one fault.
@@ -80,10 +108,87 @@ impl Faulty {
             }
             MissesAHugeCount => seen.user.lines %= 1 << 32,
             TakesAnyForm => seen.form = 1,
-            _ => {}
+            _ => self.see_pairs(&mut seen),
         }
         seen
     }
+
+    /// The same for faults in what pairs there are.
+    fn see_pairs(&self, seen: &mut PackedPolicy) {
+        let used = seen.pairs.count.min(PAIR_PLACES);
+        let (pairs, rest) = seen.pairs.entries.split_at_mut(used);
+        let (users, objects) = (values(&seen.user), values(&seen.object));
+        match self.0 {
+            MissesALeftoverPair => rest.fill(Pair::default()),
+            MissesAHugePairCount => seen.pairs.count %= 1 << 32,
+            TakesPairsInAnyOrder => pairs.sort(),
+            TakesAPairTwice => {
+                let mut kept = pairs.to_vec();
+                kept.dedup();
+                seen.pairs = pairs_of(&kept);
+            }
+            TakesAnyPairAction => each(pairs, |pair| pair.action = pair.action.min(7)),
+            TakesAnyUserValueInAPair => each(pairs, |pair| pair.user = pair.user.min(users - 1)),
+            TakesAnyObjectValueInAPair => {
+                each(pairs, |pair| pair.object = pair.object.min(objects - 1));
+            }
+            _ => {}
+        }
+    }
+}
+
+fn each(pairs: &mut [Pair], change: impl FnMut(&mut Pair)) {
+    pairs.iter_mut().for_each(change);
+}
+
+/// How many values a side has, and at least one.
+fn values(side: &SideValue) -> u32 {
+    let sum = side
+        .widths
+        .iter()
+        .fold(0, |sum: u32, &width| sum.wrapping_add(width));
+    sum.max(1)
+}
+
+fn pairs_of(pairs: &[Pair]) -> Pairs {
+    let mut value = Pairs {
+        count: pairs.len(),
+        ..Pairs::default()
+    };
+    value.entries[..pairs.len()].copy_from_slice(pairs);
+    value
+}
+
+/// A valid policy with none of its pairs; another as it is.
+fn without_pairs(policy: &PackedPolicy) -> PackedPolicy {
+    match Plain.valid(policy) {
+        true => PackedPolicy {
+            pairs: Pairs::default(),
+            ..*policy
+        },
+        false => *policy,
+    }
+}
+
+/// A valid policy whose pairs are all of one action; another as it is.
+fn all_of(policy: &PackedPolicy, action: u32) -> PackedPolicy {
+    if action >= MOST_ACTIONS as u32 || !Plain.valid(policy) {
+        return *policy;
+    }
+    let mut pairs = policy.pairs.entries[..policy.pairs.count].to_vec();
+    each(&mut pairs, |pair| pair.action = action);
+    pairs.sort();
+    pairs.dedup();
+    PackedPolicy {
+        pairs: pairs_of(&pairs),
+        ..*policy
+    }
+}
+
+/// How many pair lines stand before a line.
+fn pairs_before(text: &[u8], line: usize) -> usize {
+    let lines = text.split(|&byte| byte == b'\n').take(line);
+    lines.filter(|line| line.starts_with(b"pair,")).count()
 }
 
 impl Engine for Faulty {
@@ -92,13 +197,22 @@ impl Engine for Faulty {
         match self.0 {
             LineOffByOne if reading.refusal == 8 => reading.line += 1,
             PolicyBesideARefusal if reading.refusal == 10 => reading.policy.form = 1,
+            Tests21Before7
+                if reading.refusal == 7 && pairs_before(text, reading.line) == MOST_PAIRS =>
+            {
+                reading.refusal = 21;
+            }
             _ => {}
         }
         reading
     }
 
     fn write(&self, policy: &PackedPolicy, buffer: &mut [u8]) -> Counted {
-        let written = Plain.write(&self.seen(policy), buffer);
+        let seen = match self.0 {
+            WritesNoPairs => without_pairs(policy),
+            _ => self.seen(policy),
+        };
+        let written = Plain.write(&seen, buffer);
         match self.0 {
             WritesPastTheText if written.refusal == 0 => {
                 if let Some(byte) = buffer.get_mut(written.count) {
@@ -120,14 +234,23 @@ impl Engine for Faulty {
     }
 
     fn decide(&self, policy: &PackedPolicy, action: u32, user: u32, object: u32) -> u32 {
-        match Plain.decide(policy, action, user, object) {
+        let seen = match self.0 {
+            DecidesWithoutPairs => without_pairs(policy),
+            _ => *policy,
+        };
+        match Plain.decide(&seen, action, user, object) {
             19 if self.0 == DecidesAnySet => DENIED,
             answer => answer,
         }
     }
 
     fn list(&self, policy: &PackedPolicy, action: u32, buffer: &mut [u16]) -> Counted {
-        let listed = Plain.list(policy, action, buffer);
+        let seen = match self.0 {
+            ListsWithoutPairs => without_pairs(policy),
+            ListsThePairsOfAll => all_of(policy, action),
+            _ => *policy,
+        };
+        let listed = Plain.list(&seen, action, buffer);
         if self.0 == ListsThoughTooShort && listed.refusal == 20 {
             buffer.fill(0);
         }
@@ -157,7 +280,11 @@ impl Engine for Faulty {
         table: &mut [u8],
     ) -> PackedCounts {
         let before = table.to_vec();
-        let mut counts = Plain.compile(policy, users, objects, table);
+        let seen = match self.0 {
+            CompilesWithoutPairs => without_pairs(policy),
+            _ => *policy,
+        };
+        let mut counts = Plain.compile(&seen, users, objects, table);
         match self.0 {
             LabelPerSet if counts.refusal == 0 => counts.users += 1,
             LeavesTheTable => table.copy_from_slice(&before),
@@ -167,7 +294,11 @@ impl Engine for Faulty {
     }
 
     fn apart(&self, policy: &PackedPolicy, one: u32, other: u32) -> Separation {
-        let mut found = Plain.apart(policy, one, other);
+        let seen = match self.0 {
+            TellsApartWithoutPairs => without_pairs(policy),
+            _ => *policy,
+        };
+        let mut found = Plain.apart(&seen, one, other);
         match self.0 {
             SaysAlike if found.answer == APART => found = Separation::default(),
             FalseWitness if found.answer == APART => found.action ^= 1,

@@ -24,7 +24,7 @@
 //! T,answer,count,action,room,first,last,..
 //!                             listing into a buffer of room entries: the count
 //!                             of tuples, and the tuples as runs of numbers
-//! F,answer,0,action,us,os     deciding by the formula
+//! F,answer,0,action,us,os     deciding by formula and pairs
 //! B,answer,0,action,us,os,count
 //!                             deciding by tuples; the listing handed in is the
 //!                             action's, in a buffer of 16384 entries
@@ -63,7 +63,7 @@ const SHORT_REQUESTS: u32 = 3;
 /// Buffers that are long enough for any policy.
 const MOST_TEXT: usize = 8192;
 const MOST_SETS: usize = 128;
-const MOST_PAIRS: usize = 16384;
+const MOST_ENTRIES: usize = 16384;
 /// What stands in a buffer of bytes, and in a listing's, before a call.
 const BLANK: u8 = 170;
 const BLANK_ENTRY: Stored = 65_535;
@@ -84,8 +84,13 @@ pub(crate) const WITHOUT_POLICY: [&str; 9] = [
 pub fn made(seed: u64, case: u64, largest: u32) -> Vec<u8> {
     let mut rng = Rng::new(seed, case);
     let text = cases::text(&mut rng, case);
+    answered(&mut rng, case, &text, largest)
+}
+
+/// A case of a text, with what is due to it and to calls on it.
+pub fn answered(rng: &mut Rng, case: u64, text: &[u8], largest: u32) -> Vec<u8> {
     let mut out = String::new();
-    match read(&text) {
+    match read(text) {
         Err(refused) => {
             line(&mut out, format!("R,{},{}", refused.refusal, refused.line));
             line(&mut out, "V,11".to_string());
@@ -94,10 +99,10 @@ pub fn made(seed: u64, case: u64, largest: u32) -> Vec<u8> {
         Ok(policy) => {
             line(&mut out, "Y".to_string());
             line(&mut out, "V,0".to_string());
-            accepted(&mut out, &mut rng, &policy, largest);
+            accepted(&mut out, rng, &policy, largest);
         }
     }
-    case_of(case, &text, &out)
+    case_of(case, text, &out)
 }
 
 fn line(out: &mut String, line: String) {
@@ -160,7 +165,7 @@ fn label_lines(out: &mut String, rng: &mut Rng, policy: &Policy, labelling: &Lab
         [
             enough(rng, users, MOST_SETS),
             enough(rng, objects, MOST_SETS),
-            enough(rng, places, MOST_PAIRS),
+            enough(rng, places, MOST_ENTRIES),
         ]
     };
     let [mut u, mut o, mut t] = rooms(rng);
@@ -192,7 +197,7 @@ fn tuple_lines(out: &mut String, rng: &mut Rng, policy: &Policy) -> Vec<Vec<Stor
         if count > 0 && rng.chance(1, 4) {
             line(out, format!("T,20,0,{action},{}", short(rng, count)));
         }
-        let room = enough(rng, count, MOST_PAIRS);
+        let room = enough(rng, count, MOST_ENTRIES);
         line(
             out,
             format!("T,0,{count},{action},{room}{}", runs(&listing)),
@@ -233,7 +238,7 @@ fn decision_lines(
         let (us, os) = sets(rng, policy, largest);
         let count = listing_count(rng, listing.len() as u32, largest);
         let mut buffer = listing.clone();
-        buffer.resize(MOST_PAIRS, BLANK_ENTRY);
+        buffer.resize(MOST_ENTRIES, BLANK_ENTRY);
         let answer = decision(decide_by_tuples(policy, us, os, &buffer, count as usize));
         line(out, format!("B,{answer},0,{action},{us},{os},{count}"));
     }
@@ -257,7 +262,7 @@ fn listing_count(rng: &mut Rng, length: u32, largest: u32) -> u32 {
     let count = match rng.below(10) {
         0 => length / 2,
         1 => length + 1,
-        2 => MOST_PAIRS as u32 + 1,
+        2 => MOST_ENTRIES as u32 + 1,
         3 => largest,
         _ => length,
     };
@@ -343,7 +348,7 @@ fn call_line(
     let answers: Vec<u32> = answers.into_iter().map(answer_number).collect();
     let lent = Lent {
         counts: [labelling.user_count, labelling.object_count],
-        rooms: [MOST_SETS, MOST_SETS, MOST_PAIRS],
+        rooms: [MOST_SETS, MOST_SETS, MOST_ENTRIES],
     };
     list_line(out, &lent, &calls, &answers, &sessions);
     sessions
@@ -376,7 +381,7 @@ fn request_lines(
         ];
         let mut lent = Lent {
             counts: [labelling.user_count, labelling.object_count],
-            rooms: [MOST_SETS, MOST_SETS, MOST_PAIRS],
+            rooms: [MOST_SETS, MOST_SETS, MOST_ENTRIES],
         };
         if rng.chance(1, 3) {
             lent.counts = [rng.index(130), rng.index(130)];
@@ -415,4 +420,102 @@ fn looked_up(labelling: &Labelling, lent: &Lent, places: [usize; 3], action: u32
     }
     let byte = labelling.table.get(places[2]).unwrap_or(&BLANK);
     u32::from(byte >> action & 1)
+}
+
+#[cfg(test)]
+mod tests {
+    use super::*;
+    use crate::stored::example_cases;
+
+    /// The answers that stand in the examples by hand are those given here.
+    #[test]
+    fn the_examples_are_answered_so() {
+        let mut compared = 0;
+        for (text, answers) in example_cases() {
+            let Ok(policy) = read(text.as_bytes()) else {
+                continue;
+            };
+            for line in answers.lines().filter(|line| line.len() > 3) {
+                let fields = line.split(',').skip(1);
+                let numbers: Vec<u32> = fields.map(|n| n.parse().expect("a number")).collect();
+                assert_eq!(due(&policy, &line[..1], &numbers), line, "{text}");
+                compared += 1;
+            }
+        }
+        assert!(compared > 40, "{compared}");
+    }
+
+    /// The line that is due where a line has this tag and asks by these numbers.
+    fn due(policy: &Policy, tag: &str, numbers: &[u32]) -> String {
+        match (tag, &numbers[2..]) {
+            ("W", _) => format!("W,0{}", fields([write(policy).len(); 3])),
+            ("u" | "o" | "g", rooms) => compiled(policy, tag, &rooms[..3]),
+            ("T", &[action, room, ..]) => {
+                let listing = tuples(policy, action).expect("listed");
+                format!("T,0,{},{action},{room}{}", listing.len(), runs(&listing))
+            }
+            ("S", asked) => played(policy, asked),
+            (_, asked) => format!("{tag},{},0{}", decided(policy, tag, asked), fields(asked)),
+        }
+    }
+
+    fn compiled(policy: &Policy, tag: &str, rooms: &[u32]) -> String {
+        let labelling = compile(policy);
+        let (count, bytes) = match tag {
+            "u" => (labelling.user_count, labelling.user_labels),
+            "o" => (labelling.object_count, labelling.object_labels),
+            _ => (labelling.object_count, labelling.table),
+        };
+        format!("{tag},0,{count}{}{}", fields(rooms), fields(bytes))
+    }
+
+    fn decided(policy: &Policy, tag: &str, asked: &[u32]) -> u32 {
+        match (tag, asked) {
+            ("F", &[action, us, os]) => decision(decide(policy, action, us, os)),
+            ("B", &[action, us, os, count]) => {
+                let listing = tuples(policy, action).expect("listed");
+                decision(decide_by_tuples(policy, us, os, &listing, count as usize))
+            }
+            ("P", &[one, other]) => separation(policy, one, other),
+            ("D", &[one, other, action, os]) => {
+                let granted = |us| decide(policy, action, us, os).expect("decided");
+                if granted(one) == granted(other) {
+                    3
+                } else {
+                    4
+                }
+            }
+            _ => panic!("{tag} {asked:?}"),
+        }
+    }
+
+    fn played(policy: &Policy, asked: &[u32]) -> String {
+        let sizes: Vec<usize> = asked[..5].iter().map(|&n| n as usize).collect();
+        let lent = Lent {
+            counts: [sizes[0], sizes[1]],
+            rooms: [sizes[2], sizes[3], sizes[4]],
+        };
+        let calls = asked[6..].chunks(4).take(asked[5] as usize);
+        let calls: Vec<Call> = calls.map(call).collect();
+        let (answers, sessions) = run(policy, &calls);
+        let answers: Vec<u32> = answers.into_iter().map(answer_number).collect();
+        let mut line = String::new();
+        list_line(&mut line, &lent, &calls, &answers, &sessions);
+        line.trim_end().to_string()
+    }
+
+    fn call(numbers: &[u32]) -> Call {
+        match *numbers {
+            [0, user, session, set] => Call::Open { user, session, set },
+            [1, user, session, set] => Call::Add { user, session, set },
+            [2, user, session, set] => Call::Drop { user, session, set },
+            [3, user, session, _] => Call::Close { user, session },
+            [4, session, action, object] => Call::Request {
+                session,
+                action,
+                object,
+            },
+            _ => panic!("{numbers:?}"),
+        }
+    }
 }

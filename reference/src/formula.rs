@@ -1,6 +1,6 @@
-//! What words and formulas mean on a user set and an object set.
+//! What words, formulas and pairs mean on a user set and an object set.
 
-use crate::policy::{first_value, Policy, Refusal, Set, Word, ACTIONS};
+use crate::policy::{first_value, Pair, Policy, Refusal, Set, Word, ACTIONS};
 
 /// Whether a set holds a value.
 pub fn holds(set: Set, value: u32) -> bool {
@@ -33,7 +33,7 @@ pub fn reach(policy: &Policy, assigned: Set) -> Set {
     })
 }
 
-/// The formulas of a policy, with the chains of seniority followed once.
+/// The formulas and pairs of a policy, with the chains of seniority followed once.
 pub struct Formulas<'a> {
     policy: &'a Policy,
     /// For each user value, it and its seniors: any of them makes `uV` true.
@@ -58,8 +58,23 @@ impl<'a> Formulas<'a> {
         }
     }
 
-    /// Whether the action's formula is true on the two sets.
+    /// Whether the action is granted on the two sets: by its formula or by a pair.
     pub fn grants(&self, action: u32, user_set: Set, object_set: Set) -> bool {
+        let pairs = &self.policy.pairs;
+        self.is_true(action, user_set, object_set)
+            || pairs
+                .iter()
+                .any(|pair| pair.action == action && self.meets(pair, user_set, object_set))
+    }
+
+    /// Whether the sets hold a pair's two values, as `uV` and `oW` have it.
+    fn meets(&self, pair: &Pair, user_set: Set, object_set: Set) -> bool {
+        self.pushes(&Word::User(pair.user), user_set, object_set)
+            && self.pushes(&Word::Object(pair.object), user_set, object_set)
+    }
+
+    /// Whether the action's formula is true on the two sets.
+    pub fn is_true(&self, action: u32, user_set: Set, object_set: Set) -> bool {
         let mut stack = Vec::new();
         for word in self.policy.formula(action) {
             let truth = match *word {
@@ -116,7 +131,7 @@ fn places(widths: &[u32], attribute: u32, set: Set) -> Set {
     (set >> first_value(widths, attribute)) % (1 << width)
 }
 
-/// Decide by the formula on two given sets; refusals 12 and 19.
+/// Decide by formula and pairs on two given sets; refusals 12 and 19.
 pub fn decide(
     policy: &Policy,
     action: u32,
@@ -177,6 +192,28 @@ mod tests {
         assert!(granted("t,f,r", 0, 0) && !granted("t,f,a", 0, 0));
         assert!(granted("t,f,n,a", 0, 0) && granted("f,t,f,a,n,r", 0, 0));
         assert!(granted("t,f,f,a,r", 0, 0) && !granted("t,f,r,f,a", 0, 0));
+    }
+
+    #[test]
+    fn pairs_look_up_for_users_and_down_for_objects() {
+        let lines = "usen,1,0\nusen,2,1\nosen,3,2\nosen,4,3\npair,5,1,3\n";
+        let policy = policy(lines);
+        let granted = |us, os| decide(&policy, 5, us, os).expect("decided");
+        assert!(granted(0b00010, 0b01000) && granted(0b00100, 0b00100));
+        assert!(!granted(0b00001, 0b01000) && !granted(0b00010, 0b10000));
+        assert!(!granted(0b00010, 0) && !granted(0, 0b01000) && !granted(0b11000, 0b00011));
+        assert_eq!(decide(&policy, 4, 31, 31), Ok(false));
+    }
+
+    #[test]
+    fn an_action_is_granted_by_its_formula_or_by_a_pair() {
+        let policy = policy("rule,1,u4\nrule,2,f\npair,1,0,0\npair,1,3,4\npair,2,1,1\n");
+        let grants = |action, us, os| Formulas::of(&policy).grants(action, us, os);
+        assert!(grants(1, 0b10000, 0) && grants(1, 1, 1) && grants(1, 0b01000, 0b10000));
+        // Both values of one pair, and not one of each.
+        assert!(!grants(1, 1, 0b10000) && !grants(1, 0b01000, 1));
+        assert!(grants(2, 2, 2) && !grants(2, 1, 1));
+        assert!(!Formulas::of(&policy).is_true(2, 2, 2));
     }
 
     #[test]

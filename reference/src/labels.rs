@@ -71,7 +71,7 @@ fn number(rows: &[Vec<u8>]) -> (Vec<u8>, Vec<usize>) {
     (labels, lowest)
 }
 
-/// Whether a labelling says granted exactly where the formulas are true.
+/// Whether a labelling says granted exactly where formulas and pairs grant.
 pub fn grants_alike(policy: &Policy, labelling: &Labelling) -> bool {
     grants(policy)
         .iter()

@@ -2,7 +2,7 @@
 //! possible: the answers to compare another implementation with.
 //!
 //! Everything here is a pure function over plain vectors. Refusals are the
-//! numbers 1 to 20 of the requirement.
+//! numbers 1 to 21 of the requirement.
 
 #![forbid(unsafe_code)]
 

@@ -1,7 +1,7 @@
 //! What the lister writes about a policy text.
 
 use crate::labels::compile;
-use crate::policy::Policy;
+use crate::policy::{Policy, ACTIONS};
 use crate::text::{read, Refused};
 use crate::tuples::tuples;
 
@@ -19,9 +19,8 @@ fn listing(policy: &Policy) -> String {
         "labels,{},{}\n",
         labelling.user_count, labelling.object_count
     );
-    for rule in &policy.rules {
-        let action = rule.action;
-        let tuples = tuples(policy, action).expect("an action of a rule");
+    for action in (0..ACTIONS).filter(|&action| is_named(policy, action)) {
+        let tuples = tuples(policy, action).expect("an action");
         output += &format!("action,{action},{}\n", tuples.len());
         for tuple in tuples.into_iter().map(u32::from) {
             let (user_set, object_set) =
@@ -30,4 +29,27 @@ fn listing(policy: &Policy) -> String {
         }
     }
     output
+}
+
+/// Whether an action has a rule or a pair.
+fn is_named(policy: &Policy, action: u32) -> bool {
+    policy.rules.iter().any(|rule| rule.action == action)
+        || policy.pairs.iter().any(|pair| pair.action == action)
+}
+
+#[cfg(test)]
+mod tests {
+    use super::*;
+
+    #[test]
+    fn each_action_with_a_rule_or_a_pair_has_one_block_in_rising_order() {
+        let head = "policy,1\nuattr,1\noattr,1\n";
+        let rules = "rule,2,u0,n\nrule,4,f\n";
+        let pairs = "pair,1,0,0\npair,2,0,0\npair,7,0,0\n";
+        let output = list(format!("{head}{rules}{pairs}end\n").as_bytes());
+        let expected = "labels,2,2\naction,1,1\ntuple,1,1,1\n\
+            action,2,3\ntuple,2,0,0\ntuple,2,0,1\ntuple,2,1,1\n\
+            action,4,0\naction,7,1\ntuple,7,1,1\n";
+        assert_eq!(output, expected);
+    }
 }

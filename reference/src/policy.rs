@@ -3,7 +3,7 @@
 /// A set of values: the sum of 2^k over the values k in it.
 pub type Set = u32;
 
-/// The number of a refusal, 1 to 20.
+/// The number of a refusal, 1 to 21.
 pub type Refusal = u32;
 
 /// Actions are numbered 0 to 7.
@@ -34,6 +34,14 @@ pub struct Rule {
     pub words: Vec<Word>,
 }
 
+/// Grants an action to a user value on an object value.
+#[derive(Debug, Clone, Copy, PartialEq, Eq, PartialOrd, Ord)]
+pub struct Pair {
+    pub action: u32,
+    pub user: u32,
+    pub object: u32,
+}
+
 #[derive(Debug, Clone, Default, PartialEq, Eq)]
 pub struct Policy {
     pub user_widths: Vec<u32>,
@@ -46,6 +54,7 @@ pub struct Policy {
     /// Number and set.
     pub objects: Vec<(u32, Set)>,
     pub rules: Vec<Rule>,
+    pub pairs: Vec<Pair>,
 }
 
 impl Policy {
@@ -79,7 +88,7 @@ impl Policy {
         find(&self.objects, object)
     }
 
-    /// The formula of an action; one without a rule is denied, so it is false.
+    /// The formula of an action; that of one without a rule is false.
     pub fn formula(&self, action: u32) -> &[Word] {
         match self.rules.iter().find(|rule| rule.action == action) {
             Some(rule) => &rule.words,

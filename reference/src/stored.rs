@@ -1,8 +1,12 @@
 //! The case files that are stored with the product: the requirement's examples
-//! with the requirement's answers, made cases from one seed, and lines that are
-//! wrong on purpose.
+//! with the requirement's answers, made cases from one seed without pairs and
+//! with them, and lines that are wrong on purpose.
 
-use crate::case_file::{case_of, made};
+mod pairs;
+
+use crate::case_file::{answered, case_of, made};
+use crate::cases::{text, text_without_pairs, Rng};
+use crate::text::{read, MOST_PAIRS};
 use crate::wrong;
 
 const SEED: u64 = 3;
@@ -66,13 +70,23 @@ const EDGES: [(&str, &str, &str); 16] = [
     ("end\n", "", "R,10,8"),
 ];
 
-/// The files by their numbers: the examples, the made cases, then the lines that
-/// are wrong on purpose.
+/// The files by their numbers: the examples, the made cases without pairs, those
+/// with pairs, then the lines that are wrong on purpose.
 pub fn files() -> Vec<Vec<u8>> {
-    let mut files = vec![examples(), Vec::new()];
+    let mut files = vec![examples()];
+    files.extend(without_pairs());
+    files.push(with_pairs());
+    files.push(wrong::file());
+    files
+}
+
+fn without_pairs() -> Vec<Vec<u8>> {
+    let mut files = vec![Vec::new()];
     let mut large = 0;
     for case in 0..CASES {
-        let lines = made(SEED, case, u32::MAX);
+        let mut rng = Rng::new(SEED, case);
+        let text = text_without_pairs(&mut rng, case);
+        let lines = answered(&mut rng, case, &text, u32::MAX);
         if lines.len() > SMALL && case != LABEL_PER_SET {
             if lines.len() > FILE || large + lines.len() > LARGE_SUM {
                 continue;
@@ -84,8 +98,38 @@ pub fn files() -> Vec<Vec<u8>> {
             _ => files.push(lines),
         }
     }
-    files.push(wrong::file());
     files
+}
+
+/// The first small cases that say much of pairs, as many as fit into a file.
+fn with_pairs() -> Vec<u8> {
+    let mut file = Vec::new();
+    for case in 0..CASES {
+        let lines = made(SEED, case, u32::MAX);
+        let fits = lines.len() <= SMALL && file.len() + lines.len() <= FILE;
+        if fits && is_about_pairs(&text(&mut Rng::new(SEED, case), case)) {
+            file.extend(lines);
+        }
+    }
+    file
+}
+
+/// Refused at a pair line, or accepted with pairs and no rules, with as many
+/// pairs as there may be, or with pairs and seniority on both sides.
+fn is_about_pairs(text: &[u8]) -> bool {
+    match read(text) {
+        Err(refused) => {
+            let mut lines = text.split(|&byte| byte == b'\n');
+            let line = lines.nth(refused.line).unwrap_or_default();
+            refused.refusal > 1 && line.starts_with(b"pair")
+        }
+        Ok(policy) => {
+            let both_sides =
+                !policy.user_seniority.is_empty() && !policy.object_seniority.is_empty();
+            let most = policy.pairs.len() == MOST_PAIRS;
+            !policy.pairs.is_empty() && (policy.rules.is_empty() || most || both_sides)
+        }
+    }
 }
 
 fn examples() -> Vec<u8> {
@@ -96,7 +140,7 @@ fn examples() -> Vec<u8> {
 }
 
 /// Texts, each with the answers' lines, of which the first is the reading's.
-fn example_cases() -> Vec<(String, String)> {
+pub(crate) fn example_cases() -> Vec<(String, String)> {
     let no_rules = TEXT.replace("rule,0,u0,o0,a\nrule,3,u1,n\n", "");
     let all_alike = "Y\nV,0\nu,0,1,4,2,1,0,0,0,0\no,0,1,4,2,1,0,0\ng,0,1,4,2,1,0\n";
     let mut cases = vec![
@@ -112,6 +156,7 @@ fn example_cases() -> Vec<(String, String)> {
         let text = TEXT.replace("rule,0,u0,o0,a\n", &rule);
         cases.push((text, read_as(answer)));
     }
+    cases.extend(pairs::example_cases());
     cases
 }
 
@@ -125,7 +170,6 @@ fn read_as(answer: &str) -> String {
 #[cfg(test)]
 mod tests {
     use super::*;
-    use crate::text::read;
 
     #[test]
     fn the_examples_are_read_as_the_requirement_says() {

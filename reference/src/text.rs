@@ -1,12 +1,16 @@
-//! Reading a policy text, with refusals 1 to 10 and their lines, and writing.
+//! Reading a policy text, with refusals 1 to 10 and 21 and their lines, and
+//! writing.
 //!
-//! The checks of one line stand in the order of their numbers, so that the
-//! first one met is the lowest that applies.
+//! The checks of one line stand in the order of testing, which is that of their
+//! numbers but for 21, between 7 and 8. The first one met decides.
 
-use crate::policy::{attribute_of, Policy, Refusal, Rule, Word};
+use crate::policy::{attribute_of, Pair, Policy, Refusal, Rule, Word, ACTIONS};
 
 /// A longer text gets refusal 1.
 pub const LONGEST_TEXT: usize = 8192;
+
+/// A pair line more gets refusal 21.
+pub const MOST_PAIRS: usize = 64;
 
 /// The reader's refusal, with the line it is about.
 #[derive(Debug, Clone, Copy, PartialEq, Eq)]
@@ -26,10 +30,11 @@ enum Kind {
     User,
     Object,
     Rule,
+    Pair,
     End,
 }
 
-const KINDS: [(&str, Kind); 9] = [
+const KINDS: [(&str, Kind); 10] = [
     ("policy", Kind::Policy),
     ("uattr", Kind::UserAttribute),
     ("oattr", Kind::ObjectAttribute),
@@ -38,6 +43,7 @@ const KINDS: [(&str, Kind); 9] = [
     ("user", Kind::User),
     ("object", Kind::Object),
     ("rule", Kind::Rule),
+    ("pair", Kind::Pair),
     ("end", Kind::End),
 ];
 
@@ -48,7 +54,7 @@ struct Entry {
     words: Vec<Word>,
 }
 
-/// The policy of a text that breaks none of 1 to 10.
+/// The policy of a text that breaks none of 1 to 10 and 21.
 pub fn read(text: &[u8]) -> Result<Policy, Refused> {
     if text.len() > LONGEST_TEXT {
         return Err(Refused {
@@ -78,7 +84,7 @@ pub fn read(text: &[u8]) -> Result<Policy, Refused> {
     Ok(policy)
 }
 
-/// Checks 2 to 9 of one line, given the lines before it.
+/// Checks 2 to 9 and 21 of one line, given the lines before it.
 fn read_line(policy: &Policy, before: Option<Kind>, line: &[u8]) -> Result<Entry, Refusal> {
     let line = line.strip_suffix(b"\n").ok_or(2u32)?;
     let fields: Vec<&[u8]> = line.split(|&byte| byte == b',').collect();
@@ -94,6 +100,9 @@ fn read_line(policy: &Policy, before: Option<Kind>, line: &[u8]) -> Result<Entry
     }
     if !rises(policy, &entry) {
         return Err(7);
+    }
+    if kind == Kind::Pair && policy.pairs.len() >= MOST_PAIRS {
+        return Err(21);
     }
     if !entry.words.iter().all(|word| widths_equal(policy, word)) {
         return Err(8);
@@ -128,6 +137,7 @@ fn count_fits(kind: Kind, count: usize) -> bool {
         Kind::Policy | Kind::UserAttribute | Kind::ObjectAttribute => count == 2,
         Kind::UserSeniority | Kind::ObjectSeniority | Kind::User | Kind::Object => count == 3,
         Kind::Rule => (3..=34).contains(&count),
+        Kind::Pair => count == 4,
     }
 }
 
@@ -184,11 +194,18 @@ fn in_range(policy: &Policy, entry: &Entry) -> bool {
         Kind::Policy => numbers[0] == 1,
         Kind::UserAttribute => width_fits(&policy.user_widths, numbers[0]),
         Kind::ObjectAttribute => width_fits(&policy.object_widths, numbers[0]),
-        Kind::UserSeniority => pair_stands(&policy.user_widths, numbers[0], numbers[1]),
-        Kind::ObjectSeniority => pair_stands(&policy.object_widths, numbers[0], numbers[1]),
+        Kind::UserSeniority => senior_stands(&policy.user_widths, numbers[0], numbers[1]),
+        Kind::ObjectSeniority => senior_stands(&policy.object_widths, numbers[0], numbers[1]),
         Kind::User => numbers[0] <= 31 && numbers[1] < policy.user_sets(),
         Kind::Object => numbers[0] <= 63 && numbers[1] < policy.object_sets(),
-        Kind::Rule => numbers[0] <= 7 && entry.words.iter().all(|word| word_in_range(policy, word)),
+        Kind::Rule => {
+            numbers[0] < ACTIONS && entry.words.iter().all(|word| word_in_range(policy, word))
+        }
+        Kind::Pair => {
+            numbers[0] < ACTIONS
+                && numbers[1] < policy.user_values()
+                && numbers[2] < policy.object_values()
+        }
         Kind::End => true,
     }
 }
@@ -199,7 +216,7 @@ fn width_fits(widths: &[u32], width: u32) -> bool {
 }
 
 /// Both are values, of the same attribute, and the senior is the higher one.
-fn pair_stands(widths: &[u32], senior: u32, junior: u32) -> bool {
+fn senior_stands(widths: &[u32], senior: u32, junior: u32) -> bool {
     let attribute = attribute_of(widths, senior);
     attribute.is_some() && attribute == attribute_of(widths, junior) && senior > junior
 }
@@ -224,7 +241,17 @@ fn rises(policy: &Policy, entry: &Entry) -> bool {
         Kind::User => above(policy.users.last().map(|user| &user.0), numbers[0]),
         Kind::Object => above(policy.objects.last().map(|object| &object.0), numbers[0]),
         Kind::Rule => above(policy.rules.last().map(|rule| &rule.action), numbers[0]),
+        Kind::Pair => above(policy.pairs.last(), pair(numbers)),
         _ => true,
+    }
+}
+
+/// Pairs compare by action, then user value, then object value.
+fn pair(numbers: &[u32]) -> Pair {
+    Pair {
+        action: numbers[0],
+        user: numbers[1],
+        object: numbers[2],
     }
 }
 
@@ -272,6 +299,7 @@ fn with(mut policy: Policy, entry: Entry) -> Policy {
             action: numbers[0],
             words: entry.words,
         }),
+        Kind::Pair => policy.pairs.push(pair(&numbers)),
     }
     policy
 }
@@ -291,11 +319,12 @@ pub fn write(policy: &Policy) -> Vec<u8> {
             .iter()
             .map(|width| format!("oattr,{width}")),
     );
-    lines.extend(pairs("usen", &policy.user_seniority));
-    lines.extend(pairs("osen", &policy.object_seniority));
-    lines.extend(pairs("user", &policy.users));
-    lines.extend(pairs("object", &policy.objects));
+    lines.extend(two_numbers("usen", &policy.user_seniority));
+    lines.extend(two_numbers("osen", &policy.object_seniority));
+    lines.extend(two_numbers("user", &policy.users));
+    lines.extend(two_numbers("object", &policy.objects));
     lines.extend(policy.rules.iter().map(rule_line));
+    lines.extend(policy.pairs.iter().map(pair_line));
     lines.push("end".to_string());
     lines
         .iter()
@@ -303,8 +332,8 @@ pub fn write(policy: &Policy) -> Vec<u8> {
         .collect()
 }
 
-fn pairs<'a>(kind: &'a str, pairs: &'a [(u32, u32)]) -> impl Iterator<Item = String> + 'a {
-    pairs
+fn two_numbers<'a>(kind: &'a str, lines: &'a [(u32, u32)]) -> impl Iterator<Item = String> + 'a {
+    lines
         .iter()
         .map(move |(first, second)| format!("{kind},{first},{second}"))
 }
@@ -312,6 +341,10 @@ fn pairs<'a>(kind: &'a str, pairs: &'a [(u32, u32)]) -> impl Iterator<Item = Str
 fn rule_line(rule: &Rule) -> String {
     let words: Vec<String> = rule.words.iter().map(word_text).collect();
     format!("rule,{},{}", rule.action, words.join(","))
+}
+
+fn pair_line(pair: &Pair) -> String {
+    format!("pair,{},{},{}", pair.action, pair.user, pair.object)
 }
 
 fn word_text(word: &Word) -> String {
@@ -368,12 +401,13 @@ mod tests {
         let followers = [
             ("policy", "uattr"),
             ("uattr", "uattr oattr"),
-            ("oattr", "oattr usen osen user object rule end"),
-            ("usen", "usen osen user object rule end"),
-            ("osen", "osen user object rule end"),
-            ("user", "user object rule end"),
-            ("object", "object rule end"),
-            ("rule", "rule end"),
+            ("oattr", "oattr usen osen user object rule pair end"),
+            ("usen", "usen osen user object rule pair end"),
+            ("osen", "osen user object rule pair end"),
+            ("user", "user object rule pair end"),
+            ("object", "object rule pair end"),
+            ("rule", "rule pair end"),
+            ("pair", "pair end"),
             ("end", ""),
         ];
         for (before, allowed) in followers {
@@ -408,6 +442,8 @@ mod tests {
             "object,0",
             "rule",
             "rule,0",
+            "pair,0,0",
+            "pair,0,0,0,0",
             "end,",
         ] {
             assert_eq!(line(text), Some(4), "{text}");
@@ -420,6 +456,9 @@ mod tests {
             assert_eq!(line(&format!("user,{field},0")), Some(5), "{field}");
             assert_eq!(line(&format!("user,0,{field}")), Some(5), "{field}");
             assert_eq!(line(&format!("rule,{field},t")), Some(5), "{field}");
+            assert_eq!(line(&format!("pair,{field},0,0")), Some(5), "{field}");
+            assert_eq!(line(&format!("pair,0,{field},0")), Some(5), "{field}");
+            assert_eq!(line(&format!("pair,0,0,{field}")), Some(5), "{field}");
         }
         for word in [
             "", "x", "u", "u00", "ua", "o", "d0", "d000", "q0", "q0a", "tt", "T",
@@ -446,6 +485,9 @@ mod tests {
             "object,64,0",
             "object,0,8",
             "rule,8,t",
+            "pair,8,0,0",
+            "pair,0,3,0",
+            "pair,0,0,3",
         ] {
             assert_eq!(line(text), Some(6), "{text}");
         }
@@ -462,10 +504,38 @@ mod tests {
         assert_eq!(refused(&format!("{HEAD}user,2,0\nuser,1,8\n")), (6, 6));
         assert_eq!(refused(&format!("{HEAD}object,2,0\nobject,2,1\n")), (7, 6));
         assert_eq!(refused(&format!("{HEAD}rule,2,t\nrule,2,d01\n")), (7, 6));
+        for next in ["1,1,1", "1,1,0", "1,0,2", "0,2,2"] {
+            let text = format!("{HEAD}pair,1,1,1\npair,{next}\n");
+            assert_eq!(refused(&text), (7, 6), "{next}");
+        }
+        for next in ["1,1,2", "1,2,0", "2,0,0"] {
+            let text = format!("{HEAD}pair,1,1,1\npair,{next}\nend\n");
+            assert!(read(text.as_bytes()).is_ok(), "{next}");
+        }
+    }
+
+    /// A text with so many pair lines, all values below 7.
+    fn with_pairs(count: u32) -> String {
+        let pairs = (0..count).map(|i| format!("pair,{},{},{}\n", i / 49, i / 7 % 7, i % 7));
+        format!("policy,1\nuattr,7\noattr,7\n{}", pairs.collect::<String>())
     }
 
     #[test]
-    fn pairs_rise_by_the_senior_first() {
+    fn refusal_21_past_the_64th_pair_after_7() {
+        let text = with_pairs(64);
+        assert!(read(format!("{text}end\n").as_bytes()).is_ok());
+        assert_eq!(refused(&with_pairs(65)), (21, 67));
+        assert_eq!(refused(&format!("{text}pair,7,6,6")), (2, 67));
+        assert_eq!(refused(&format!("{text}rule,7,t\n")), (3, 67));
+        assert_eq!(refused(&format!("{text}pair,7,6\n")), (4, 67));
+        assert_eq!(refused(&format!("{text}pair,7,6,06\n")), (5, 67));
+        assert_eq!(refused(&format!("{text}pair,7,6,7\n")), (6, 67));
+        assert_eq!(refused(&format!("{text}pair,1,2,0\n")), (7, 67));
+        assert_eq!(refused(&format!("{text}pair,7,6,6\n")), (21, 67));
+    }
+
+    #[test]
+    fn seniority_rises_by_the_senior_first() {
         let head = "policy,1\nuattr,3\noattr,1\n";
         assert!(read(format!("{head}usen,1,0\nusen,2,0\nusen,2,1\nend\n").as_bytes()).is_ok());
         assert_eq!(refused(&format!("{head}usen,2,1\nusen,2,0\n")), (7, 4));
@@ -495,7 +565,7 @@ mod tests {
     fn an_accepted_text_is_written_again() {
         let text = format!(
             "{HEAD}usen,1,0\nosen,1,0\nuser,0,7\nuser,31,0\nobject,63,5\n\
-             rule,0,t,f,u0,o2,d00,q11,n,a,r,a,r,a\nrule,7,f\nend\n"
+             rule,0,t,f,u0,o2,d00,q11,n,a,r,a,r,a\nrule,7,f\npair,0,0,2\npair,7,2,0\nend\n"
         );
         let policy = read(text.as_bytes()).expect("accepted");
         assert_eq!(write(&policy), text.as_bytes());

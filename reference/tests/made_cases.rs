@@ -1,16 +1,18 @@
 //! What the made cases cover, and what must hold of every one of them.
 
-use reference::cases::{calls, text, Rng};
+use reference::cases::{calls, text, text_without_pairs, Rng};
 use reference::formula::{decide, holds, is_senior, Formulas};
 use reference::labels::{apart, compile, grants, grants_alike};
 use reference::machine::{run, Answer};
-use reference::policy::{Policy, ACTIONS};
-use reference::text::{read, write};
+use reference::policy::{Pair, Policy, ACTIONS};
+use reference::text::{read, write, MOST_PAIRS};
 use reference::tuples::{stored, tuples};
 use std::collections::BTreeSet;
 
 const SEED: u64 = 20;
 const CASES: u64 = 2000;
+/// Each refusal of the reader comes up among the first so many.
+const THOUSAND: u64 = 1000;
 
 fn made(case: u64) -> (Rng, Vec<u8>) {
     let mut rng = Rng::new(SEED, case);
@@ -56,11 +58,59 @@ fn accepted_texts_are_written_again() {
 
 #[test]
 fn every_refusal_of_the_reader_comes_up() {
-    let refusals: BTreeSet<u32> = (0..CASES)
+    let refusals: BTreeSet<u32> = (0..THOUSAND)
         .filter_map(|case| read(&made(case).1).err())
         .map(|r| r.refusal)
         .collect();
-    assert!(refusals.iter().copied().eq(1..=10), "{refusals:?}");
+    assert!(
+        refusals.iter().copied().eq((1..=10).chain([21])),
+        "{refusals:?}"
+    );
+}
+
+/// The line that a text is refused at, with the refusal and the pairs before it.
+fn refused_at(text: &[u8]) -> Option<(u32, String, usize)> {
+    let refused = read(text).err()?;
+    let mut lines = text.split(|&byte| byte == b'\n');
+    let before = lines.by_ref().take(refused.line);
+    let pairs = before.filter(|line| line.starts_with(b"pair,")).count();
+    let line = String::from_utf8_lossy(lines.next()?).into_owned();
+    Some((refused.refusal, line, pairs))
+}
+
+#[test]
+fn every_refusal_of_a_pair_line_comes_up() {
+    let found: Vec<_> = (0..CASES)
+        .filter_map(|case| refused_at(&made(case).1))
+        .collect();
+    let comes = |refusal, past| {
+        found.iter().any(|(found, line, pairs)| {
+            *found == refusal && line.starts_with("pair") && (*pairs == MOST_PAIRS) == past
+        })
+    };
+    for refusal in 3..=7 {
+        assert!(comes(refusal, false) && comes(refusal, true), "{refusal}");
+    }
+    assert!(comes(21, true) && !comes(21, false));
+    // A rule behind pairs.
+    assert!(found.iter().any(|(refusal, line, pairs)| {
+        *refusal == 3 && line.starts_with("rule,") && *pairs > 0
+    }));
+}
+
+#[test]
+fn a_text_that_gets_no_pairs_is_as_it_is_without_them() {
+    let mut same = 0;
+    for case in (0..200).step_by(2) {
+        let with = String::from_utf8(made(case).1).expect("a text");
+        let without = text_without_pairs(&mut Rng::new(SEED, case), case);
+        let lines = with
+            .split_inclusive('\n')
+            .filter(|line| !line.starts_with("pair,"));
+        assert_eq!(lines.collect::<String>().as_bytes(), without, "{case}");
+        same += u32::from(with.as_bytes() == without);
+    }
+    assert!(same > 10 && same < 50, "{same}");
 }
 
 #[test]
@@ -76,6 +126,7 @@ fn texts_at_every_limit_come_up() {
             && (policy.users.len(), policy.objects.len()) == (32, 64)
             && policy.rules.len() == 8
             && policy.rules.iter().all(|rule| rule.words.len() == 32)
+            && policy.pairs.len() == MOST_PAIRS
     });
     assert!(full);
 }
@@ -179,6 +230,125 @@ fn tuples_are_the_pairs_granted() {
             assert_eq!(decide(&policy, action, us, os), Ok(listed));
         }
     }
+}
+
+/// Whether a pair grants, by asking the chains of seniority each time.
+fn meets(policy: &Policy, pair: &Pair, us: u32, os: u32) -> bool {
+    let user = (0..policy.user_values()).any(|v| {
+        holds(us, v) && (v == pair.user || is_senior(&policy.user_seniority, v, pair.user))
+    });
+    let object = (0..policy.object_values()).any(|w| {
+        holds(os, w) && (w == pair.object || is_senior(&policy.object_seniority, pair.object, w))
+    });
+    user && object
+}
+
+#[test]
+fn granted_is_by_the_formula_or_by_a_pair_of_the_action() {
+    // Granted by the formula alone, by pairs alone and by both, with a rule or not.
+    let mut ways = BTreeSet::new();
+    for (_, policy) in accepted(THOUSAND).filter(|(_, policy)| policy.user_values() < 5) {
+        let plain = Policy {
+            pairs: Vec::new(),
+            ..policy.clone()
+        };
+        let (rows, plain_rows) = (grants(&policy), grants(&plain));
+        for (us, os) in sets(&policy) {
+            for action in 0..ACTIONS {
+                let bit = |rows: &[Vec<u8>]| rows[us as usize][os as usize] >> action & 1 == 1;
+                let mut pairs = policy.pairs.iter().filter(|pair| pair.action == action);
+                let by_pair = pairs.any(|pair| meets(&policy, pair, us, os));
+                let by_formula = bit(&plain_rows);
+                assert_eq!(bit(&rows), by_formula || by_pair);
+                let ruled = policy.rules.iter().any(|rule| rule.action == action);
+                ways.insert((ruled, by_formula, by_pair));
+            }
+        }
+    }
+    let all = [
+        (0, 0, 0),
+        (0, 0, 1),
+        (1, 0, 0),
+        (1, 0, 1),
+        (1, 1, 0),
+        (1, 1, 1),
+    ];
+    assert!(ways
+        .into_iter()
+        .eq(all.map(|(r, f, p)| (r == 1, f == 1, p == 1))));
+}
+
+fn sets(policy: &Policy) -> Vec<(u32, u32)> {
+    let users = 0..policy.user_sets();
+    users
+        .flat_map(|us| (0..policy.object_sets()).map(move |os| (us, os)))
+        .collect()
+}
+
+/// A pair says no more than `uV,oW,a` does, joined to its action's formula.
+#[test]
+fn pairs_grant_what_formulas_of_them_would() {
+    let mut tried = 0;
+    for (_, policy) in accepted(400).filter(|(_, policy)| !policy.pairs.is_empty()) {
+        let text = String::from_utf8(write(&policy)).expect("a text");
+        let head = text
+            .lines()
+            .filter(|l| !l.starts_with("rule") && !l.starts_with("pair"));
+        let mut lines: Vec<String> = head.map(String::from).collect();
+        let end = lines.pop().expect("an end");
+        for action in 0..ACTIONS {
+            let prefix = format!("rule,{action},");
+            let rule = text.lines().find(|line| line.starts_with(&prefix));
+            let mut line = rule.map_or(format!("{prefix}f"), String::from);
+            for pair in policy.pairs.iter().filter(|pair| pair.action == action) {
+                line += &format!(",u{},o{},a,r", pair.user, pair.object);
+            }
+            lines.push(line);
+        }
+        lines.push(end + "\n");
+        // Refused where a formula has more than 32 words.
+        if let Ok(formulas) = read(lines.join("\n").as_bytes()) {
+            assert_eq!(compile(&policy), compile(&formulas));
+            tried += 1;
+        }
+    }
+    assert!(tried > 60, "{tried}");
+}
+
+/// A senior of a pair's user value is granted and a junior may be denied; of its
+/// object value it is the other way round.
+#[test]
+fn both_directions_of_seniority_come_up() {
+    let (mut users, mut objects) = (0, 0);
+    for (_, policy) in accepted(THOUSAND) {
+        for pair in &policy.pairs {
+            let granted = |user: u32, object: u32| {
+                decide(&policy, pair.action, 1 << user, 1 << object) == Ok(true)
+            };
+            for &(senior, junior) in &policy.user_seniority {
+                assert!(junior != pair.user || granted(senior, pair.object));
+                users += u32::from(senior == pair.user && !granted(junior, pair.object));
+            }
+            for &(senior, junior) in &policy.object_seniority {
+                assert!(senior != pair.object || granted(pair.user, junior));
+                objects += u32::from(junior == pair.object && !granted(pair.user, senior));
+            }
+        }
+    }
+    assert!(users > 100 && objects > 100, "{users} {objects}");
+}
+
+#[test]
+fn texts_with_pairs_of_every_number_come_up() {
+    let counts: BTreeSet<usize> = accepted(THOUSAND)
+        .map(|(_, policy)| policy.pairs.len())
+        .collect();
+    assert!([0, 1, 2, 3, 4, 5, 6, MOST_PAIRS]
+        .iter()
+        .all(|count| counts.contains(count)));
+    assert!(
+        accepted(THOUSAND).any(|(_, policy)| policy.rules.is_empty() && !policy.pairs.is_empty())
+    );
 }
 
 /// Holdings follow chains once and for all; this asks the chains each time.

@@ -68,7 +68,10 @@ fn a_buffer_of_64_kib_holds_each_file_and_all_are_small_together() {
 #[test]
 fn every_refusal_comes_up() {
     let refused = answers("R");
-    assert!(refused.iter().copied().eq(1..=10), "{refused:?}");
+    assert!(
+        refused.iter().copied().eq((1..=10).chain([21])),
+        "{refused:?}"
+    );
     let calls = call_answers();
     let all = [0, 1, 2].into_iter().chain(11..=20);
     assert!(calls.iter().copied().eq(all), "{calls:?}");
@@ -91,4 +94,24 @@ fn the_limits_come_up() {
     }
     let words = |line: &String| line.starts_with("rule,7,") && line.split(',').count() == 34;
     assert!(lines.iter().any(words));
+}
+
+#[test]
+fn pairs_come_up() {
+    let lines = lines();
+    let behind: Vec<&str> = lines
+        .iter()
+        .map(|line| line.split(',').next().unwrap_or_default())
+        .collect();
+    let most = [vec!["pair"; 64], vec!["end", "", "Y"]].concat();
+    assert!(behind.windows(most.len()).any(|found| found == most));
+    let alone = ["object", "pair", "end", "", "Y"];
+    assert!(behind.windows(alone.len()).any(|found| found == alone));
+    let accepted_behind = |kind| {
+        behind
+            .windows(4)
+            .filter(|found| *found == [kind, "end", "", "Y"])
+            .count()
+    };
+    assert!(accepted_behind("pair") > 20 && accepted_behind("rule") > 300);
 }

@@ -21,7 +21,6 @@ fn main() {
     println!("| --- | --- | ---: | ---: | ---: | ---: | ---: |");
     for size in SIZES {
         let sample = Sample::of(size);
-        let values = size.values;
         let engine = of_engine(&Archive, &sample).into_iter();
         let plain = by_reference(&sample).into_iter();
         let packed = of_engine(&Plain, &sample).into_iter();
@@ -30,7 +29,7 @@ fn main() {
             let [engine, plain, packed] = times.map(shown);
             let [ratio, packed_ratio] = [times[0] / times[1], times[0] / times[2]];
             println!(
-                "| {name} | {values} + {values} | {engine} | {plain} | {ratio:.2} | {packed} | {packed_ratio:.2} |"
+                "| {name} | {size} | {engine} | {plain} | {ratio:.2} | {packed} | {packed_ratio:.2} |"
             );
         }
     }

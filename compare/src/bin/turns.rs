@@ -15,9 +15,8 @@ fn main() {
     let samples = SIZES.map(Sample::of);
     let mut jobs = Vec::new();
     for sample in &samples {
-        let values = sample.size.values;
         for (name, job) in NAMES.iter().zip(of_engine(&Archive, sample)) {
-            println!("{name} | {values} + {values}");
+            println!("{name} | {}", sample.size);
             jobs.push(job);
         }
     }

@@ -3,7 +3,7 @@
 use super::known::Known;
 use super::lent::{length_for, Lent};
 use super::{same, Outcome, Trial, What};
-use crate::boundary::{Counted, PackedCounts, Separation, ALIKE, APART, MOST_LABELS};
+use crate::boundary::{Counted, PackedCounts, Separation, ALIKE, APART, GRANTED, MOST_LABELS};
 use crate::damage::{odd, odd_count};
 use reference::cases::{action, set};
 use reference::formula::{decide, Formulas};
@@ -27,13 +27,12 @@ impl Trial<'_> {
         (set(rng, sides.0, u32::MAX), set(rng, sides.1, u32::MAX))
     }
 
-    /// An action, mostly one that has a rule.
+    /// An action, mostly one that has a rule or a pair.
     fn some_action(&mut self, known: &Known) -> u32 {
-        match &known.policy {
-            Some(policy) if !policy.rules.is_empty() && self.rng.chance(3, 4) => {
-                policy.rules[self.rng.index(policy.rules.len())].action
-            }
-            _ => action(&mut self.rng, u32::MAX),
+        let actions = known.actions();
+        match !actions.is_empty() && self.rng.chance(3, 4) {
+            true => self.rng.pick(&actions),
+            false => action(&mut self.rng, u32::MAX),
         }
     }
 
@@ -46,6 +45,9 @@ impl Trial<'_> {
             None => 11,
             Some(policy) => decision(decide(policy, action, user, object)),
         };
+        if due == GRANTED && known.by_pair_alone(action, user, object) {
+            self.coverage.count_by_pairs("decide");
+        }
         let what = || format!("decide {action} {user} {object}: {}", known.shown());
         same(&what, &found, &due)
     }
@@ -66,6 +68,9 @@ impl Trial<'_> {
             Some(_) if tuples.len() > length => (20, &[][..]),
             Some(_) => (0, tuples),
         };
+        if refusal == 0 && known.some_pair_alone(|a| a == action) {
+            self.coverage.count_by_pairs("list");
+        }
         let count = stored.len();
         let what = || format!("list {action} into {length}: {}", known.shown());
         same(&what, &found, &Counted { refusal, count })?;
@@ -158,6 +163,9 @@ impl Trial<'_> {
                     users: labelling.user_count as u32,
                     objects: labelling.object_count as u32,
                 };
+                if known.some_pair_alone(|_| true) {
+                    self.coverage.count_by_pairs("compile");
+                }
                 same(&what, &found, &due)?;
                 users.starts_with(&what, &labelling.user_labels)?;
                 objects.starts_with(&what, &labelling.object_labels)?;
@@ -197,6 +205,9 @@ impl Trial<'_> {
                 Ok(Some(_)) => APART,
             },
         };
+        if due == APART && known.alike_without_pairs(one, other) {
+            self.coverage.count_by_pairs("apart");
+        }
         same(&what, &found.answer, &due)?;
         match &known.policy {
             Some(policy) if due == APART => separates(policy, one, other, found, &what),

@@ -3,11 +3,13 @@
 use std::collections::BTreeMap;
 use std::fmt::{self, Display};
 
-/// How often each answer was given: of reading, and of each kind of call.
+/// How often each answer was given, of reading and of each kind of call, and
+/// how often a kind of call gave what pairs alone grant.
 #[derive(Debug, Default, Clone, PartialEq, Eq)]
 pub struct Coverage {
     texts: BTreeMap<u32, u64>,
     calls: BTreeMap<&'static str, BTreeMap<u32, u64>>,
+    by_pairs: BTreeMap<&'static str, u64>,
 }
 
 impl Coverage {
@@ -18,6 +20,11 @@ impl Coverage {
     pub(super) fn count_call(&mut self, kind: &'static str, answer: u32) {
         let answers = self.calls.entry(kind).or_default();
         *answers.entry(answer).or_default() += 1;
+    }
+
+    /// Counts a call that would answer otherwise without the policy's pairs.
+    pub(super) fn count_by_pairs(&mut self, kind: &'static str) {
+        *self.by_pairs.entry(kind).or_default() += 1;
     }
 
     /// How many calls there were, readings not among them.
@@ -40,6 +47,11 @@ impl Coverage {
             .get(kind)
             .map_or(Vec::new(), |answers| answers.keys().copied().collect())
     }
+
+    /// The kinds of calls that gave what pairs alone grant.
+    pub fn by_pairs(&self) -> Vec<&'static str> {
+        self.by_pairs.keys().copied().collect()
+    }
 }
 
 impl Display for Coverage {
@@ -50,7 +62,11 @@ impl Display for Coverage {
         for (kind, answers) in &self.calls {
             write_counts(f, kind, answers)?;
         }
-        Ok(())
+        write!(f, "by pairs alone     ")?;
+        for (kind, count) in &self.by_pairs {
+            write!(f, "  {kind}: {count}")?;
+        }
+        writeln!(f)
     }
 }
 

@@ -2,7 +2,8 @@
 
 use crate::boundary::PackedPolicy;
 use crate::value::yielded;
-use reference::labels::{compile, Labelling};
+use reference::formula::Formulas;
+use reference::labels::{apart, compile, Labelling};
 use reference::policy::{Policy, ACTIONS};
 use reference::text::write;
 use reference::tuples::{tuples, Stored};
@@ -45,5 +46,42 @@ impl Known {
     pub fn tuples(&self, policy: &Policy, action: u32) -> &[Stored] {
         self.tuples[action as usize]
             .get_or_init(|| tuples(policy, action).expect("an action that there is"))
+    }
+    /// The actions that have a rule or a pair; one that has more stands as often.
+    pub fn actions(&self) -> Vec<u32> {
+        let policy = self.policy.iter();
+        policy
+            .flat_map(|policy| {
+                let rules = policy.rules.iter().map(|rule| rule.action);
+                rules.chain(policy.pairs.iter().map(|pair| pair.action))
+            })
+            .collect()
+    }
+
+    /// Whether an action is granted at two sets by a pair and not by its formula.
+    pub fn by_pair_alone(&self, action: u32, user: u32, object: u32) -> bool {
+        self.policy.as_ref().is_some_and(|policy| {
+            let formulas = Formulas::of(policy);
+            formulas.grants(action, user, object) && !formulas.is_true(action, user, object)
+        })
+    }
+
+    /// Whether some pair of these actions grants alone where nothing but its own two values is held.
+    pub fn some_pair_alone(&self, among: impl Fn(u32) -> bool) -> bool {
+        let pairs = self.policy.iter().flat_map(|policy| &policy.pairs);
+        pairs
+            .filter(|pair| among(pair.action))
+            .any(|pair| self.by_pair_alone(pair.action, 1 << pair.user, 1 << pair.object))
+    }
+
+    /// Whether two user sets are alike by the formulas.
+    pub fn alike_without_pairs(&self, one: u32, other: u32) -> bool {
+        self.policy.as_ref().is_some_and(|policy| {
+            let formulas = Policy {
+                pairs: Vec::new(),
+                ..policy.clone()
+            };
+            apart(&formulas, one, other) == Ok(None)
+        })
     }
 }

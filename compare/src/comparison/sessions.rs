@@ -97,6 +97,9 @@ impl Trial<'_> {
             let (after, answer) = step(policy, &map, &call);
             let what = || format!("{call:?} on {map:?}: {}", known.shown());
             same(&what, &found.answer, &number(answer))?;
+            if by_pair_alone(known, policy, &map, &call, answer) {
+                self.coverage.count_by_pairs("request");
+            }
             same(&what, &sessions(&found.board), &after)?;
             same(
                 &what,
@@ -137,7 +140,7 @@ impl Trial<'_> {
             board = damaged_board(&mut self.rng, policy, &board);
         }
         let buffers = self.some_buffers(known);
-        let call = call_on(&mut self.rng, policy, &board);
+        let call = call_on(&mut self.rng, known, policy, &board);
         let found = by_engine(self.engine, &board, known, &buffers.labels(), &call);
         self.coverage.count_call(kind(&call), found.answer);
         let what = || format!("{call:?} on {:?}: {}", sessions(&board), known.shown());
@@ -202,6 +205,27 @@ impl Trial<'_> {
             }
         }
         buffers
+    }
+}
+
+/// Whether a request was granted by a pair and not by the action's formula.
+fn by_pair_alone(
+    known: &Known,
+    policy: &Policy,
+    map: &Sessions,
+    call: &Call,
+    answer: Answer,
+) -> bool {
+    match *call {
+        Call::Request {
+            session,
+            action,
+            object,
+        } if answer == Answer::Granted => {
+            let object_set = policy.object_set(object).expect("a registered object");
+            known.by_pair_alone(action, map[&session].1, object_set)
+        }
+        _ => false,
     }
 }
 
@@ -289,7 +313,7 @@ fn board_after(before: &Board, call: &Call, answer: u32, after: &Sessions) -> Bo
 }
 
 /// A call that mostly names a session of the board and its user.
-fn call_on(rng: &mut Rng, policy: &Policy, board: &Board) -> Call {
+fn call_on(rng: &mut Rng, known: &Known, policy: &Policy, board: &Board) -> Call {
     let open = sessions(board);
     let numbers: Vec<u32> = open.keys().copied().collect();
     let session = match rng.below(10) {
@@ -321,11 +345,11 @@ fn call_on(rng: &mut Rng, policy: &Policy, board: &Board) -> Call {
         2..=3 => Call::Add { user, session, set },
         4 => Call::Drop { user, session, set },
         5 => Call::Close { user, session },
-        _ => request_on(rng, policy, session),
+        _ => request_on(rng, known, policy, session),
     }
 }
 
-fn request_on(rng: &mut Rng, policy: &Policy, session: u32) -> Call {
+fn request_on(rng: &mut Rng, known: &Known, policy: &Policy, session: u32) -> Call {
     let objects: Vec<u32> = policy.objects.iter().map(|object| object.0).collect();
     let object = match rng.below(10) {
         0 => odd(rng),
@@ -333,7 +357,7 @@ fn request_on(rng: &mut Rng, policy: &Policy, session: u32) -> Call {
         _ if objects.is_empty() => rng.below(OBJECT_NUMBERS as u32),
         _ => rng.pick(&objects),
     };
-    let actions: Vec<u32> = policy.rules.iter().map(|rule| rule.action).collect();
+    let actions = known.actions();
     let action = match rng.below(12) {
         0 => odd(rng),
         1..=3 => rng.below(ACTIONS),

@@ -1,7 +1,7 @@
 //! Checks 6 to 9 on what a line says, and check 11 on a policy value.
 
 use super::policy::{Policy, Refusal, Rule, Rules, Word, ACTIONS, OBJECTS, USERS, VALUES};
-use crate::boundary::{Direct, Entry, Register, SideValue};
+use crate::boundary::{Direct, Entry, Pair, Pairs, Register, SideValue};
 
 /// The sums and counts of one side that checks look at.
 #[derive(Clone, Copy)]
@@ -33,7 +33,7 @@ pub fn width_fits(sum: u32, width: u32) -> bool {
 }
 
 /// Both are values of one attribute, the senior above the junior.
-pub fn pair_fits(widths: &[u32], line: Direct) -> bool {
+pub fn line_fits(widths: &[u32], line: Direct) -> bool {
     let mut first = 0;
     for &width in widths {
         if line.senior < first + width {
@@ -102,6 +102,11 @@ pub fn rule_fits(
     Ok(())
 }
 
+/// An action, a user value and an object value that there are.
+pub fn pair_fits(user: Shape, object: Shape, pair: Pair) -> bool {
+    pair.action < ACTIONS && pair.user < user.values && pair.object < object.values
+}
+
 /// Check 11: whether reading some accepted text yields this value.
 pub fn valid(policy: &Policy) -> bool {
     if policy.form != 1 || !side_valid(&policy.user) || !side_valid(&policy.object) {
@@ -111,6 +116,7 @@ pub fn valid(policy: &Policy) -> bool {
     register_valid(&policy.users, USERS, user.sets())
         && register_valid(&policy.objects, OBJECTS, object.sets())
         && rules_valid(&policy.rules, user, object)
+        && pairs_valid(&policy.pairs, user, object)
 }
 
 fn side_valid(side: &SideValue) -> bool {
@@ -129,7 +135,7 @@ fn side_valid(side: &SideValue) -> bool {
     }
     !widths.is_empty()
         && no_widths.iter().all(|&width| width == 0)
-        && lines.iter().all(|&line| pair_fits(widths, line))
+        && lines.iter().all(|&line| line_fits(widths, line))
         && lines.windows(2).all(|two| above(two[0], two[1]))
         && no_lines.iter().all(|&line| line == Direct::default())
 }
@@ -162,6 +168,15 @@ fn rules_valid(rules: &Rules, user: Shape, object: Shape) -> bool {
         before = Some(rule.action);
     }
     rest.iter().all(|&rule| rule == Rule::default())
+}
+
+fn pairs_valid(pairs: &Pairs, user: Shape, object: Shape) -> bool {
+    let Some((entries, rest)) = pairs.entries.split_at_checked(pairs.count) else {
+        return false;
+    };
+    entries.iter().all(|&pair| pair_fits(user, object, pair))
+        && entries.windows(2).all(|two| two[0] < two[1])
+        && rest.iter().all(|&pair| pair == Pair::default())
 }
 
 /// One to 32 words, and the blank word behind them.

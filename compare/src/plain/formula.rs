@@ -1,6 +1,7 @@
-//! The truth of a formula at one pair of sets, and deciding by it.
+//! The truth of a formula at one pair of sets, and deciding by it and by pairs.
 
 use super::checks::{valid, Shape};
+use super::pairs::{meets, pairs_of};
 use super::policy::{Policy, Refusal, Word, ACTIONS};
 use crate::boundary::{SideValue, WIDTH_PLACES, WORD_PLACES};
 
@@ -125,7 +126,7 @@ pub fn lacking(policy: &Policy, user: u32, object: u32) -> bool {
     user >= Shape::of(&policy.user).sets() || object >= Shape::of(&policy.object).sets()
 }
 
-/// Decides by the formula on two sets.
+/// Decides by the formula and by pairs on two sets.
 pub fn decide(policy: &Policy, action: u32, user: u32, object: u32) -> Result<bool, Refusal> {
     if !valid(policy) {
         return Err(Refusal::InvalidState);
@@ -137,5 +138,7 @@ pub fn decide(policy: &Policy, action: u32, user: u32, object: u32) -> Result<bo
         return Err(Refusal::SetOutOfReach);
     }
     let (user, object) = (Held::by_user(policy, user), Held::by_object(policy, object));
-    Ok(Evaluator::of(policy).truth(formula(policy, action), user, object))
+    let mut pairs = pairs_of(policy, action).iter();
+    Ok(pairs.any(|pair| meets(pair, user, object))
+        || Evaluator::of(policy).truth(formula(policy, action), user, object))
 }

@@ -2,6 +2,7 @@
 
 use super::checks::{valid, Shape};
 use super::formula::{Evaluator, Held};
+use super::pairs::Rows;
 use super::policy::{Policy, Refusal, SETS};
 use super::tuples::object_sets;
 
@@ -57,17 +58,19 @@ pub fn compile(
 fn grid_of(policy: &Policy) -> Grid {
     let evaluator = Evaluator::of(policy);
     let objects = object_sets(policy);
+    let rows = Rows::of(policy, policy.pairs(), &objects);
     let mut grid = [[0; SETS]; SETS];
     for (set, row) in (0..Shape::of(&policy.user).sets()).zip(&mut grid) {
         let user = Held::by_user(policy, set);
+        *row = rows.granted(user);
         for (&object, entry) in objects.iter().zip(row) {
-            *entry = entry_of(policy, &evaluator, user, object);
+            *entry |= entry_of(policy, &evaluator, user, object);
         }
     }
     grid
 }
 
-/// Bit a is set exactly when action a is granted.
+/// Bit a is set exactly when the formula of action a is true.
 fn entry_of(policy: &Policy, evaluator: &Evaluator, user: Held, object: Held) -> u8 {
     let mut entry = 0;
     for rule in policy.rules() {
@@ -120,10 +123,14 @@ pub fn apart(policy: &Policy, one: u32, other: u32) -> Result<Option<(u32, u32)>
         return Err(Refusal::SetOutOfReach);
     }
     let evaluator = Evaluator::of(policy);
-    let (one, other) = (Held::by_user(policy, one), Held::by_user(policy, other));
-    for object in object_sets(policy) {
-        let unlike =
-            entry_of(policy, &evaluator, one, object) ^ entry_of(policy, &evaluator, other, object);
+    let objects = object_sets(policy);
+    let rows = Rows::of(policy, policy.pairs(), &objects);
+    let users = [one, other].map(|set| Held::by_user(policy, set));
+    let granted = users.map(|user| rows.granted(user));
+    for (k, &object) in objects.iter().enumerate() {
+        let [one, other] =
+            [0, 1].map(|i| granted[i][k] | entry_of(policy, &evaluator, users[i], object));
+        let unlike = one ^ other;
         if unlike != 0 {
             return Ok(Some((unlike.trailing_zeros(), object.set)));
         }

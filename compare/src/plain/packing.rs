@@ -16,6 +16,7 @@ pub fn unpacked(packed: &PackedPolicy) -> Policy {
         object: packed.object,
         users: packed.users,
         objects: packed.objects,
+        pairs: packed.pairs,
         ..Policy::default()
     };
     policy.rules.count = packed.rules.count;
@@ -59,6 +60,7 @@ fn packed(policy: &Policy) -> PackedPolicy {
         object: policy.object,
         users: policy.users,
         objects: policy.objects,
+        pairs: policy.pairs,
         ..PackedPolicy::default()
     };
     packed.rules.count = policy.rules.count;

@@ -1,6 +1,6 @@
 //! The policy value with its words as an enum, and the refusals.
 
-use crate::boundary::{self, Register, SideValue, RULE_PLACES, WORD_PLACES};
+use crate::boundary::{self, Pair, Pairs, Register, SideValue, RULE_PLACES, WORD_PLACES};
 
 /// The most bytes of a text.
 pub const TEXT_BYTES: usize = boundary::TEXT_BYTES;
@@ -47,12 +47,18 @@ pub struct Policy {
     pub users: Register,
     pub objects: Register,
     pub rules: Rules,
+    pub pairs: Pairs,
 }
 
 impl Policy {
     /// The rules in use; only of a policy that check 11 accepts.
     pub fn rules(&self) -> &[Rule] {
         &self.rules.entries[..self.rules.count]
+    }
+
+    /// The pairs in use; only of a policy that check 11 accepts.
+    pub fn pairs(&self) -> &[Pair] {
+        &self.pairs.entries[..self.pairs.count]
     }
 }
 
@@ -84,4 +90,5 @@ pub enum Refusal {
     SessionOfAnother,
     SetOutOfReach,
     BufferTooShort,
+    TooManyPairs,
 }

@@ -1,8 +1,8 @@
 //! Reading a policy text.
 
-use super::checks::{above, pair_fits, rule_fits, width_fits, Shape};
+use super::checks::{above, line_fits, pair_fits, rule_fits, width_fits, Shape};
 use super::policy::{Policy, Refusal, Rule, Word, OBJECTS, TEXT_BYTES, USERS};
-use crate::boundary::{Direct, Entry, Register, SideValue, WORD_PLACES};
+use crate::boundary::{Direct, Entry, Pair, Register, SideValue, WORD_PLACES};
 
 /// The reader's refusal and its line.
 #[derive(Debug, Clone, Copy, PartialEq, Eq)]
@@ -21,6 +21,7 @@ enum Kind {
     User,
     Object,
     Rule,
+    Pair,
     End,
 }
 
@@ -84,6 +85,7 @@ fn read_line(policy: &mut Policy, before: Option<Kind>, rest: &mut &[u8]) -> Res
             add_entry(&mut policy.objects, OBJECTS, sets, numbers(fields)?)?;
         }
         Kind::Rule => add_rule(policy, fields)?,
+        Kind::Pair => add_pair(policy, numbers(fields)?)?,
         Kind::End => {
             let [] = numbers(fields)?;
         }
@@ -101,6 +103,7 @@ fn kind_of(field: &[u8]) -> Option<Kind> {
         b"user" => Some(Kind::User),
         b"object" => Some(Kind::Object),
         b"rule" => Some(Kind::Rule),
+        b"pair" => Some(Kind::Pair),
         b"end" => Some(Kind::End),
         _ => None,
     }
@@ -175,7 +178,7 @@ fn add_width(side: &mut SideValue, [width]: [u32; 1]) -> Result<(), Refusal> {
 
 fn add_line(side: &mut SideValue, [senior, junior]: [u32; 2]) -> Result<(), Refusal> {
     let line = Direct { senior, junior };
-    if !pair_fits(Shape::of(side).widths, line) {
+    if !line_fits(Shape::of(side).widths, line) {
         return Err(Refusal::OutOfRange);
     }
     if side.lines > 0 && !above(side.seniority[side.lines - 1], line) {
@@ -225,5 +228,23 @@ fn add_rule<'a>(
     rule_fits(user, object, before, &rule)?;
     policy.rules.entries[policy.rules.count] = rule;
     policy.rules.count += 1;
+    Ok(())
+}
+
+fn add_pair(policy: &mut Policy, [action, user, object]: [u32; 3]) -> Result<(), Refusal> {
+    let pair = Pair {
+        action,
+        user,
+        object,
+    };
+    if !pair_fits(Shape::of(&policy.user), Shape::of(&policy.object), pair) {
+        return Err(Refusal::OutOfRange);
+    }
+    if policy.pairs().last().is_some_and(|&before| pair <= before) {
+        return Err(Refusal::NotRising);
+    }
+    let place = policy.pairs.entries.get_mut(policy.pairs.count);
+    *place.ok_or(Refusal::TooManyPairs)? = pair;
+    policy.pairs.count += 1;
     Ok(())
 }

@@ -29,6 +29,9 @@ fn text_of(policy: &Policy) -> Vec<u8> {
     for rule in policy.rules() {
         rule_line(&mut text, rule);
     }
+    for pair in policy.pairs() {
+        line(&mut text, b"pair", &[pair.action, pair.user, pair.object]);
+    }
     line(&mut text, b"end", &[]);
     text
 }

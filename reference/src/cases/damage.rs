@@ -16,10 +16,14 @@ pub fn damaged(rng: &mut Rng, mut draft: Draft, damage: usize) -> Vec<u8> {
     if let Some(change) = damage.checked_sub(LINE_DAMAGES.len()) {
         BYTE_DAMAGES[change](rng, &mut text);
     }
-    if rng.chance(1, 4) {
-        rng.pick(&BYTE_DAMAGES[..5])(rng, &mut text);
-    }
+    sometimes_a_byte_more(rng, &mut text);
     text
+}
+
+pub fn sometimes_a_byte_more(rng: &mut Rng, text: &mut Vec<u8>) {
+    if rng.chance(1, 4) {
+        rng.pick(&BYTE_DAMAGES[..5])(rng, text);
+    }
 }
 
 /// How many sorts of damage there are.
@@ -156,7 +160,7 @@ fn beyond_pairs(kind: &str, widths: &[u32]) -> Vec<String> {
 }
 
 /// Puts a line after the last of its kind, or in place of one.
-fn place(rng: &mut Rng, draft: &mut Draft, line: String) {
+pub fn place(rng: &mut Rng, draft: &mut Draft, line: String) {
     let rank = rank(&line);
     let same: Vec<usize> = (0..draft.lines.len())
         .filter(|&i| self::rank(&draft.lines[i]) == rank)
@@ -175,11 +179,17 @@ fn place(rng: &mut Rng, draft: &mut Draft, line: String) {
 
 fn rank(line: &str) -> Option<usize> {
     let order = [
-        "policy", "uattr", "oattr", "usen", "osen", "user", "object", "rule", "end",
+        "policy", "uattr", "oattr", "usen", "osen", "user", "object", "rule", "pair", "end",
     ];
     let first = line.split(',').next();
     order.iter().position(|&word| Some(word) == first)
 }
+
+/// What is no number and no word, but for the last, which is a number too large.
+pub const MISSHAPEN: [&str; 23] = [
+    "", "00", "01", "007", "100000", "-1", "+1", " 1", "1 ", "1\r", "x", "u", "u00", "o", "d0",
+    "d000", "q", "q0o", "tt", "T", "n0", "1a", "99999",
+];
 
 /// A field after the first that is no number and no word.
 fn misshape_field(rng: &mut Rng, draft: &mut Draft) {
@@ -187,10 +197,7 @@ fn misshape_field(rng: &mut Rng, draft: &mut Draft) {
     let mut fields: Vec<&str> = draft.lines[line].split(',').collect();
     if fields.len() > 1 {
         let place = 1 + rng.index(fields.len() - 1);
-        fields[place] = rng.pick(&[
-            "", "00", "01", "007", "100000", "-1", "+1", " 1", "1 ", "1\r", "x", "u", "u00", "o",
-            "d0", "d000", "q", "q0o", "tt", "T", "n0", "1a", "99999",
-        ]);
+        fields[place] = rng.pick(&MISSHAPEN);
     }
     draft.lines[line] = fields.join(",");
 }
@@ -229,12 +236,12 @@ fn unbalance(rng: &mut Rng, draft: &mut Draft) {
 
 /// The line of the last rule, made if there is none.
 fn last_rule(draft: &mut Draft) -> usize {
-    let end = draft.lines.len() - 1;
-    if draft.lines[end - 1].starts_with("rule") {
-        return end - 1;
+    if let Some(&last) = draft.places("rule").last() {
+        return last;
     }
-    draft.lines.insert(end, "rule,7,t,f,r".to_string());
-    end
+    let behind = draft.lines.len() - 1 - draft.places("pair").len();
+    draft.lines.insert(behind, "rule,7,t,f,r".to_string());
+    behind
 }
 
 fn compare_unequal(rng: &mut Rng, draft: &mut Draft) {

@@ -13,6 +13,11 @@ impl Rng {
         Rng((mixed ^ (mixed >> 31)).max(1))
     }
 
+    /// A stream that begins by where this one is, and does not move it.
+    pub fn branch(&self) -> Self {
+        Rng::new(self.0, 0)
+    }
+
     fn next(&mut self) -> u64 {
         self.0 ^= self.0 << 13;
         self.0 ^= self.0 >> 7;

@@ -22,6 +22,11 @@ pub const SMALL: Size = Size {
     words: 8,
     full: false,
 };
+/// Three values on each side, so that there are more pairs than a text may have.
+pub const THREES: Size = Size {
+    full: true,
+    ..SMALL
+};
 pub const MIDDLE: Size = Size {
     values: 7,
     users: 32,
@@ -67,9 +72,17 @@ impl Draft {
             .flat_map(|line| format!("{line}\n").into_bytes())
             .collect()
     }
+
+    /// The places of the lines of a kind.
+    pub fn places(&self, kind: &str) -> Vec<usize> {
+        let of_kind = |line: &str| line.split(',').next() == Some(kind);
+        (0..self.lines.len())
+            .filter(|&place| of_kind(&self.lines[place]))
+            .collect()
+    }
 }
 
-/// A valid text.
+/// A valid text, without pairs.
 pub fn valid(rng: &mut Rng, size: Size) -> Draft {
     let user_widths = widths(rng, size);
     let mut object_widths = widths(rng, size);
@@ -148,7 +161,7 @@ fn seniority(rng: &mut Rng, kind: &str, widths: &[u32]) -> Vec<String> {
 }
 
 /// Different numbers below `limit`, rising.
-fn rising(rng: &mut Rng, limit: u32, count: u32) -> Vec<u32> {
+pub fn rising(rng: &mut Rng, limit: u32, count: u32) -> Vec<u32> {
     let mut numbers: Vec<u32> = (0..limit).collect();
     while numbers.len() > count as usize {
         numbers.remove(rng.index(numbers.len()));

@@ -1,0 +1,67 @@
+//! What pairs grant: at one pair of sets, and to one user set at all object sets at once.
+
+use super::checks::Shape;
+use super::formula::Held;
+use super::policy::{Policy, SETS, VALUES};
+use crate::boundary::Pair;
+
+/// The pairs of an action. Pairs rise by their action first, so these stand together.
+pub fn pairs_of(policy: &Policy, action: u32) -> &[Pair] {
+    let pairs = policy.pairs();
+    let start = pairs.partition_point(|pair| pair.action < action);
+    let count = pairs[start..].partition_point(|pair| pair.action == action);
+    &pairs[start..start + count]
+}
+
+/// Whether the sets hold both values of a pair, seniors and juniors taken in.
+pub fn meets(pair: &Pair, user: Held, object: Held) -> bool {
+    user.closed >> pair.user & object.closed >> pair.object & 1 == 1
+}
+
+/// A byte for each object set, bit a for action a.
+pub type Row = [u8; SETS];
+
+/// Pairs, and for each object value the object sets that hold it or a junior of it.
+pub struct Rows<'a> {
+    pairs: &'a [Pair],
+    /// All bits of a byte are set where the object set does. None where there is no pair.
+    holders: Vec<Row>,
+}
+
+impl<'a> Rows<'a> {
+    /// Of some pairs of a valid policy and of all its object sets.
+    pub fn of(policy: &Policy, pairs: &'a [Pair], objects: &[Held]) -> Self {
+        let mut holders = Vec::new();
+        if !pairs.is_empty() {
+            let values = Shape::of(&policy.object).values;
+            holders.extend((0..values).map(|value| holding(value, objects)));
+        }
+        Rows { pairs, holders }
+    }
+
+    /// The actions that pairs grant to a user set, at each object set.
+    pub fn granted(&self, user: Held) -> Row {
+        let mut actions = [0; VALUES];
+        for pair in self.pairs {
+            let held = (user.closed >> pair.user & 1) as u8;
+            actions[pair.object as usize] |= held << pair.action;
+        }
+        let mut row = [0; SETS];
+        for (holder, actions) in self.holders.iter().zip(actions) {
+            for (entry, holds) in row.iter_mut().zip(holder) {
+                *entry |= holds & actions;
+            }
+        }
+        row
+    }
+}
+
+fn holding(value: u32, objects: &[Held]) -> Row {
+    let mut row = [0; SETS];
+    for (holds, object) in row.iter_mut().zip(objects) {
+        if object.closed >> value & 1 == 1 {
+            *holds = u8::MAX;
+        }
+    }
+    row
+}
