@@ -1,4 +1,4 @@
--- A call that goes by the lowest broken check of a list gives its result where no condition holds, and else one refusal
+-- A call that goes by the first broken check of a list gives its result where no condition holds, and else one refusal
 -- whose condition holds and before which none does.
 use Prim.Native.Nat.{ℕ}
 use mathlib.Core.Path.{_≡_, refl}
@@ -25,7 +25,7 @@ unmet (c ∷ cs) e = go (c .broken) (unmet cs) e
 -- a check in front of those among which one is met
 later : (m n : ℕ) (cs : List Check) → Met cs n → Met (check m false ∷ cs) n
 unfolding all
-later m n cs w = record { before = check m false ∷ w .before; behind = w .behind; listed = rw (w .listed); lower = w .lower }
+later m n cs w = record { before = check m false ∷ w .before; behind = w .behind; listed = rw (w .listed); earlier = w .earlier }
 
 pub met : (cs : List Check) (n : ℕ) → firstBroken cs ≡ some n → Met cs n
 unfolding firstBroken all
@@ -33,7 +33,7 @@ met [] n e = let z : _≡_ {A = ℕ} 0 1 = cc in absurd (omega arith)
 met (c ∷ cs) n e = go (c .number) (c .broken) (met cs n) e
   where
     go : (m : ℕ) (b : Bool) → (firstBroken cs ≡ some n → Met cs n) → cond b (some m) (firstBroken cs) ≡ some n → Met (check m b ∷ cs) n
-    go m true h f = let q : m ≡ n = cc in record { before = []; behind = cs; listed = rw q; lower = refl }
+    go m true h f = let q : m ≡ n = cc in record { before = []; behind = cs; listed = rw q; earlier = refl }
     go m false h f = later m n cs (h f)
 
 -- what holds of every check of a list holds of the one that is met

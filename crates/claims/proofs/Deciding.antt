@@ -1,10 +1,10 @@
--- Deciding by a formula and deciding by a listing, for the value of an accepted text and sets of its sides: neither is
--- refused, the one says what the formula says, and the other whether the pair stands in the listing.
+-- Deciding by the policy and deciding by a listing, for the value of an accepted text and sets of its sides: neither is
+-- refused, the one says what the formula and the pairs say, and the other whether the pair of sets stands in the listing.
 use Prim.Native.Nat.{ℕ, zero, suc, _/_, _%_, _≤_, _<_}
 use mathlib.Core.Path.{_≡_, refl, sym, ap, ap₂, _∙_}
-use mathlib.Core.Bool.{Bool, true, false, false≢true, _||_}
+use mathlib.Core.Bool.{Bool, true, false, false≢true, _&&_, _||_}
 use mathlib.Core.List.{List, [], _∷_}
-use mathlib.Core.Logic.{_↔_, _⊎_, inl, inr, Iff·trans}
+use mathlib.Core.Logic.{_↔_, _⊎_, inl, inr, ⊎-elim, Iff·trans}
 use mathlib.Core.Option.{Option, none, some}
 use native.Mathlib.Omega.{arith}
 use borrow.Author.Tests.{eqb-true, eq-eqb, le-ltb, lt-leb}
@@ -13,7 +13,8 @@ use lib.Dec.{eqb}
 use lib.ListN.{length, getD, take}
 use Rattle.basis.specs.Choice.{given, firstBroken}
 use Rattle.basis.specs.Lists.{any}
-use Rattle.basis.proofs.Lists.{any-of}
+use Rattle.basis.proofs.Bools.{and-left, and-right, or-cases, or-left, or-right}
+use Rattle.basis.proofs.Lists.{any-at, any-of}
 use Rattle.basis.proofs.Places.{taken-in}
 use Rattle.words.specs.declared.Word.{Word}
 use Rattle.policy.specs.Limits.{actions}
@@ -23,10 +24,11 @@ use Rattle.policy.specs.Value.{valueOf}
 use Rattle.policy.specs.Answers.{granted, denied, decided}
 use Rattle.policy.proofs.Values.{policy-value}
 use Rattle.policy.proofs.Valid.{yielded-valid}
-use Rattle.formula.specs.Truth.{Sets, at, truth, grants}
+use Rattle.words.specs.declared.Holding.the-variants.{User}
+use Rattle.formula.specs.Truth.{Sets, at, holds, truth, formulaTrue, pairHolds, pairTrue, grants}
 use Rattle.formula.specs.Decide.{decide}
 use Rattle.tuples.specs.Tuples.{stored, decideByTuples}
-use Rattle.claims.specs.Demand2.{OfSides, FormulaTrue, Decides, Among, EqualSets}
+use Rattle.claims.specs.Demand2.{OfSides, FormulaTrue, PairTrue, Decides, Among, EqualSets}
 
 granted-iff : (b : Bool) → (decided b ≡ granted) ↔ (b ≡ true)
 granted-iff true = (λ e. refl, λ e. refl)
@@ -49,9 +51,33 @@ module _ (p : Policy) (a : ℕ) (s : Sets) where
     (λ w. let f : some ws ≡ some (w .words) = sym q ∙ w .formula in let g : ws ≡ w .words = cc in rw g (w .holds)),
   )
 
-  formula-iff : (grants p a s ≡ true) ↔ FormulaTrue p a s
-  unfolding grants
+  formula-iff : (formulaTrue p a s ≡ true) ↔ FormulaTrue p a s
+  unfolding formulaTrue
   formula-iff = in-formula (formulaIn (p .rules) a) refl
+
+  -- its pairs
+
+  pair-found : pairTrue p a s ≡ true → PairTrue p a s
+  unfolding pairTrue
+  pair-found e =
+      let w = any-at (λ x. eqb (x .action) a && pairHolds p s x) (p .pairs) e in let x = w .0 in
+      let h = and-right (eqb (x .action) a) (pairHolds p s x) (w .2) in
+      record { pair = x; line = w .1; action = eqb-true (x .action) a (and-left _ _ (w .2)); user = and-left _ _ h; object = and-right (holds p s (User (x .user))) _ h }
+
+  pair-holds : PairTrue p a s → pairTrue p a s ≡ true
+  unfolding pairTrue
+  pair-holds w =
+      any-of (λ x. eqb (x .action) a && pairHolds p s x) (p .pairs) (w .pair) (w .line)
+      (rw (eq-eqb (w .pair .action) a (w .action), w .user, w .object))
+
+  -- either
+
+  either-iff : (grants p a s ≡ true) ↔ (FormulaTrue p a s ⊎ PairTrue p a s)
+  unfolding grants
+  either-iff = (
+    (λ e. ⊎-elim (λ h. inl (formula-iff .0 h)) (λ h. inr (pair-found h)) (or-cases (formulaTrue p a s) (pairTrue p a s) e)),
+    (λ w. ⊎-elim (λ h. or-left (formulaTrue p a s) (pairTrue p a s) (formula-iff .1 h)) (λ h. or-right (formulaTrue p a s) (pairTrue p a s) (pair-holds h)) w),
+  )
 
 -- ---- a number among the first entries of a listing
 
@@ -80,17 +106,17 @@ among-iff listing n x h = (
 -- ---- an accepted text
 
 module _ (t : List ℕ) (p : Policy) (e : readText t ≡ Accepted p) where
-  pub by-formula : (a : ℕ) → a < actions (p .form) → (s : Sets) → s .user < sets (p .user) → s .object < sets (p .object)
+  pub by-policy : (a : ℕ) → a < actions (p .form) → (s : Sets) → s .user < sets (p .user) → s .object < sets (p .object)
       → decide (valueOf p) a s ≡ decided (grants p a s)
   unfolding decide firstBroken
-  by-formula a ha s hu ho =
+  by-policy a ha s hu ho =
       rw (policy-value p, yielded-valid t p e, lt-leb (actions (p .form)) a ha, lt-leb (sets (p .user)) (s .user) hu, lt-leb (sets (p .object)) (s .object) ho)
 
   pub decides : (a : ℕ) (s : Sets) → a < actions (p .form) → OfSides p s → Decides p a s
   decides a s ha h =
       record {
-        by-formula = rw (by-formula a ha s (h .0) (h .1)) (Iff·trans (granted-iff (grants p a s)) (formula-iff p a s));
-        else-denied = rw (by-formula a ha s (h .0) (h .1)) (either (grants p a s));
+        by-either = rw (by-policy a ha s (h .0) (h .1)) (Iff·trans (granted-iff (grants p a s)) (either-iff p a s));
+        else-denied = rw (by-policy a ha s (h .0) (h .1)) (either (grants p a s));
       }
 
   by-listing : (s : Sets) → OfSides p s → (listing : List ℕ) (n : ℕ) → n ≤ length listing

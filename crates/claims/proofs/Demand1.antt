@@ -1,4 +1,4 @@
--- Demand 1, call by call: each goes by the lowest broken check of its list.
+-- Demand 1, call by call: each goes by the first broken check of its list.
 use Prim.Native.Nat.{ℕ}
 use mathlib.Core.Path.{_≡_, refl, ap}
 use mathlib.Core.List.{[], _∷_, map}
@@ -8,7 +8,7 @@ use Rattle.policy.specs.Write.{write, writeBuffer, writeChecks}
 use Rattle.policy.specs.Answers.{numberOf, valueIn}
 use Rattle.policy.specs.declared.value.PolicyValue.{PolicyValue}
 use Rattle.policy.proofs.Valid.{blank-refused}
-use Rattle.formula.specs.Decide as byFormula
+use Rattle.formula.specs.Decide as byPolicy
 use Rattle.tuples.specs.Tuples as byTuples
 use Rattle.labels.specs.Compile.{compile, compileBuffers, compileChecks}
 use Rattle.labels.specs.Apart.{Tells, apartChecks}
@@ -51,14 +51,14 @@ session-numbers v l (requests s a n) b = refl
 -- ---- all calls
 
 calls : (v : PolicyValue) → Calls v
-unfolding write writeBuffer byFormula.decide byTuples.list byTuples.listBuffer byTuples.decideByTuples compile compileBuffers boardStep answerCount answerBuffer boardAfterRun
+unfolding write writeBuffer byPolicy.decide byTuples.list byTuples.listBuffer byTuples.decideByTuples compile compileBuffers boardStep answerCount answerBuffer boardAfterRun
 calls v =
     record {
       write = λ buffer.
           answers _ (writeChecks v buffer) refl
           (λ e. (none-given _ _ _ e, none-given _ _ _ e))
           (λ n e. (some-given _ _ _ n e, some-given _ _ _ n e));
-      decide = λ a s. answers _ (byFormula.decideChecks v a s) refl (none-given _ _ _) (some-given _ _ _);
+      decide = λ a s. answers _ (byPolicy.decideChecks v a s) refl (none-given _ _ _) (some-given _ _ _);
       list = λ a buffer.
           answers _ (byTuples.listChecks v a buffer) refl
           (λ e. (none-given _ _ _ e, none-given _ _ _ e))

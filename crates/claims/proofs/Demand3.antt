@@ -25,7 +25,7 @@ use Rattle.labels.proofs.Compiling.{compiled-grants, compiled-users, compiled-o
 use Rattle.board.specs.Machine.{Call, machine, run, step, empty}
 use Rattle.board.proofs.Agreement.{ObjectsFit, Serves, replies-agree, sessions-agree}
 use Rattle.claims.specs.Demand3.{Tuples, Compiled, Sessions, withCounts, Claim}
-use Rattle.claims.proofs.Deciding.{by-formula}
+use Rattle.claims.proofs.Deciding.{by-policy}
 use Rattle.claims.proofs.Serving.{inside, decides}
 
 module _ (t : List ℕ) (p : Policy) (e : readText t ≡ Accepted p) where
@@ -50,7 +50,7 @@ module _ (t : List ℕ) (p : Policy) (e : readText t ≡ Accepted p) where
         listed = is-listed a ha;
         stored-are = is-stored a ha;
         decides = λ buffer room u o hu ho.
-            listed-decides (valueOf p) a (at u o) buffer (length (tuples p a)) (is-listed a ha buffer room) ∙ by-formula t p e a ha (at u o) hu ho;
+            listed-decides (valueOf p) a (at u o) buffer (length (tuples p a)) (is-listed a ha buffer room) ∙ by-policy t p e a ha (at u o) hu ho;
       }
 
   -- ---- labels

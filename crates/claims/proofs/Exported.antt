@@ -4,7 +4,7 @@ use Prim.Native.Nat.{ℕ, _≤_}
 use mathlib.Core.Path.{_≡_, refl, ap, ap₂, _∙_}
 use mathlib.Core.Bool.{Bool, true, false}
 use mathlib.Core.List.{List, [], _∷_, map}
-use mathlib.Core.Logic.{inl, inr}
+use mathlib.Core.Logic.{inl, inr, ⊎-elim}
 use mathlib.Core.Option.{Option, none, some}
 use native.Mathlib.Omega.{arith}
 use borrow.Author.Tests.{leb-true, ne-eqb}
@@ -35,7 +35,7 @@ use Rattle.embed.specs.Answers.{counted, packedCounts, separation}
 use Rattle.claims.specs.Demand1.{ApartResult, ApartRefuses}
 use Rattle.claims.specs.Demand3.{withCounts}
 use Rattle.claims.specs.Reading.{Because}
-use Rattle.claims.specs.Exported.{card, Read, Separated, Calls, Demand1, countsOf, handed, called, morning, replyIn, Demand3}
+use Rattle.claims.specs.Exported.{OfReading, card, Read, Separated, Calls, Demand1, countsOf, handed, called, morning, replyIn, Demand3}
 use Rattle.claims.proofs.Answers.{met, met-all, through}
 use Rattle.claims.proofs.Reading.{because}
 use Rattle.claims.proofs.Demand1.{demand1}
@@ -44,14 +44,18 @@ use Rattle.claims.proofs.Demand3.{demand3}
 
 -- ---- reading
 
--- refusals of reading are 1 to 10
-number-of : (t : List ℕ) (n line : ℕ) → Because t (Refused n line) → (1 ≤ n) × (n ≤ 10)
-number-of t n line (inl w) = (omega (arith, w .number), omega (arith, w .number))
-number-of t n line (inr (inl w)) = (omega (arith, w .number .0), omega (arith, w .number .1))
-number-of t n line (inr (inr w)) = (omega (arith, w .number), omega (arith, w .number))
+-- refusals of reading are 1 to 10 and 21
+number-of : (t : List ℕ) (n line : ℕ) → Because t (Refused n line) → OfReading n
+number-of t n line (inl w) = inl (omega (arith, w .number), omega (arith, w .number))
+number-of t n line (inr (inl w)) = ⊎-elim (λ h. inl (omega (arith, h .0), omega (arith, h .1))) inr (w .number)
+number-of t n line (inr (inr w)) = inl (omega (arith, w .number), omega (arith, w .number))
+
+-- none of them is 0
+not-zero : (n : ℕ) → OfReading n → n ≡ 0 → ⊥
+not-zero n w e = ⊎-elim (λ h. omega (arith, h .0, e)) (λ h. omega (arith, h, e)) w
 
 module _ (t : List ℕ) where
-  refused-number : (n line : ℕ) → readText t ≡ Refused n line → (1 ≤ n) × (n ≤ 10)
+  refused-number : (n line : ℕ) → readText t ≡ Refused n line → OfReading n
   refused-number n line e = number-of t n line (rw e at (because t))
 
   value-is : (p : Policy) → readText t ≡ Accepted p → unpackedPolicy (card t .policy) ≡ valueOf p
@@ -63,14 +67,14 @@ module _ (t : List ℕ) where
     where
       go : (o : Outcome) → readText t ≡ o → card t .refusal ≡ 0 → (p : Policy) × (readText t ≡ Accepted p)
       go (Accepted p) e h = (p, e)
-      go (Refused n line) e h = let b = refused-number n line e in let z : n ≡ 0 = rw e at h in absurd (omega arith)
+      go (Refused n line) e h = absurd (not-zero n (refused-number n line e) (rw e at h))
 
   read : Read t
   read =
       record {
         accepted = (accepted, λ w. rw (w .1));
         value = value-is;
-        refusal = λ n line e. (rw e, rw e, refused-number n line e .0, refused-number n line e .1);
+        refusal = λ n line e. (rw e, rw e, refused-number n line e);
         no-policy = λ n line e. rw (read-unpacked t) (demand1 .no-policy t n line e);
       }
 

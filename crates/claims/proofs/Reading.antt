@@ -1,17 +1,17 @@
 -- Why a text is accepted or refused, by induction over its lines.
 use Prim.Native.Nat.{ℕ, suc, _+_, _≤_}
 use mathlib.Core.Path.{_≡_, refl}
-use mathlib.Core.Bool.{Bool, true, false, cond, _&&_}
+use mathlib.Core.Bool.{Bool, true, false, cond, _&&_, _||_}
 use mathlib.Core.List.{List, [], _∷_, _++_}
-use mathlib.Core.Logic.{_⊎_, inl, inr}
+use mathlib.Core.Logic.{_⊎_, inl, inr, ⊎-elim}
 use mathlib.Core.Option.{Option, none, some}
 use native.Mathlib.Omega.{arith}
-use borrow.Author.Tests.{ltb-true, ltb-false, leb-true}
-use lib.Dec.{leb, ltb}
+use borrow.Author.Tests.{ltb-true, ltb-false, leb-true, eqb-true}
+use lib.Dec.{eqb, leb, ltb}
 use lib.ListN.{length}
 use Rattle.basis.specs.Choice.{given, Check, firstBroken}
 use Rattle.basis.specs.Lists.{all}
-use Rattle.basis.proofs.Bools.{and-left, and-right}
+use Rattle.basis.proofs.Bools.{and-left, and-right, or-cases}
 use Rattle.text.specs.Parts.{TextLine, lines}
 use Rattle.text.specs.declared.kind.Kind.{Kind}
 use Rattle.text.specs.declared.kind.Named.{Named}
@@ -27,17 +27,17 @@ use Rattle.claims.proofs.Answers.{met, met-all}
 
 -- the numbers of a line's checks
 abbrev ofLine : Check → Bool
-ofLine c = leb 2 (c .number) && leb (c .number) 9
+ofLine c = (leb 2 (c .number) && leb (c .number) 9) || eqb (c .number) 21
 
 numbers : (before : Option Kind) (p : Policy) (ended : Bool) (k : Named) (fs : List (List ℕ)) → all ofLine (checksFor before p ended k fs) ≡ true
 unfolding all checksFor checksOf
 numbers before p ended Unknown fs = refl
 numbers before p ended (Is k) fs = refl
 
-line-number : (s : State) (l : TextLine) (n : ℕ) → Met (lineChecks s l) n → (2 ≤ n) × (n ≤ 9)
+line-number : (s : State) (l : TextLine) (n : ℕ) → Met (lineChecks s l) n → ((2 ≤ n) × (n ≤ 9)) ⊎ (n ≡ 21)
 line-number s l n w =
-    let h = met-all ofLine (lineChecks s l) n (numbers _ _ _ (kindOf (l .bytes)) _) w in
-    (leb-true 2 n (and-left _ _ h), leb-true n 9 (and-right (leb 2 n) _ h))
+    ⊎-elim (λ h. inl (leb-true 2 n (and-left _ _ h), leb-true n 9 (and-right (leb 2 n) _ h))) (λ h. inr (eqb-true n 21 h))
+    (or-cases (leb 2 n && leb n 9) (eqb n 21) (met-all ofLine (lineChecks s l) n (numbers _ _ _ (kindOf (l .bytes)) _) w))
 
 -- ---- the lines from a state on, of which the first is line m
 
@@ -48,7 +48,7 @@ record FaultyFrom (s : State) (m : ℕ) (ls : List TextLine) (n line : ℕ) : Ty
   parted : ls ≡ before ++ (at ∷ behind)
   place : m + length before ≡ line
   sound : passes s before ≡ true
-  firstBroken : Met (lineChecks (afterLines s before) at) n
+  met : Met (lineChecks (afterLines s before) at) n
 
 record EndlessFrom (s : State) (m : ℕ) (ls : List TextLine) (n line : ℕ) : Type 0 where
   number : n ≡ 10
@@ -107,7 +107,7 @@ from (l ∷ ls) s m = go (lineRefusal s l) refl (from ls (lineAfter s l) (suc m)
           parted = refl;
           place = omega arith;
           sound = refl;
-          firstBroken = met (lineChecks s l) n e;
+          met = met (lineChecks s l) n e;
         })
 
 -- ---- a text

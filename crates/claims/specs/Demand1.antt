@@ -18,7 +18,7 @@ use Rattle.policy.specs.Write.{write, writeBuffer, writeChecks}
 use Rattle.policy.specs.Answers.{numberOf, refused, decided, valueIn}
 use Rattle.policy.specs.declared.value.PolicyValue.{PolicyValue}
 use Rattle.formula.specs.Truth.{Sets, grants}
-use Rattle.formula.specs.Decide as byFormula
+use Rattle.formula.specs.Decide as byPolicy
 use Rattle.tuples.specs.Tuples as byTuples
 use Rattle.labels.specs.Compile.{likeUsers, counts, Buffers, filled, compile, compileBuffers, compileChecks}
 use Rattle.labels.specs.Apart.{Separates, apartChecks, Tells}
@@ -58,9 +58,9 @@ pub record Calls (v : PolicyValue) : Type 0 where
       ((write v buffer ≡ gives (length (textOf (policyOf v)))) × (writeBuffer v buffer ≡ over (textOf (policyOf v)) buffer))
       (λ n. (write v buffer ≡ refuses n) × (writeBuffer v buffer ≡ buffer))
   pub decide : (a : ℕ) (s : Sets)
-      → Answers (11 ∷ 12 ∷ 19 ∷ []) (byFormula.decideChecks v a s)
-      (byFormula.decide v a s ≡ decided (grants (policyOf v) a s))
-      (λ n. byFormula.decide v a s ≡ refused n)
+      → Answers (11 ∷ 12 ∷ 19 ∷ []) (byPolicy.decideChecks v a s)
+      (byPolicy.decide v a s ≡ decided (grants (policyOf v) a s))
+      (λ n. byPolicy.decide v a s ≡ refused n)
   pub list : (a : ℕ) (buffer : List ℕ)
       → Answers (11 ∷ 12 ∷ 20 ∷ []) (byTuples.listChecks v a buffer)
       ((byTuples.list v a buffer ≡ gives (length (byTuples.tuples (policyOf v) a)))
@@ -88,7 +88,7 @@ pub record Calls (v : PolicyValue) : Type 0 where
       (λ n. (answerCount numbers buffer ≡ refuses n) × (answerBuffer v l numbers buffer ≡ buffer) × (boardAfterRun v l numbers buffer ≡ fresh))
 
 pub record Demand1 : Type 0 where
-  -- reading is refused by 1 to 10, with the line
+  -- reading is refused by 1 to 10 and 21, with the line
   pub read : (t : List ℕ) → Because t (readText t)
   -- "A refused read yields no policy": check 11 refuses the value that stands beside a refusal
   pub no-policy : (t : List ℕ) (n line : ℕ) → readText t ≡ Refused n line → valid (valueIn (readText t)) ≡ false

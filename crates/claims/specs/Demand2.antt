@@ -1,16 +1,18 @@
 -- Demand 2: "a policy means what the corrected Biswas–Sandhu–Krishnan model says: formulas decide by the sets held, a
 -- tuple grants only on equal sets, alike sets are those no formula parts, sessions hold what the LaBAC rules allow.
--- Writing and reading back gives the same policy; an accepted text is written back unchanged."
+-- Writing and reading back gives the same policy; an accepted text is written back unchanged." By document 02 pairs decide
+-- and part sets as formulas do.
 use Prim.Native.Nat.{ℕ, _≤_, _<_}
 use mathlib.Core.Path.{_≡_}
 use mathlib.Core.Bool.{true}
-use mathlib.Core.List.{List}
+use mathlib.Core.List.{List, List·Memᴰ}
 use mathlib.Core.Logic.{_↔_, _⊎_}
 use mathlib.Core.Option.{some}
 use lib.ListN.{length, getD, take}
 use Rattle.basis.specs.Choice.{gives}
 use Rattle.basis.specs.Lists.{over}
 use Rattle.sets.specs.Set.{within}
+use Rattle.seniority.specs.Seniority.{heldOrSenior, heldOrJunior}
 use Rattle.words.specs.declared.Word.{Word}
 use Rattle.policy.specs.Limits.{actions}
 use Rattle.policy.specs.Policy.{Policy, sets, setOfNumber, formulaIn}
@@ -20,6 +22,7 @@ use Rattle.policy.specs.Value.{valueOf, policyOf}
 use Rattle.policy.specs.Valid.{Yielded, valid}
 use Rattle.policy.specs.Write.{write, writeBuffer}
 use Rattle.policy.specs.Answers.{granted, denied}
+use Rattle.policy.specs.declared.value.Pair.{Pair}
 use Rattle.policy.specs.declared.value.PolicyValue.{PolicyValue}
 use Rattle.policy.specs.declared.refusal.Refusal.{Refusal}
 use Rattle.formula.specs.Truth.{Sets, at, truth, grants}
@@ -36,7 +39,7 @@ use Rattle.board.specs.Machine.{Call, Entry, machine, reachOf}
 abbrev pub OfSides : Policy → Sets → Type 0
 OfSides p s = (s .user < sets (p .user)) × (s .object < sets (p .object))
 
--- ---- "formulas decide by the sets held"
+-- ---- "formulas decide by the sets held", and pairs
 
 -- the action has a formula, and it is true at these sets
 pub record FormulaTrue (p : Policy) (a : ℕ) (s : Sets) : Type 0 where
@@ -44,8 +47,16 @@ pub record FormulaTrue (p : Policy) (a : ℕ) (s : Sets) : Type 0 where
   pub formula : formulaIn (p .rules) a ≡ some words
   pub holds : truth p s words ≡ true
 
+-- the action has a pair line, and "the user set holds V or a senior of it and the object set W or a junior of it"
+pub record PairTrue (p : Policy) (a : ℕ) (s : Sets) : Type 0 where
+  pub pair : Pair
+  pub line : List·Memᴰ pair (p .pairs)
+  pub action : pair .action ≡ a
+  pub user : heldOrSenior (p .user .lines) (s .user) (pair .user) ≡ true
+  pub object : heldOrJunior (p .object .lines) (s .object) (pair .object) ≡ true
+
 pub record Decides (p : Policy) (a : ℕ) (s : Sets) : Type 0 where
-  pub by-formula : (decide (valueOf p) a s ≡ granted) ↔ FormulaTrue p a s
+  pub by-either : (decide (valueOf p) a s ≡ granted) ↔ (FormulaTrue p a s ⊎ PairTrue p a s)
   pub else-denied : (decide (valueOf p) a s ≡ granted) ⊎ (decide (valueOf p) a s ≡ denied)
 
 -- ---- "a tuple grants only on equal sets", whatever the listing
@@ -62,7 +73,7 @@ pub record EqualSets (p : Policy) (s : Sets) : Type 0 where
   -- two pairs with one number are the same pair
   pub once : (r : Sets) → OfSides p r → stored p s ≡ stored p r → s ≡ r
 
--- ---- "alike sets are those no formula parts": in labels, and as Apart tells it
+-- ---- "alike sets are those no formula parts", and no pair: in labels, and as Apart tells it
 
 abbrev pub NoneParts : Policy → ℕ → ℕ → Type 0
 NoneParts p u w = (a o : ℕ) → a < actions (p .form) → o < sets (p .object) → grants p a (at u o) ≡ grants p a (at w o)

@@ -1,17 +1,18 @@
--- The worked examples of document 01 ("One text through the lister", "Edges", "Plausible and false") as one table: what
--- the definitions say, beside what the document says, both as text.
-use Prim.Native.Nat.{ℕ}
+-- The worked examples of document 01 ("One text through the lister", "Edges", "Plausible and false") and examples of
+-- document 02's pairs as one table: what the definitions say, beside what the documents say, both as text.
+use Prim.Native.Nat.{ℕ, _/_, _%_}
 use Prim.Native.String.{String}
 use mathlib.Core.Bool.{Bool}
 use mathlib.Core.List.{List, [], _∷_, _++_, map}
 use lib.Dec.{eqb}
 use Rattle.basis.specs.Bytes.{byte, bytes}
 use Rattle.basis.specs.Lists.{same}
+use Rattle.basis.specs.Numbers.{upTo}
 use Rattle.text.specs.Number.{decimal}
-use Rattle.text.specs.Parts.{join, comma}
-use Rattle.policy.specs.Policy.{Policy}
+use Rattle.text.specs.Parts.{join, comma, textOf as lines}
+use Rattle.policy.specs.Policy.{Policy, pair}
 use Rattle.policy.specs.Read.{Outcome, Accepted, Refused, readText}
-use Rattle.policy.specs.Text.{textOf}
+use Rattle.policy.specs.Text.{pairLines, lineText, textOf}
 use Rattle.policy.specs.Value.{valueOf}
 use Rattle.policy.specs.Answers.{Reply, done, granted, denied, refused}
 use Rattle.formula.specs.Truth.{at}
@@ -132,16 +133,54 @@ falseExamples =
     ∷ example (numbers (NU q ∷ NO q ∷ [])) "2,3"
     ∷ []
 
--- what the lister writes for the sample text, and for one that is refused
+-- on each side two values, 1 senior to 0; an action with a formula and a pair, and two with pairs alone
+abbrev pub seniorPairs : String
+seniorPairs = "policy,1\nuattr,2\noattr,2\nusen,1,0\nosen,1,0\nrule,0,u1\npair,0,0,0\npair,2,0,1\npair,3,1,0\nend\n"
+
+-- a text up to its n-th pair line
+abbrev pub manyPairs : ℕ → List ℕ
+manyPairs n =
+    bytes "policy,1\nuattr,3\noattr,3\n"
+    ++ lines (map lineText (pairLines (map (λ i. pair (i / 9) (i / 3 % 3) (i % 3)) (upTo (λ i. i) n))))
+
+abbrev pub pairText : String → List ℕ
+pairText ls = bytes "policy,1\nuattr,1\noattr,1\n" ++ (bytes ls ++ bytes "end\n")
+
+-- pairs: "holds V or a senior of it and the object set W or a junior of it", or the formula; an action without either is
+-- denied; then 6, 7, 3 and, between 7 and 8, 21
+abbrev pub pairExamples : List Example
+pairExamples =
+    let p = policyIs seniorPairs in
+    example (numbers (tuples p 0)) "5,7,8,9,10,11,12,13,14,15"
+    ∷ example (numbers (tuples p 1)) ""
+    ∷ example (numbers (tuples p 2)) "5,6,7,9,10,11,13,14,15"
+    ∷ example (numbers (tuples p 3)) "9,11,13,15"
+    ∷ example (numbers (NU p ∷ NO p ∷ [])) "3,3"
+    ∷ example (outcome (readText (pairText "pair,7,0,0\n"))) "accepted"
+    ∷ example (outcome (readText (pairText "pair,8,0,0\n"))) "refused,6,3"
+    ∷ example (outcome (readText (pairText "pair,0,1,0\n"))) "refused,6,3"
+    ∷ example (outcome (readText (pairText "pair,0,0,1\n"))) "refused,6,3"
+    ∷ example (outcome (readText (pairText "pair,0,0,0\npair,0,0,0\n"))) "refused,7,4"
+    ∷ example (outcome (readText (pairText "pair,0,0,0\nrule,0,t\n"))) "refused,3,4"
+    ∷ example (outcome (readText (manyPairs 64 ++ bytes "end\n"))) "accepted"
+    ∷ example (outcome (readText (manyPairs 65 ++ bytes "end\n"))) "refused,21,67"
+    ∷ example (outcome (readText (manyPairs 64 ++ bytes "pair,0,0,0\nend\n"))) "refused,7,67"
+    ∷ example (textOf p) seniorPairs
+    ∷ []
+
+-- what the lister writes for the sample text, for one in which a rule and a pair overlap and an action has a pair alone,
+-- and for one that is refused
 abbrev pub listerExamples : List Example
 listerExamples =
     example (report (readText (bytes sample)))
     "labels,3,2\naction,0,3\ntuple,0,1,1\ntuple,0,2,1\ntuple,0,3,1\naction,3,4\ntuple,3,0,0\ntuple,3,0,1\ntuple,3,1,0\ntuple,3,1,1\n"
+    ∷ example (report (readText (pairText "rule,0,u0\npair,0,0,0\npair,2,0,0\n")))
+    "labels,2,2\naction,0,2\ntuple,0,1,0\ntuple,0,1,1\naction,2,1\ntuple,2,1,1\n"
     ∷ example (report (readText (bytes ""))) "refused,10,0\n"
     ∷ []
 
 abbrev pub table : List Example
-table = compiledExamples ++ (sessionExamples ++ (edgeExamples ++ (falseExamples ++ listerExamples)))
+table = compiledExamples ++ (sessionExamples ++ (edgeExamples ++ (falseExamples ++ (pairExamples ++ listerExamples))))
 
 abbrev pub holds : Example → Bool
 holds e = same eqb (e .found) (e .expected)

@@ -18,7 +18,7 @@ use Rattle.policy.specs.Write.{write, writeBuffer, writeChecks}
 use Rattle.policy.specs.Answers.{Reply, done, granted, denied, refused, decided, replyNumber}
 use Rattle.policy.specs.declared.value.PolicyValue.{PolicyValue}
 use Rattle.formula.specs.Truth.{Sets, grants}
-use Rattle.formula.specs.Decide as byFormula
+use Rattle.formula.specs.Decide as byPolicy
 use Rattle.tuples.specs.Tuples as byTuples
 use Rattle.labels.specs.Compile.{Buffers, NU, NO, likeUsers, filled, compile, compileBuffers, compileChecks}
 use Rattle.labels.specs.Apart.{Separates, apartChecks, Tells}
@@ -38,6 +38,10 @@ use Rattle.claims.specs.Demand1.{refusalsOf}
 
 -- ---- demand 1
 
+-- the numbers by which reading refuses
+abbrev pub OfReading : ℕ → Type 0
+OfReading n = ((1 ≤ n) × (n ≤ 10)) ⊎ (n ≡ 21)
+
 -- the text of a card, read
 abbrev pub card : List ℕ → PackedReading
 card t = packedReading (readText t)
@@ -46,8 +50,8 @@ pub record Read (t : List ℕ) : Type 0 where
   -- refusal 0 is an accepted text, whose policy value the packed policy stands for
   pub accepted : (card t .refusal ≡ 0) ↔ ((p : Policy) × (readText t ≡ Accepted p))
   pub value : (p : Policy) → readText t ≡ Accepted p → unpackedPolicy (card t .policy) ≡ valueOf p
-  -- else it is one of 1 to 10 with its line, beside a policy that check 11 refuses
-  pub refusal : (n line : ℕ) → readText t ≡ Refused n line → (card t .refusal ≡ n) × (card t .line ≡ line) × (1 ≤ n) × (n ≤ 10)
+  -- else it is one of 1 to 10 or 21 with its line, beside a policy that check 11 refuses
+  pub refusal : (n line : ℕ) → readText t ≡ Refused n line → (card t .refusal ≡ n) × (card t .line ≡ line) × OfReading n
   pub no-policy : (n line : ℕ) → readText t ≡ Refused n line → valid (unpackedPolicy (card t .policy)) ≡ false
 
 -- what a separation says where it is no refusal
@@ -65,9 +69,9 @@ pub record Calls (v : PolicyValue) : Type 0 where
       (λ n. (counted (write v buffer) ≡ record { refusal = n; count = 0 }) × (writeBuffer v buffer ≡ buffer))
   pub valid : (valid v ≡ true) ↔ Yielded v
   pub decide : (a : ℕ) (s : Sets)
-      → Answers (11 ∷ 12 ∷ 19 ∷ []) (byFormula.decideChecks v a s)
-      (replyNumber (byFormula.decide v a s) ≡ replyNumber (decided (grants (policyOf v) a s)))
-      (λ n. replyNumber (byFormula.decide v a s) ≡ n)
+      → Answers (11 ∷ 12 ∷ 19 ∷ []) (byPolicy.decideChecks v a s)
+      (replyNumber (byPolicy.decide v a s) ≡ replyNumber (decided (grants (policyOf v) a s)))
+      (λ n. replyNumber (byPolicy.decide v a s) ≡ n)
   pub list : (a : ℕ) (buffer : List ℕ)
       → Answers (11 ∷ 12 ∷ 20 ∷ []) (byTuples.listChecks v a buffer)
       ((counted (byTuples.list v a buffer) ≡ record { refusal = 0; count = length (byTuples.tuples (policyOf v) a) })
