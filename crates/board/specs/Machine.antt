@@ -126,7 +126,7 @@ abbrev pub setsAsked : Policy → ℕ → Option Entry → Sets
 setsAsked p n e = at (heldIn e) (objectSet p n)
 
 -- "Its answer is the refusal; else granted or denied for a request, and done for the other calls." "the machine decides
--- by the action's formula on the held set and the object's set"
+-- by the action's formula on the held set and the object's set", and by its pairs
 unfoldable pub reply : Policy → Call → Option Entry → Reply
 reply p (opens u s set) e = done
 reply p (adds u s set) e = done

@@ -29,7 +29,7 @@ abbrev pub Rising : List ℕ → Type 0
 Rising ns = (i j : ℕ) → i < j → j < length ns → getD ns i 0 < getD ns j 0
 
 -- ---- tuples: "for every action the tuples listed are document 01's, rising, each once, with their count, and grant
--- exactly when the formula is true", in a buffer long enough and not written to since
+-- exactly when the formula is true" or a pair holds, in a buffer long enough and not written to since
 
 pub record Tuples (p : Policy) (a : ℕ) : Type 0 where
   pub rising : Rising (tuples p a)

@@ -52,7 +52,7 @@ pub extern "C" fn helvemoik_valid(policy: PackedPolicy) -> bool
     validity::check(packing::unpack::unpack(policy))
 }
 
-// Decides by the formula on two sets.
+// Decides by the formula and the pairs, on two sets.
 #[no_mangle]
 pub extern "C" fn helvemoik_decide(policy: PackedPolicy, action: u32, user: u32, object: u32) -> u32
     ensures { λ r. ⌜ r ≡ replyNumber (decide (unpackedPolicy policy) action (at user object)) ⌝ }

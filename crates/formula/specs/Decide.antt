@@ -1,4 +1,4 @@
--- "Decide: by the formula, on two given sets (11, 12, 19)."
+-- "Decide: by the formula, on two given sets (11, 12, 19)", and by the pairs.
 use Prim.Native.Nat.{ℕ}
 use mathlib.Core.Bool.{Bool, not, _||_}
 use mathlib.Core.List.{List, [], _∷_}

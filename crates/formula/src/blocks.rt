@@ -25,7 +25,7 @@ pub struct Block {
     pub vectors: [u64; VECTORS],
 }
 
-// What many pairs of a policy are worked out from: where its attributes lie, its user side, and its object sets with
+// What many pairs of sets of a policy are worked out from: where its attributes lie, its user side, and its object sets with
 // their seniors.
 pub struct Source {
     pub sides: Attributes,
@@ -55,7 +55,7 @@ fn objects_from(b: u32, object: SideValue, n: u32) -> Block
     Block { vectors }
 }
 
-// What the pairs of a policy with these sides are worked out from.
+// What the pairs of sets of a policy with these sides are worked out from.
 pub fn source_of(user: SideValue, object: SideValue) -> Source
     requires { ⌜ SideFits user × SideFits object ⌝ }
     ensures { λ r. ⌜ ((p : Policy) → p .user ≡ sideOf user → p .object ≡ sideOf object → SourceOf p r) ⌝ }

@@ -90,7 +90,7 @@ pub fn of_lanes(
     )
 }
 
-// The table entry of pair k: bit a is set where action a is granted. The loop goes over as many actions as any form
+// The table entry of lane k: bit a is set where action a is granted. The loop goes over as many actions as any form
 // has, so that the compiler knows how many.
 pub fn entry(granted: &[u64; MOST_ACTIONS], k: usize) -> u8
     requires { ⌜ k < lanes ⌝ }

@@ -1,5 +1,5 @@
-// The truth of a formula at 64 pairs. Words work on a stack of numbers, one bit a pair; below an empty stack lies 0, as
-// false does in the definition.
+// The truth of a formula at 64 pairs of sets. Words work on a stack of numbers, with a bit for each of them; below an
+// empty stack lies 0, as false does in the definition.
 ghost use Prim.Native.Nat.{ℕ, _+_, _≤_, _<_};
 ghost use mathlib.Core.Path.{_≡_};
 ghost use mathlib.Core.Bool.{Bool, _&&_};
@@ -152,7 +152,7 @@ fn worked(
     }
 }
 
-// The truths of a formula of n words at 64 pairs.
+// The truths of a formula of n words at 64 pairs of sets.
 pub fn truths(
     sides: Attributes,
     users: &[u64; VECTORS],

@@ -1,4 +1,4 @@
-// What grants an action, and where it does: the one place that says so, for 64 pairs at once.
+// What grants an action, and where it does: the one place that says so, for 64 pairs of sets at once.
 ghost use Prim.Native.Nat.{ℕ, _≤_};
 ghost use mathlib.Core.Path.{_≡_};
 ghost use mathlib.Core.Bool.{false};
@@ -83,8 +83,8 @@ fn has_rule(rules: Rules, action: u32) -> bool
     let n = rules.count;
     let mut i: usize = 0;
     while i < n {
-        let rule = entries[i];
-        if rule.action == action {
+        let x = entries[i];
+        if x.action == action {
             return true;
         }
         i += 1;

@@ -81,8 +81,8 @@ pub fn name(pairs: Pairs, action: u32) -> bool
     let n = pairs.count;
     let mut i: usize = 0;
     while i < n {
-        let pair = entries[i];
-        if pair.action == action {
+        let x = entries[i];
+        if x.action == action {
             return true;
         }
         i += 1;

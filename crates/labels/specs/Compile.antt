@@ -22,7 +22,7 @@ use Rattle.labels.specs.declared.Counts.{Counts}
 use Rattle.labels.specs.declared.Compiled.{Compiled}
 use Rattle.labels.specs.declared.Compiled.the-variants.{Stored, Refused}
 
--- the sets of a policy's sides that no formula parts
+-- the sets of a policy's sides that no formula and no pair parts
 unfoldable pub likeUsers : Policy → ℕ → ℕ → Bool
 likeUsers p = usersAlike (grants p) (actions (p .form)) (sets (p .object))
 

@@ -30,6 +30,6 @@ abbrev pub objectLabels : Labelling → ℕ → ℕ
 objectLabels l n = different (l .object) n
 
 -- "It grants alike when for every user set, object set and action its table, at their two numbers, says granted exactly
--- when the formula is true."
+-- when the formula is true", or a pair holds: where g says so
 abbrev pub GrantsAlike : (ℕ → Sets → Bool) → ℕ → ℕ → ℕ → Labelling → Type 0
 GrantsAlike g k m n l = (a u o : ℕ) → a < k → u < m → o < n → l .table (l .user u) (l .object o) a ≡ g a (at u o)

@@ -1,4 +1,4 @@
-// Labels: sets that no formula parts share one.
+// Labels: sets that no formula and no pair parts share one.
 ghost use Prim.Native.Nat.{_+_, _*_};
 ghost use mathlib.Core.Path.{_≡_};
 ghost use Rattle.labels.specs.Compile.{lent, Compiles};

@@ -1,4 +1,4 @@
-// Decisions: by the formula and by tuples; listings; Apart.
+// Decisions: by the policy and by tuples; listings; Apart.
 use crate::buffers;
 use crate::cursor;
 use crate::cursor::NUMBERS;
@@ -20,7 +20,7 @@ fn decide(text: &[u8], action: u32, user: u32, object: u32) -> u32 {
     found::of_decision(formula::decide(policy_of(text), action, user, object))
 }
 
-// `F`: by the formula.
+// `F`: by the formula and the pairs.
 pub fn by_formula(a: &[u32; NUMBERS], text: &[u8]) -> Found {
     found::bare(decide(text, a[2], a[3], a[4]))
 }

@@ -135,7 +135,7 @@ fn main() {
     let mut counts = [0u32; KINDS];
     if play_files(&mut counts) {
         tally::print_counts(
-            b"texts refused alike: ,texts accepted alike: ,checks of what was read alike: ,writings alike: ,label buffers and tables alike: ,listings alike: ,decisions by formula alike: ,decisions by tuples alike: ,answers of Apart alike: ,lists of calls alike: ,calls in these lists: ,lines wrong on purpose found different: ,",
+            b"texts refused alike: ,texts accepted alike: ,checks of what was read alike: ,writings alike: ,label buffers and tables alike: ,listings alike: ,decisions by policy alike: ,decisions by tuples alike: ,answers of Apart alike: ,lists of calls alike: ,calls in these lists: ,lines wrong on purpose found different: ,",
             &counts,
         );
     }

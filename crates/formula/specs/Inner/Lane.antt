@@ -1,4 +1,4 @@
--- 64 pairs of a user set and an object set at once: bit k of a number says what holds at pair k. What the evaluator's
+-- 64 pairs of a user set and an object set at once: bit k of a number says what holds in lane k. What the evaluator's
 -- vectors stand for.
 use Prim.Native.Nat.{ℕ, zero, suc, _+_, _*_, _^_, _≤_, _<_}
 use mathlib.Core.Path.{_≡_}

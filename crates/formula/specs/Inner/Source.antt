@@ -1,4 +1,4 @@
--- Blocks of 64 numbers, and what many pairs of a policy are worked out from.
+-- Blocks of 64 numbers, and what many pairs of sets of a policy are worked out from.
 use Prim.Native.Nat.{ℕ, _+_, _-_, _*_, _%_, _^_, _<_}
 use mathlib.Core.Path.{_≡_}
 use mathlib.Core.List.{[]}

@@ -27,11 +27,11 @@ loop-holds c =
     let l : length (rs .entries) ≡ rulePlaces = search (needs, long) in
     (omega arith, omega (arith, t .pre .1 .count), refl)
 
-mul-rule : tie.Need-mul-rule Inv-loop μ-loop
-mul-rule c = search needs
+mul-x : tie.Need-mul-x Inv-loop μ-loop
+mul-x c = search needs
 
-array-copy-out-rule : tie.Need-array-copy-out-rule Inv-loop μ-loop
-array-copy-out-rule c = search needs
+array-copy-out-x : tie.Need-array-copy-out-x Inv-loop μ-loop
+array-copy-out-x c = search needs
 
 returns : tie.Need-returns Inv-loop μ-loop
 unfolding rulesOf
@@ -68,8 +68,8 @@ has-rule-spec =
     Inv-loop
     μ-loop
     loop-holds
-    mul-rule
-    array-copy-out-rule
+    mul-x
+    array-copy-out-x
     returns
     add-i
     loop-less

@@ -33,11 +33,11 @@ loop-holds c =
     let l : length (xs .entries) ≡ pairPlaces = search (needs, long) in
     (omega arith, omega (arith, t .pre .1 .count), refl)
 
-mul-pair : tie.Need-mul-pair Inv-loop μ-loop
-mul-pair c = search needs
+mul-x : tie.Need-mul-x Inv-loop μ-loop
+mul-x c = search needs
 
-array-copy-out-pair : tie.Need-array-copy-out-pair Inv-loop μ-loop
-array-copy-out-pair c = search needs
+array-copy-out-x : tie.Need-array-copy-out-x Inv-loop μ-loop
+array-copy-out-x c = search needs
 
 returns : tie.Need-returns Inv-loop μ-loop
 unfolding pairsOf
@@ -75,8 +75,8 @@ name-spec =
     Inv-loop
     μ-loop
     loop-holds
-    mul-pair
-    array-copy-out-pair
+    mul-x
+    array-copy-out-x
     returns
     add-i
     loop-less
