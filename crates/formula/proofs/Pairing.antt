@@ -1,32 +1,36 @@
 -- Pairs: going from one to the next, the vectors of all actions gain what each pair grants; those of an action, picked
 -- out.
-use Prim.Native.Nat.{ℕ, _+_, _≤_, _<_}
+use Prim.Native.Nat.{ℕ, zero, suc, _+_, _^_, _≤_, _<_}
 use mathlib.Core.Path.{_≡_, refl, sym, _∙_, subst}
-use mathlib.Core.Bool.{Bool, true, false, _&&_, _||_, or-false, or-assoc}
-use mathlib.Core.List.{List, [], _∷_, _++_, List·Memᴰ, List·Memᴰ·head, List·Memᴰ·tail, List·Memᴰ·not-nil}
-use native.Mathlib.Nat.{le-refl, lt-of-lt-of-le}
+use mathlib.Core.Bool.{Bool, true, false, _&&_, _||_, and-false, or-false, or-assoc, false≢true}
+use mathlib.Core.List.{List, [], _∷_, List·Memᴰ, List·Memᴰ·head, List·Memᴰ·tail}
+use mathlib.Core.Logic.{⊎-elim}
+use native.Mathlib.Nat.{lt-of-lt-of-le}
+use native.Mathlib.Decide.{ℕ-discrete}
 use native.Mathlib.Numerals.{add-one}
 use native.Mathlib.Omega.{arith}
 use lib.Bits.{bitOr}
 use lib.Dec.{eqb}
-use lib.ListN.{length, getD, set, take, drop, length-set}
-use lib.Seq.{take-suc, take-set-le, getD-set-same}
-use borrow.Author.Tests.{eq-eqb, ne-eqb}
+use lib.ListN.{length, getD, set, take, drop, replicate, getD-replicate}
+use borrow.Author.Tests.{eq-eqb, ne-eqb, eqb-true}
 use Rattle.basis.specs.Choice.{given}
 use Rattle.basis.specs.Lists.{any}
+use Rattle.basis.proofs.Bools.{and-left, and-right, and-both, or-cases, or-left, or-right, never, fails, both-ways}
+use Rattle.basis.proofs.Lists.{any-at, any-of}
 use Rattle.basis.proofs.Walk.{part-next, any-miss, any-end}
 use Rattle.basis.proofs.Places.{taken-in}
 use Rattle.sets.specs.Set.{has}
-use Rattle.sets.proofs.Laws.{has-union}
-use Rattle.policy.specs.Limits.{actions, mostActions}
+use Rattle.sets.proofs.Laws.{has-union, has-zero, has-one}
+use Rattle.words.specs.declared.Holding.the-variants.{User, Object}
+use Rattle.policy.specs.Limits.{actions, mostActions, mostValues}
 use Rattle.policy.specs.Policy.{Policy, pair, formulaIn}
 use Rattle.policy.specs.Value.{rulesOf, pairsOf}
 use Rattle.policy.proofs.Forms.{actions-most}
 use Rattle.policy.specs.declared.value.Pair.{Pair}
 use Rattle.policy.specs.declared.value.Pairs.{Pairs}
-use Rattle.formula.specs.Truth.{Sets, truth, formulaTrue, pairHolds, pairTrue, grants}
+use Rattle.formula.specs.Truth.{Sets, holds, truth, formulaTrue, pairHolds, pairTrue, grants}
 use Rattle.formula.specs.Inner.Fits.{PairFits, PairsFit}
-use Rattle.formula.specs.Inner.Grant.{GrantsOf}
+use Rattle.formula.specs.Inner.Grant.{some, partnerHeld, pairedAt, Paired, GrantsOf}
 use Rattle.formula.specs.declared.grant.Grants.{Grants}
 use Rattle.formula.proofs.Granting.{set-seen, outcome-all, outcome-past}
 
@@ -99,73 +103,6 @@ grants-past p s g a x h =
       pairs-past (pairHolds p s) (take (g .pairs .count) (g .pairs .entries)) (actions (p .form)) a (x .pairs-fit .each) h,
     )
 
--- ---- the pairs of an action
-
--- one element more
-any-snoc : {A : Type 0} (f : A → Bool) (xs : List A) (x : A) → any f (xs ++ (x ∷ [])) ≡ (any f xs || f x)
-unfolding any
-any-snoc f [] x = or-false (f x)
-any-snoc f (y ∷ xs) x = rw (any-snoc f xs x) (sym (or-assoc (f y) (any f xs) (f x)))
-
-snoc-each : {A : Type 0} (P : A → Type 0) (xs : List A) (x : A) → ((y : A) → List·Memᴰ y xs → P y) → P x → (y : A) → List·Memᴰ y (xs ++ (x ∷ [])) → P y
-snoc-each P [] x old new y (List·Memᴰ·head e) = subst P (sym e) new
-snoc-each P [] x old new y (List·Memᴰ·tail m) = absurd (List·Memᴰ·not-nil m)
-snoc-each P (z ∷ xs) x old new y (List·Memᴰ·head e) = old y (List·Memᴰ·head e)
-snoc-each P (z ∷ xs) x old new y (List·Memᴰ·tail m) = snoc-each P xs x (λ w n. old w (List·Memᴰ·tail n)) new y m
-
--- a pair stored behind others
-module _ (own : List Pair) (c : ℕ) (x : Pair) (h : c < length own) where
-  stored : take (c + 1) (set own c x) ≡ take c own ++ (x ∷ [])
-  stored =
-      let l : c < length (set own c x) = rw (length-set own c x) h in
-      rw (add-one c, take-suc (set own c x) c x l, take-set-le c own c x (le-refl c), getD-set-same own c x x h)
-
-  pub stored-any : (f : Pair → Bool) → any f (take (c + 1) (set own c x)) ≡ (any f (take c own) || f x)
-  stored-any f = rw stored (any-snoc f (take c own) x)
-
-  pub stored-each : (P : Pair → Type 0) → ((y : Pair) → List·Memᴰ y (take c own) → P y) → P x → (y : Pair) → List·Memᴰ y (take (c + 1) (set own c x)) → P y
-  stored-each P old new = rw stored (snoc-each P (take c own) x old new)
-
--- of the first n pairs those of an action that stand before place i are the first c of `own`
-pub record Picked (a : ℕ) (xs : List Pair) (n i : ℕ) (own : List Pair) (c : ℕ) : Type 0 where
-  pub few : c ≤ i
-  pub each : (m : ℕ) → ((x : Pair) → List·Memᴰ x (take n xs) → PairFits m x) → (x : Pair) → List·Memᴰ x (take c own) → PairFits m x
-  pub same : (f : Pair → Bool) → (any f (take c own) || any (λ x. eqb (x .action) a && f x) (drop i (take n xs))) ≡ any (λ x. eqb (x .action) a && f x) (take n xs)
-
-pub picked-none : (a : ℕ) (xs : List Pair) (n : ℕ) (own : List Pair) → Picked a xs n 0 own 0
-unfolding any
-picked-none a xs n own = record { few = le-refl 0; each = λ k h x m. absurd (List·Memᴰ·not-nil m); same = λ f. refl }
-
-module _ (a : ℕ) (xs : List Pair) (n i : ℕ) (h : i < n) (l : n ≤ length xs) (own : List Pair) (c : ℕ) (b : Picked a xs n i own c) where
-  abbrev next : Pair
-  next = getD xs i (pair 0 0 0)
-
-  -- the pair at place i is the action's, and is stored
-  pub picked-own : next .action ≡ a → c < length own → Picked a xs n (i + 1) (set own c next) (c + 1)
-  unfolding any
-  picked-own e g =
-      record {
-        few = omega (arith, b .few);
-        each = λ m k. stored-each own c next g (PairFits m) (b .each m k) (k next (taken-in (pair 0 0 0) xs n i h l));
-        same = λ f.
-            rw (stored-any own c next g f, or-assoc (any f (take c own)) (f next) (any (λ x. eqb (x .action) a && f x) (drop (i + 1) (take n xs))))
-            (rw (part-next (pair 0 0 0) xs i n h l, eq-eqb (next .action) a e) at (b .same f));
-      }
-
-  -- or it is not
-  pub picked-other : (next .action ≡ a → ⊥) → Picked a xs n (i + 1) own c
-  picked-other e =
-      record {
-        few = omega (arith, b .few);
-        each = b .each;
-        same = λ f. rw (any-miss (λ x. eqb (x .action) a && f x) (pair 0 0 0) xs n i h l (rw (ne-eqb (next .action) a e))) at (b .same f);
-      }
-
-pub picked-all : (a : ℕ) (xs : List Pair) (n i : ℕ) (own : List Pair) (c : ℕ) → n ≤ i → Picked a xs n i own c
-    → (f : Pair → Bool) → any f (take c own) ≡ any (λ x. eqb (x .action) a && f x) (take n xs)
-picked-all a xs n i own c h b f =
-    sym (or-false (any f (take c own))) ∙ (rw (any-end (λ x. eqb (x .action) a && f x) (pair 0 0 0) xs n i h) at (b .same f))
-
 -- pairs that fit the actions of one form fit those of any
 pub pairs-placed : (p : Policy) (g : Grants) → GrantsOf p g → PairsFit mostActions (g .pairs)
 pairs-placed p g x =
@@ -173,3 +110,98 @@ pairs-placed p g x =
       count = x .pairs-fit .count;
       each = λ y m. let f = x .pairs-fit .each y m in record { action = lt-of-lt-of-le (f .action) (actions-most (p .form)); user = f .user; object = f .object };
     }
+
+-- ---- the pairs of an action
+
+-- a test passes at some number
+pub some-of : (f : ℕ → Bool) (n k : ℕ) → k < n → f k ≡ true → some f n ≡ true
+unfolding some
+some-of f zero k h e = absurd (omega arith)
+some-of f (suc n) k h e = elim (ℕ-discrete k n) [
+  | yes q ↦ or-right (some f n) (f n) (rw q at e)
+  | no q ↦ or-left (some f n) (f n) (some-of f n k (omega arith) e)
+]
+
+some-at : (f : ℕ → Bool) (n : ℕ) → some f n ≡ true → (k : ℕ) × (k < n) × (f k ≡ true)
+unfolding some
+some-at f zero e = absurd (false≢true e)
+some-at f (suc n) e =
+    ⊎-elim (λ h. let w = some-at f n h in (w .0, omega (arith, w .1), w .2)) (λ h. (n, omega arith, h)) (or-cases (some f n) (f n) e)
+
+pub some-next : (f : ℕ → Bool) (n : ℕ) → some f (n + 1) ≡ (some f n || f n)
+unfolding some
+some-next f n = rw (add-one n)
+
+pub none-held : (p : Policy) (s : Sets) → partnerHeld p s 0 ≡ false
+none-held p s =
+    fails (partnerHeld p s 0)
+    (λ e. let w = some-at (λ w. has 0 w && holds p s (Object w)) mostValues e in never (has 0 (w .0)) (and-left (has 0 (w .0)) _ (w .2)) (has-zero (w .0)))
+
+-- the pair at place i is one of the action's, its object value at its user value
+abbrev pub isAt : ℕ → ℕ → ℕ → Pair → Bool
+isAt a v w x = eqb (x .action) a && (eqb (x .user) v && eqb w (x .object))
+
+-- the sets, with the pairs from place i on, say what all pairs say
+abbrev pub PairedTo : ℕ → List Pair → ℕ → ℕ → List ℕ → Type 0
+PairedTo a xs n i paired = (v w : ℕ) → v < mostValues → w < mostValues → OrLater (isAt a v w) xs n i (getD paired v 0) w ≡ any (isAt a v w) (take n xs)
+
+pub paired-none : (a : ℕ) (xs : List Pair) (n : ℕ) → PairedTo a xs n 0 (replicate mostValues 0)
+paired-none a xs n v w h g = rw (getD-replicate {A = ℕ} mostValues v 0 0 h, has-zero w)
+
+module _ (a : ℕ) (xs : List Pair) (n i : ℕ) (h : i < n) (l : n ≤ length xs) (paired : List ℕ) (b : PairedTo a xs n i paired) where
+  abbrev next : Pair
+  next = getD xs i (pair 0 0 0)
+
+  pub paired-own : next .action ≡ a → next .user < length paired → (y : ℕ) → y ≡ 2 ^ (next .object)
+      → PairedTo a xs n (i + 1) (set paired (next .user) (bitOr (getD paired (next .user) 0) y))
+  paired-own e g y q v w j m =
+      set-seen (λ u z. u < mostValues → OrLater (isAt a u w) xs n (i + 1) z w ≡ any (isAt a u w) (take n xs)) paired (next .user) _ g
+      (λ k. later-more (isAt a (next .user) w) xs n i h l (getD paired (next .user) 0) y w
+      (rw (q, has-one (next .object) w, eq-eqb (next .action) a e, eq-eqb (next .user) (next .user) refl)) ∙ b (next .user) w k m)
+      (λ u z k. later-passed (isAt a u w) xs n i h l (getD paired u 0) w (rw (ne-eqb (next .user) u z, and-false)) ∙ b u w k m)
+      v j
+
+  pub paired-other : (next .action ≡ a → ⊥) → PairedTo a xs n (i + 1) paired
+  paired-other e v w j m = later-passed (isAt a v w) xs n i h l (getD paired v 0) w (rw (ne-eqb (next .action) a e)) ∙ b v w j m
+
+-- where the sets say what the action's pairs say, some value of them is held exactly where a pair holds
+module _ (p : Policy) (s : Sets) (a n : ℕ) (xs : List Pair) (fits : (x : Pair) → List·Memᴰ x xs → PairFits n x) (paired : List ℕ) (b : Paired a xs paired) where
+  abbrev own : Pair → Bool
+  own x = eqb (x .action) a && pairHolds p s x
+
+  abbrev partner : ℕ → ℕ → Bool
+  partner set w = has set w && holds p s (Object w)
+
+  abbrev userHeld : ℕ → Bool
+  userHeld v = holds p s (User v) && partnerHeld p s (getD paired v 0)
+
+  own-holds : (x : Pair) (v w : ℕ) → eqb (x .action) a ≡ true → x .user ≡ v → w ≡ x .object → holds p s (User v) ≡ true → holds p s (Object w) ≡ true
+      → own x ≡ true
+  own-holds x v w e u o h g =
+      and-both (eqb (x .action) a) (pairHolds p s x) e (and-both (holds p s (User (x .user))) (holds p s (Object (x .object))) (rw u h) (rw (sym o) g))
+
+  to-pair : pairedAt p paired s ≡ true → any own xs ≡ true
+  to-pair e =
+      let u = some-at userHeld mostValues e in let v = u .0 in
+      let o = some-at (partner (getD paired v 0)) mostValues (and-right (holds p s (User v)) _ (u .2)) in let w = o .0 in
+      let x = any-at (isAt a v w) xs (sym (b v w (u .1) (o .1)) ∙ and-left (has (getD paired v 0) w) _ (o .2)) in
+      let y = x .0 in
+      let t = and-right (eqb (y .action) a) _ (x .2) in
+      any-of own xs y (x .1)
+      (own-holds y v w (and-left (eqb (y .action) a) _ (x .2)) (eqb-true (y .user) v (and-left (eqb (y .user) v) _ t)) (eqb-true w (y .object) (and-right (eqb (y .user) v) _ t))
+      (and-left (holds p s (User v)) _ (u .2)) (and-right (has (getD paired v 0) w) _ (o .2)))
+
+  from-pair : any own xs ≡ true → pairedAt p paired s ≡ true
+  from-pair e =
+      let x = any-at own xs e in let y = x .0 in let f = fits y (x .1) in
+      let t = and-right (eqb (y .action) a) _ (x .2) in
+      let m = b (y .user) (y .object) (f .user) (f .object)
+      ∙ any-of (isAt a (y .user) (y .object)) xs y (x .1)
+      (rw (and-left (eqb (y .action) a) _ (x .2), eq-eqb (y .user) (y .user) refl, eq-eqb (y .object) (y .object) refl)) in
+      some-of userHeld mostValues (y .user) (f .user)
+      (and-both (holds p s (User (y .user))) _ (and-left (holds p s (User (y .user))) _ t)
+      (some-of (partner (getD paired (y .user) 0)) mostValues (y .object) (f .object)
+      (rw (m) (and-right (holds p s (User (y .user))) _ t))))
+
+  pub paired-is : pairedAt p paired s ≡ any own xs
+  paired-is = both-ways (pairedAt p paired s) (any own xs) to-pair from-pair

@@ -8,12 +8,13 @@ ghost use Rattle.policy.specs.Policy.{Policy, formulaIn, named as isNamed};
 ghost use Rattle.policy.specs.Value.{wordPlaces, rulesOf, policyOf};
 ghost use Rattle.formula.specs.Truth.{Sets, truth};
 ghost use Rattle.formula.specs.Inner.Fits.{RulesFit, ValueFits};
-ghost use Rattle.formula.specs.Inner.Grant.{ruleTrue, grantsAt, GrantFits, GrantOf, GrantsOf};
+ghost use Rattle.formula.specs.Inner.Grant.{ruleTrue, grantsAt, GrantOf, GrantsOf};
 ghost use Rattle.formula.specs.Inner.Lane.{AttributesOf, InLane};
 use crate::attributes::Attributes;
 use crate::evaluate;
 use crate::pairs;
 use crate::side::VECTORS;
+use policy::limits::MOST_VALUES;
 use policy::value::Pairs;
 use policy::value::PolicyValue;
 use policy::value::RuleValue;
@@ -28,10 +29,11 @@ pub struct Grants {
     pub pairs: Pairs,
 }
 
-// What grants one action: its rule, and one without words where it has none, and its pairs.
+// What grants one action: its rule, and one without words where it has none; and by its pairs, for each user value the
+// set of the object values that it is paired with.
 pub struct Grant {
     pub rule: RuleValue,
-    pub pairs: Pairs,
+    pub paired: [u32; MOST_VALUES],
 }
 
 // What grants the actions of this policy.
@@ -100,8 +102,8 @@ pub fn of_action(grants: Grants, action: u32) -> Grant
     let rules = grants.rules;
     let all = grants.pairs;
     let rule = rule_of(rules, action);
-    let pairs = pairs::of_action(all, action);
-    Grant { rule, pairs }
+    let paired = pairs::of_action(all, action);
+    Grant { rule, paired }
 }
 
 // Whether the action has a rule or a pair.
@@ -141,10 +143,10 @@ pub fn where_granted(
     objects: &[u64; VECTORS],
     grant: Grant,
 ) -> u64
-    requires { ⌜ ((p : Policy) × AttributesOf p sides) × GrantFits grant ⌝ }
+    requires { ⌜ ((p : Policy) × AttributesOf p sides) × (grant .rule .count ≤ wordPlaces) ⌝ }
     ensures { λ r. ⌜ ((p : Policy) (k : ℕ) (s : Sets) → AttributesOf p sides → InLane p (now (users .entry)) (now (objects .entry)) k s → has r k ≡ grantsAt p grant s) ⌝ }
 {
     let rule = grant.rule;
-    let own = grant.pairs;
-    where_true(sides, users, objects, rule) | pairs::any_held(users, objects, own)
+    let paired = grant.paired;
+    where_true(sides, users, objects, rule) | pairs::any_held(users, objects, paired)
 }

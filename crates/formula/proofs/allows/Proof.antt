@@ -31,7 +31,7 @@ of-action-requires c κs = (_, c .of-policy .ensures)
 where-granted-requires : tie.Need-where-granted-requires
 where-granted-requires c κs =
     let t = c .before .before .before .before .before .before .before .before .before .before .before .before in let p = policyOf (t .args .v) in
-    ((p, t .pre .1), c .before .before .of-action .ensures p (c .before .before .before .of-policy .ensures) .fits)
+    ((p, t .pre .1), c .before .before .of-action .ensures p (c .before .before .before .of-policy .ensures) .few)
 
 returns : tie.Need-returns
 unfolding policyOf sideOf

@@ -1,6 +1,7 @@
 -- `formula::grant::of_action` meets its contract: by the action's rule and by its pairs.
-use Rattle.formula.specs.Truth.{pairHolds}
-use Rattle.formula.proofs.Pairing.{grants-stored}
+use Rattle.policy.specs.Limits.{actions}
+use Rattle.policy.specs.Value.{pairsOf}
+use Rattle.formula.proofs.Pairing.{grants-stored, paired-is}
 use Rattle.formula.proofs.grant.of_action.Statement.{statement}
 use Rattle.formula.proofs.grant.of_action.Tie as tie
 
@@ -11,11 +12,14 @@ of-action-requires : tie.Need-of-action-requires
 of-action-requires c κs = (_, c .before .before .before .pre .1 .pairs-fit)
 
 returns : tie.Need-returns
+unfolding pairsOf
 returns c p g =
     let t = c .before .before .before .before in let rule = c .before .rule-of .ensures in let own = c .of-action .ensures in
     record {
-      fits = record { words = rule .0; pairs = (_, own .0 _ (g .pairs-fit)) };
-      same = λ s. rw (rule .1 p s, own .1 (pairHolds p s)) (grants-stored p s (t .args .grants) (t .args .action) g);
+      few = rule .0;
+      same = λ s.
+          rw (rule .1 p s, paired-is p s (t .args .action) (actions (p .form)) (pairsOf (t .args .grants .pairs)) (g .pairs-fit .each) (c .of-action .result) own)
+          (grants-stored p s (t .args .grants) (t .args .action) g);
     }
 
 pub of-action-spec : {M : Type 1} → statement M
