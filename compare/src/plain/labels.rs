@@ -35,7 +35,8 @@ pub fn compile(
     }
     let rows = Shape::of(&policy.user).sets() as usize;
     let columns = Shape::of(&policy.object).sets() as usize;
-    let grid = grid_of(policy);
+    let mut grid = [[0; SETS]; SETS];
+    fill(&mut grid, policy);
     let user = classify(&grid, rows, columns);
     let object = classify(&turned(&grid, rows, columns), columns, rows);
     if users.len() < rows || objects.len() < columns || table.len() < user.count * object.count {
@@ -55,19 +56,17 @@ pub fn compile(
     })
 }
 
-fn grid_of(policy: &Policy) -> Grid {
+fn fill(grid: &mut Grid, policy: &Policy) {
     let evaluator = Evaluator::of(policy);
     let objects = object_sets(policy);
     let rows = Rows::of(policy, policy.pairs(), &objects);
-    let mut grid = [[0; SETS]; SETS];
-    for (set, row) in (0..Shape::of(&policy.user).sets()).zip(&mut grid) {
+    for (set, row) in (0..Shape::of(&policy.user).sets()).zip(grid) {
         let user = Held::by_user(policy, set);
-        *row = rows.granted(user);
-        for (&object, entry) in objects.iter().zip(row) {
-            *entry |= entry_of(policy, &evaluator, user, object);
+        let paired = rows.granted(user);
+        for ((&object, entry), pairs) in objects.iter().zip(row).zip(paired) {
+            *entry = pairs | entry_of(policy, &evaluator, user, object);
         }
     }
-    grid
 }
 
 /// Bit a is set exactly when the formula of action a is true.
