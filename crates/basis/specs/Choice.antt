@@ -27,8 +27,8 @@ pub record Check : Type 0 where
 abbrev pub check : ℕ → Bool → Check
 check n b = record { number = n; broken = b }
 
--- the refusal: the first of the checks, which stand in the order of testing, that is broken. Document 01 tests in the order
--- of the numbers ("the lowest that applies"); document 02 tests a higher number between two of these where it says so
+-- the refusal: the first of the checks, which stand in the order of testing, that is broken. Document 01 tests in the
+-- order of the numbers ("the lowest that applies"); document 02 puts a higher number between two of these
 unfoldable pub firstBroken : List Check → Option ℕ
 firstBroken [] = none
 firstBroken (c ∷ cs) = cond (c .broken) (some (c .number)) (firstBroken cs)

@@ -1,5 +1,5 @@
--- What the answers of the checks rest on: tests in turn, sums and attributes place by place, and one law for each answer
--- of a width, a direct seniority and a set.
+-- What the answers of the checks rest on: tests in turn, sums and attributes place by place, and one law for each
+-- answer of a width, a direct seniority and a set.
 use Prim.Native.Nat.{ℕ, suc, _+_, _-_, _^_, _≤_, _<_}
 use mathlib.Core.Path.{_≡_, refl}
 use mathlib.Core.Bool.{Bool, false, cond, _&&_, _||_, and-true, and-false, or-false}

@@ -1,5 +1,6 @@
 -- Deciding by the policy and deciding by a listing, for the value of an accepted text and sets of its sides: neither is
--- refused, the one says what the formula and the pairs say, and the other whether the pair of sets stands in the listing.
+-- refused, the one says what the formula and the pairs say, and the other whether the pair of sets stands in the
+-- listing.
 use Prim.Native.Nat.{ℕ, zero, suc, _/_, _%_, _≤_, _<_}
 use mathlib.Core.Path.{_≡_, refl, sym, ap, ap₂, _∙_}
 use mathlib.Core.Bool.{Bool, true, false, false≢true, _&&_, _||_}

@@ -11,8 +11,8 @@ use Rattle.basis.specs.Lists.{all}
 abbrev pub Unmet : List Check → Type 0
 Unmet cs = all (λ c. not (c .broken)) cs ≡ true
 
--- "A refusal is one of these numbers, returned only where its condition holds", and the first in the order of testing: a
--- check of the list has the number and its condition holds, and that of none before it does.
+-- "A refusal is one of these numbers, returned only where its condition holds", and the first in the order of testing:
+-- a check of the list has the number and its condition holds, and that of none before it does.
 pub record Met (cs : List Check) (n : ℕ) : Type 0 where
   pub before : List Check
   pub behind : List Check

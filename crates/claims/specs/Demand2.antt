@@ -1,7 +1,7 @@
 -- Demand 2: "a policy means what the corrected Biswas–Sandhu–Krishnan model says: formulas decide by the sets held, a
 -- tuple grants only on equal sets, alike sets are those no formula parts, sessions hold what the LaBAC rules allow.
--- Writing and reading back gives the same policy; an accepted text is written back unchanged." By document 02 pairs decide
--- and part sets as formulas do.
+-- Writing and reading back gives the same policy; an accepted text is written back unchanged." By document 02 pairs
+-- decide and part sets as formulas do.
 use Prim.Native.Nat.{ℕ, _≤_, _<_}
 use mathlib.Core.Path.{_≡_}
 use mathlib.Core.Bool.{true}

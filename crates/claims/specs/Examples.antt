@@ -146,8 +146,8 @@ manyPairs n =
 abbrev pub pairText : String → List ℕ
 pairText ls = bytes "policy,1\nuattr,1\noattr,1\n" ++ (bytes ls ++ bytes "end\n")
 
--- pairs: "holds V or a senior of it and the object set W or a junior of it", or the formula; an action without either is
--- denied; then 6, 7, 3 and, between 7 and 8, 21
+-- pairs: "holds V or a senior of it and the object set W or a junior of it", or the formula; an action without either
+-- is denied; then 6, 7, 3 and, between 7 and 8, 21
 abbrev pub pairExamples : List Example
 pairExamples =
     let p = policyIs seniorPairs in
@@ -168,8 +168,8 @@ pairExamples =
     ∷ example (textOf p) seniorPairs
     ∷ []
 
--- what the lister writes for the sample text, for one in which a rule and a pair overlap and an action has a pair alone,
--- and for one that is refused
+-- what the lister writes for the sample text, for one in which a rule and a pair overlap and an action has a pair
+-- alone, and for one that is refused
 abbrev pub listerExamples : List Example
 listerExamples =
     example (report (readText (bytes sample)))

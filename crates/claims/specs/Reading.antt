@@ -1,5 +1,5 @@
--- Why a text is accepted or refused: "The first faulty line decides", and "The reader accepts every text that breaks none
--- of 1 to 10", to which document 02 adds 21.
+-- Why a text is accepted or refused: "The first faulty line decides", and "The reader accepts every text that breaks
+-- none of 1 to 10", to which document 02 adds 21.
 use Prim.Native.Nat.{ℕ, _≤_, _<_}
 use mathlib.Core.Path.{_≡_}
 use mathlib.Core.Bool.{Bool, true, false, not, _&&_}

@@ -72,7 +72,7 @@ run p s (w ∷ ws) bs = run p s ws (step p s w bs)
 unfoldable pub truth : Policy → Sets → List Word → Bool
 truth p s ws = top (run p s ws [])
 
--- "An action without a rule: its formula counts as false."
+-- an action without a rule: "its formula counts as false"
 unfoldable pub formulaTrue : Policy → ℕ → Sets → Bool
 formulaTrue p a s = given (formulaIn (p .rules) a) false (truth p s)
 

@@ -25,8 +25,8 @@ pub struct Block {
     pub vectors: [u64; VECTORS],
 }
 
-// What many pairs of sets of a policy are worked out from: where its attributes lie, its user side, and its object sets with
-// their seniors.
+// What many pairs of sets of a policy are worked out from: where its attributes lie, its user side, and its object sets
+// with their seniors.
 pub struct Source {
     pub sides: Attributes,
     pub user: SideValue,

@@ -1,5 +1,5 @@
-// What formulas and pairs decide, at 64 pairs of a user set and an object set at once: bit k of a number is lane k, which
-// stands for one of them.
+// What formulas and pairs decide, at 64 pairs of a user set and an object set at once: bit k of a number is lane k,
+// which stands for one of them.
 ghost use Prim.Native.Nat.{_^_, _<_};
 ghost use mathlib.Core.Path.{_≡_};
 ghost use mathlib.Core.Bool.{true};

@@ -40,7 +40,8 @@ packedWord (Holds (Object v)) = number 6 v 0
 packedWord (Compares (Dominates i j)) = number 7 i j
 packedWord (Compares (Equals i j)) = number 8 i j
 
--- the word that a number stands for where it is no word's number: it names a value that no side has, so check 11 refuses a policy with it
+-- the word that a number stands for where it is no word's number: it names a value that no side has, so check 11
+-- refuses a policy with it
 abbrev pub missing : Word
 missing = Holds (User 255)
 

@@ -88,8 +88,8 @@ fn rules(from: PackedRules) -> Rules
     }; RULE_PLACES];
     let mut i = 0;
     while i < RULE_PLACES {
-        // Most rules of a policy are blank, as the array is. The rule that is unpacked is copied anew: the compiler then need not make
-        // the copy that is only looked at.
+        // Most rules of a policy are blank, as the array is. The rule that is unpacked is copied anew: the compiler
+        // then need not make the copy that is only looked at.
         let looked = packed[i];
         if !is_blank(looked) {
             let r = packed[i];

@@ -31,7 +31,7 @@ use Rattle.policy.specs.declared.value.Entry.{Entry}
 use Rattle.policy.specs.declared.value.Pair.{Pair}
 use Rattle.policy.proofs.Forms.{values-most, actions-most}
 use Rattle.policy.proofs.Rising.{rising, head, rising-at, rising-few}
-use Rattle.policy.proofs.Parts.{lineFits, lineAbove, numberFits, numberAbove, actionAbove, SideParts, RuleParts, rule-parts, Parts, parts, ruleFits, pairIs, pairOver}
+use Rattle.policy.proofs.Parts.{lineFits, lineAbove, numberFits, numberAbove, actionAbove, SideParts, RuleParts, rule-parts, Parts, parts, ruleFits, pairWithin, pairHigher}
 
 -- ---- widths
 
@@ -268,7 +268,7 @@ pair-fits n s x e =
     }
 
 pub pair-bounds : (p : Policy) → Parts p → (x : Pair) → List·Memᴰ x (p .pairs) → PairFit (actions (p .form)) (sizes p) x
-pair-bounds p t x m = pair-fits (actions (p .form)) (sizes p) x (rising-at (pairIs p) pairOver none (p .pairs) (t .pairs) x m)
+pair-bounds p t x m = pair-fits (actions (p .form)) (sizes p) x (rising-at (pairWithin p) pairHigher none (p .pairs) (t .pairs) x m)
 
 -- ---- the lists fit their arrays
 

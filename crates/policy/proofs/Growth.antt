@@ -24,7 +24,7 @@ use Rattle.policy.specs.Inner.Sound.{widthsSound, ruleSound}
 use Rattle.policy.specs.declared.value.Entry.{Entry}
 use Rattle.policy.specs.declared.value.Pair.{Pair}
 use Rattle.policy.proofs.Rising.{rising, rising-more, rising-same}
-use Rattle.policy.proofs.Parts.{lineFits, lineAbove, numberFits, numberAbove, actionAbove, SideParts, Parts, ruleFits, pairIs, pairOver}
+use Rattle.policy.proofs.Parts.{lineFits, lineAbove, numberFits, numberAbove, actionAbove, SideParts, Parts, ruleFits, pairWithin, pairHigher}
 use Rattle.policy.proofs.Bounds.{widths-more}
 use Rattle.policy.proofs.Order.{cut}
 
@@ -82,7 +82,7 @@ more-rules p n ws h f =
 
 -- ---- pairs: a pair's test looks at the form and the sides alone
 
-pair-same : (p : Policy) (xs : List Pair) (x : Pair) → pairIs (withPairs xs p) x ≡ pairIs p x
+pair-same : (p : Policy) (xs : List Pair) (x : Pair) → pairWithin (withPairs xs p) x ≡ pairWithin p x
 unfolding pairFits
 pair-same p xs x = refl
 
@@ -90,11 +90,11 @@ module _ (p : Policy) (n : Numbers) (ws : List Word) (f : Fits PairKind p n ws) 
   abbrev longer : List Pair
   longer = p .pairs ++ (pairIn n ∷ [])
 
-  pub more-pairs : rising (pairIs p) pairOver none (p .pairs) ≡ true → rising (pairIs (withPairs longer p)) pairOver none longer ≡ true
+  pub more-pairs : rising (pairWithin p) pairHigher none (p .pairs) ≡ true → rising (pairWithin (withPairs longer p)) pairHigher none longer ≡ true
   unfolding inRange rises pairRises
   more-pairs h =
-      rw (rising-same (pairIs (withPairs longer p)) (pairIs p) pairOver (pair-same p longer) none longer)
-      (rising-more (pairIs p) pairOver (p .pairs) (pairIn n) h (f .range) (f .rise))
+      rw (rising-same (pairWithin (withPairs longer p)) (pairWithin p) pairHigher (pair-same p longer) none longer)
+      (rising-more (pairWithin p) pairHigher (p .pairs) (pairIn n) h (f .range) (f .rise))
 
   pub few-more : length longer ≤ mostPairs
   few-more = rw (length-snoc (p .pairs) (pairIn n)) (omega (arith, ltb-true (length (p .pairs)) mostPairs (f .room)))

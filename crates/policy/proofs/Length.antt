@@ -33,7 +33,7 @@ use Rattle.policy.specs.Text.{flat, widthLines, directLines, entryLines,
 use Rattle.policy.specs.declared.value.Entry.{Entry}
 use Rattle.policy.specs.declared.value.Pair.{Pair}
 use Rattle.policy.proofs.Forms.{form-few}
-use Rattle.policy.proofs.Parts.{lineFits, lineAbove, numberFits, numberAbove, pairIs, pairOver, SideParts, Parts}
+use Rattle.policy.proofs.Parts.{lineFits, lineAbove, numberFits, numberAbove, pairWithin, pairHigher, SideParts, Parts}
 use Rattle.policy.proofs.Rising.{rising, rising-at}
 use Rattle.policy.proofs.Bounds.{width-bounds, entries-few, rule-bounds, parts-within}
 use Rattle.policy.proofs.Groups.{groups, linesFrom, lines-from}
@@ -193,7 +193,7 @@ module _ (p : Policy) (t : Parts p) (form : isForm (p .form) ≡ true) where
   unfolding mostOf
   pairs-group =
       group PairKind (λ (x : Pair). plain PairKind (threeNumbers (x .action) (x .user) (x .object))) (p .pairs) (t .few-pairs)
-      (λ x m. line-bytes (plain PairKind (threeNumbers (x .action) (x .user) (x .object))) (pair-short p t x (rising-at (pairIs p) pairOver none (p .pairs) (t .pairs) x m)) (omega arith))
+      (λ x m. line-bytes (plain PairKind (threeNumbers (x .action) (x .user) (x .object))) (pair-short p t x (rising-at (pairWithin p) pairHigher none (p .pairs) (t .pairs) x m)) (omega arith))
 
   one-group : (k : Kind) (n : Numbers) → 1 ≤ mostOf k → Shorts n → Group k (plain k n ∷ [])
   unfolding all

@@ -59,13 +59,13 @@ unfolding rulesSound rising
 rules-rising n s b [] = refl
 rules-rising n s b (r ∷ rs) = rw (rules-rising n s (some r) rs)
 
-abbrev pub pairIs : Policy → Pair → Bool
-pairIs p = pairFits (actions (p .form)) (sizes p)
+abbrev pub pairWithin : Policy → Pair → Bool
+pairWithin p = pairFits (actions (p .form)) (sizes p)
 
-abbrev pub pairOver : Pair → Pair → Bool
-pairOver b x = pairAbove x b
+abbrev pub pairHigher : Pair → Pair → Bool
+pairHigher b x = pairAbove x b
 
-pub pairs-rising : (n : ℕ) (s : Sizes) (b : Option Pair) (xs : List Pair) → pairsSound n s b xs ≡ rising (pairFits n s) pairOver b xs
+pub pairs-rising : (n : ℕ) (s : Sizes) (b : Option Pair) (xs : List Pair) → pairsSound n s b xs ≡ rising (pairFits n s) pairHigher b xs
 unfolding pairsSound rising
 pairs-rising n s b [] = refl
 pairs-rising n s b (x ∷ xs) = rw (pairs-rising n s (some x) xs)
@@ -113,7 +113,7 @@ pub record Parts (p : Policy) : Type 0 where
   pub objects : rising (numberFits objectNumbers (p .object)) numberAbove none (p .objects) ≡ true
   pub rules : rising (ruleFits p) actionAbove none (p .rules) ≡ true
   pub few-pairs : length (p .pairs) ≤ mostPairs
-  pub pairs : rising (pairIs p) pairOver none (p .pairs) ≡ true
+  pub pairs : rising (pairWithin p) pairHigher none (p .pairs) ≡ true
 
 pub parts : (p : Policy) → listsSound p ≡ true → Parts p
 unfolding listsSound

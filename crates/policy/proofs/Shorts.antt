@@ -15,7 +15,7 @@ use Rattle.policy.specs.Line.{noNumbers, oneNumber, twoNumbers, threeNum
 use Rattle.policy.specs.declared.value.Entry.{Entry}
 use Rattle.policy.specs.declared.value.Pair.{Pair}
 use Rattle.policy.proofs.Forms.{values-most, actions-most}
-use Rattle.policy.proofs.Parts.{lineFits, numberFits, pairIs, SideParts, Parts}
+use Rattle.policy.proofs.Parts.{lineFits, numberFits, pairWithin, SideParts, Parts}
 use Rattle.policy.proofs.Bounds.{direct-fits, entry-fits, pair-fits, total-few}
 
 abbrev pub Short : ℕ → Type 0
@@ -55,7 +55,7 @@ module _ (form : ℕ) where
         let m = pow-mono (total-few form s h) in
         two-short (e .number) (e .set) (omega (arith, b .0)) (omega (arith, b .1))
 
-pub pair-short : (p : Policy) → Parts p → (x : Pair) → pairIs p x ≡ true → Shorts (threeNumbers (x .action) (x .user) (x .object))
+pub pair-short : (p : Policy) → Parts p → (x : Pair) → pairWithin p x ≡ true → Shorts (threeNumbers (x .action) (x .user) (x .object))
 pair-short p t x f =
     let b = pair-fits (actions (p .form)) (sizes p) x f in
     record {

@@ -29,7 +29,7 @@ use Rattle.policy.specs.Inner.Sound.{widthsSound}
 use Rattle.policy.specs.declared.value.Entry.{Entry}
 use Rattle.policy.specs.declared.value.Pair.{Pair}
 use Rattle.policy.proofs.Forms.{form-few}
-use Rattle.policy.proofs.Parts.{lineFits, lineAbove, numberFits, numberAbove, actionAbove, rule-parts, Parts, parts, Whole, ruleFits, pairIs, pairOver}
+use Rattle.policy.proofs.Parts.{lineFits, lineAbove, numberFits, numberAbove, actionAbove, rule-parts, Parts, parts, Whole, ruleFits, pairWithin, pairHigher}
 use Rattle.policy.proofs.Bounds.{width-head, width-tail, rule-digits}
 use Rattle.policy.proofs.Shorts.{no-short, one-short, width-short, action-short, direct-short, entry-short, pair-short}
 use Rattle.policy.proofs.Order.{reached, May, order-allowed, cut}
@@ -159,7 +159,7 @@ module _ (p : Policy) (t : Parts p) where
   unfolding linesFrom groups cut extended inRange rises pairRises balances
   pair-lines =
       rising-lines mostPairs PairKind (lit≤ tt) (lit< tt) (λ (x : Pair). plain PairKind (threeNumbers (x .action) (x .user) (x .object))) (λ x. refl)
-      (λ xs. withPairs xs p) (λ xs x. refl) (pairIs p) pairOver
+      (λ xs. withPairs xs p) (λ xs x. refl) (pairWithin p) pairHigher
       (λ xs x n f a. record { back = three-back PairKind refl _ _ _ (pair-short p t x f); fits = plain-fits PairKind _ _ f a (lt-ltb (length xs) mostPairs n) refl })
       (p .pairs) (t .pairs) (t .few-pairs) (linesFrom End p) p
 

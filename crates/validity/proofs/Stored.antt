@@ -32,7 +32,7 @@ use Rattle.policy.specs.declared.value.Entry.{Entry}
 use Rattle.policy.specs.declared.value.RuleValue.{RuleValue}
 use Rattle.policy.specs.declared.value.Pair.{Pair}
 use Rattle.policy.proofs.Same.{exact-number, exact-line, exact-entry, exact-slot, exact-pair}
-use Rattle.policy.proofs.Parts.{lineIn, lineAbove, numberIn, numberAbove, pairOver, lines-rising, entries-rising, pairs-rising}
+use Rattle.policy.proofs.Parts.{lineIn, lineAbove, numberIn, numberAbove, pairHigher, lines-rising, entries-rising, pairs-rising}
 use Rattle.policy.proofs.Rising.{rising}
 use Rattle.validity.specs.Inner.{holds, widthsValid, linesValid, registerValid, pairsValid}
 
@@ -116,7 +116,7 @@ module _ (a : ℕ) (s : Sizes) (xs : List Pair) (n : ℕ) (k : length xs ≡ pai
 
   pub pairs-in : n ≤ pairPlaces
       → pairsValid a s (record { count = n; entries = xs })
-      ≡ (all (samePair (pair 0 0 0)) (drop n xs) && rising (pairFits a s) pairOver none (take n xs))
+      ≡ (all (samePair (pair 0 0 0)) (drop n xs) && rising (pairFits a s) pairHigher none (take n xs))
   unfolding pairsValid samePairs pairsValue pairsOf holds
   pairs-in h =
       rw (

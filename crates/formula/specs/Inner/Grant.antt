@@ -27,11 +27,11 @@ unfoldable pub some : (ℕ → Bool) → ℕ → Bool
 some f zero = false
 some f (suc n) = some f n || f n
 
--- of the sets of object values that are paired with each user value: some value of one is held so
+-- the object set holds a value of this set of values, or a junior of it
 abbrev pub partnerHeld : Policy → Sets → ℕ → Bool
 partnerHeld p s set = some (λ w. has set w && holds p s (Object w)) mostValues
 
--- some user value and one of its object values are held so
+-- the user set holds some value, or a senior of it, and the object set one that is paired with it, or a junior of that
 abbrev pub pairedAt : Policy → List ℕ → Sets → Bool
 pairedAt p paired s = some (λ v. holds p s (User v) && partnerHeld p s (getD paired v 0)) mostValues
 

@@ -1,5 +1,5 @@
--- Policies whose lines pass checks 6 to 9 and 21 one after the other, by a test for each list. Reading yields exactly these,
--- and check 11 tests for them; nothing here is needed to say what reading or check 11 means.
+-- Policies whose lines pass checks 6 to 9 and 21 one after the other, by a test for each list. Reading yields exactly
+-- these, and check 11 tests for them; nothing here is needed to say what reading or check 11 means.
 use Prim.Native.Nat.{ℕ, _+_}
 use mathlib.Core.Bool.{Bool, true, _&&_}
 use mathlib.Core.List.{List, [], _∷_}

@@ -1,5 +1,5 @@
--- `report::counts::count_labels` meets its contract: compiling gives NU and NO, since the buffers are long enough for any
--- policy.
+-- `report::counts::count_labels` meets its contract: compiling gives NU and NO, since the buffers are long enough for
+-- any policy.
 use Prim.Native.Nat.{ℕ}
 use mathlib.Core.Path.{_≡_, ap}
 use mathlib.Core.Bool.{true}

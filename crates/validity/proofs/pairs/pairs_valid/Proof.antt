@@ -10,7 +10,7 @@ use Rattle.policy.specs.Policy.{pair}
 use Rattle.policy.specs.Checks.{pairFits}
 use Rattle.policy.specs.Value.{pairPlaces}
 use Rattle.policy.specs.Valid.{samePair}
-use Rattle.policy.proofs.Parts.{pairOver}
+use Rattle.policy.proofs.Parts.{pairHigher}
 use Rattle.checks.specs.Inner.{bothIn}
 use Rattle.validity.specs.Inner.{pairsValid}
 use Rattle.validity.proofs.Blank.{BlankTo, blank-all, blank-more}
@@ -21,7 +21,7 @@ use Rattle.validity.proofs.pairs.pairs_valid.Tie as tie
 
 abbrev Inv-loop : tie.InvT-loop
 Inv-loop actions user object n pairs last₀ i₀ last i =
-    Risen (pairsValid actions (bothIn user object) (record { count = n; entries = pairs })) (samePair (pair 0 0 0)) (pairFits actions (bothIn user object)) (λ x. x) pairOver pairs pairPlaces n i last
+    Risen (pairsValid actions (bothIn user object) (record { count = n; entries = pairs })) (samePair (pair 0 0 0)) (pairFits actions (bothIn user object)) (λ x. x) pairHigher pairs pairPlaces n i last
 
 abbrev μ-loop : tie.MeasureT-loop
 μ-loop actions user object n pairs last₀ i₀ last i = n - i
