@@ -9,7 +9,7 @@ use native.Mathlib.Omega.{arith}
 use borrow.Author.Tests.{ltb-true, ltb-false, leb-true, eqb-true}
 use lib.Dec.{eqb, leb, ltb}
 use lib.ListN.{length}
-use Rattle.basis.specs.Choice.{given, Check, firstBroken}
+use Rattle.basis.specs.Choice.{given, Check}
 use Rattle.basis.specs.Lists.{all}
 use Rattle.basis.proofs.Bools.{and-left, and-right, or-cases}
 use Rattle.text.specs.Parts.{TextLine, lines}
