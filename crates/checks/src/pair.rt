@@ -1,7 +1,7 @@
 // Pairs against both sides, and against the pair before.
 ghost use mathlib.Core.Path.{_≡_};
-ghost use mathlib.Core.Bool.{_&&_};
-ghost use lib.Dec.{ltb};
+ghost use mathlib.Core.Bool.{_&&_, _||_};
+ghost use lib.Dec.{eqb, ltb};
 ghost use Rattle.policy.specs.Checks.{pairAbove};
 use policy::value::Pair;
 
@@ -18,8 +18,8 @@ pub fn fits(actions: u32, users: u32, objects: u32, pair: Pair) -> bool
     false
 }
 
-// Check 7 of a pair after another.
-pub fn above(last: Pair, pair: Pair) -> bool
+// Whether a pair stands above another.
+fn above(last: Pair, pair: Pair) -> bool
     ensures { λ r. ⌜ r ≡ pairAbove pair last ⌝ }
 {
     if last.action == pair.action {
@@ -29,4 +29,14 @@ pub fn above(last: Pair, pair: Pair) -> bool
         return last.user < pair.user;
     }
     last.action < pair.action
+}
+
+// Check 7 of a pair behind `count` others, with the last of them.
+pub fn rises(count: usize, last: Pair, pair: Pair) -> bool
+    ensures { λ r. ⌜ r ≡ (eqb count 0 || pairAbove pair last) ⌝ }
+{
+    if count == 0 {
+        return true;
+    }
+    above(last, pair)
 }

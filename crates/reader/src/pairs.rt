@@ -1,8 +1,5 @@
 // The pairs of a text.
 ghost use mathlib.Core.Path.{_≡_};
-ghost use mathlib.Core.Bool.{_||_};
-ghost use lib.Dec.{eqb};
-ghost use Rattle.policy.specs.Checks.{pairAbove};
 ghost use Rattle.reader.specs.Inner.Cursor.{Stands};
 ghost use Rattle.reader.specs.Inner.Lists.{faultBy, PairsFrom};
 use crate::cursor::Cursor;
@@ -16,16 +13,6 @@ use text::kind::Kind;
 pub struct PairsRead {
     pub pairs: Pairs,
     pub cursor: Cursor,
-}
-
-// Check 7 of a pair behind `count` others, with the last of them.
-fn rises(count: usize, last: Pair, pair: Pair) -> bool
-    ensures { λ r. ⌜ r ≡ (eqb count 0 || pairAbove pair last) ⌝ }
-{
-    if count == 0 {
-        return true;
-    }
-    checks::pair::above(last, pair)
 }
 
 // What the line of a pair breaks, in the order of testing: refusals 6, 7 and 21.
@@ -64,7 +51,7 @@ pub fn read(text: &[u8], cursor: Cursor, actions: u32, users: u32, objects: u32)
             object: c.numbers.third,
         };
         let fits = checks::pair::fits(actions, users, objects, pair);
-        let rising = rises(count, last, pair);
+        let rising = checks::pair::rises(count, last, pair);
         let room = count < PAIR_PLACES;
         let f = fault(fits, rising, room);
         if let Fault::Is(r) = f {

@@ -2,8 +2,7 @@
 ghost use mathlib.Core.Path.{_≡_};
 ghost use mathlib.Core.Bool.{_||_};
 ghost use lib.Dec.{eqb, ltb};
-ghost use Rattle.policy.specs.Checks.{directAbove, pairAbove};
-use policy::value::Pair;
+ghost use Rattle.policy.specs.Checks.{directAbove};
 use seniority::Direct;
 
 // Check 7 of a user, an object or a rule.
@@ -24,14 +23,4 @@ pub fn direct_rises(i: usize, last: Direct, l: Direct) -> bool
         return true;
     }
     checks::side::direct_above(last, l.senior, l.junior)
-}
-
-// Check 7 of a pair.
-pub fn pair_rises(i: usize, last: Pair, x: Pair) -> bool
-    ensures { λ r. ⌜ r ≡ (eqb i 0 || pairAbove x last) ⌝ }
-{
-    if i == 0 {
-        return true;
-    }
-    checks::pair::above(last, x)
 }

@@ -44,7 +44,7 @@ pub fn pairs_valid(
         if !checks::pair::fits(actions, user.total, object.total, x) {
             return false;
         }
-        if !crate::order::pair_rises(i, last, x) {
+        if !checks::pair::rises(i, last, x) {
             return false;
         }
         last = x;

@@ -51,14 +51,14 @@ returns-2 : tie.Need-returns-2 Inv-loop μ-loop Inv-loop2 μ-loop2
 unfolding pairFits
 returns-2 c = risen-unfit (c .before .before .before .before .loop .inv) (pair 0 0 0) (search needs) (c .before .fits2 .ensures) (not-true _ (c .if2 .taken))
 
-pair-rises-requires : tie.Need-pair-rises-requires Inv-loop μ-loop Inv-loop2 μ-loop2
-pair-rises-requires c κs = search needs
+rises-requires : tie.Need-rises-requires Inv-loop μ-loop Inv-loop2 μ-loop2
+rises-requires c κs = search needs
 
 returns-3 : tie.Need-returns-3 Inv-loop μ-loop Inv-loop2 μ-loop2
 unfolding pairFits
 returns-3 c =
     risen-falls (c .before .before .before .before .before .before .loop .inv) (pair 0 0 0) (search needs)
-    (c .before .before .before .fits2 .ensures) (not-false _ (c .before .before .if2 .left)) (c .before .pair-rises .ensures) (not-true _ (c .if3 .taken))
+    (c .before .before .before .fits2 .ensures) (not-false _ (c .before .before .if2 .left)) (c .before .rises .ensures) (not-true _ (c .if3 .taken))
 
 add-i : tie.Need-add-i Inv-loop μ-loop Inv-loop2 μ-loop2
 add-i c = search needs
@@ -70,7 +70,7 @@ loop-again : tie.Need-loop-again Inv-loop μ-loop Inv-loop2 μ-loop2
 unfolding pairFits
 loop-again c =
     risen-more (c .before .before .before .before .before .before .loop .inv) (pair 0 0 0) (search needs)
-    (c .before .before .before .fits2 .ensures) (not-false _ (c .before .before .if2 .left)) (c .before .pair-rises .ensures) (not-false _ (c .if3 .left))
+    (c .before .before .before .fits2 .ensures) (not-false _ (c .before .before .if2 .left)) (c .before .rises .ensures) (not-false _ (c .if3 .left))
 
 loop2-holds : tie.Need-loop2-holds Inv-loop μ-loop Inv-loop2 μ-loop2
 loop2-holds c = risen-blank (c .before .loop .inv) (c .loop-test .left)
@@ -113,7 +113,7 @@ pairs-valid-spec =
     array-copy-out-x
     fits-requires
     returns-2
-    pair-rises-requires
+    rises-requires
     returns-3
     add-i
     loop-less

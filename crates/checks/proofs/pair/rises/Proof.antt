@@ -1,8 +1,8 @@
--- `reader::pairs::rises` meets its contract.
+-- `checks::pair::rises` meets its contract: the first rises, and a later one where it stands above the last.
 use borrow.Author.Needs.{needs}
 use borrow.Author.Tests.{eq-eqb, ne-eqb}
-use Rattle.reader.proofs.pairs.rises.Statement.{statement}
-use Rattle.reader.proofs.pairs.rises.Tie as tie
+use Rattle.checks.proofs.pair.rises.Statement.{statement}
+use Rattle.checks.proofs.pair.rises.Tie as tie
 
 returns : tie.Need-returns
 returns c = search eq-eqb
