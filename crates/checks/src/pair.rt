@@ -1,13 +1,13 @@
 // Pairs against both sides, and against the pair before.
 ghost use mathlib.Core.Path.{_≡_};
-ghost use mathlib.Core.Bool.{_&&_, _||_};
-ghost use lib.Dec.{eqb, ltb};
-ghost use Rattle.policy.specs.Checks.{pairAbove};
+ghost use mathlib.Core.Bool.{_||_};
+ghost use lib.Dec.{eqb};
+ghost use Rattle.policy.specs.Checks.{pairFits, pairAbove};
 use policy::value::Pair;
 
 // Check 6 of a pair, with so many actions, user values and object values.
 pub fn fits(actions: u32, users: u32, objects: u32, pair: Pair) -> bool
-    ensures { λ r. ⌜ r ≡ (ltb (pair .action) actions && (ltb (pair .user) users && ltb (pair .object) objects)) ⌝ }
+    ensures { λ r. ⌜ r ≡ pairFits actions users objects pair ⌝ }
 {
     if pair.action < actions {
         if pair.user < users {

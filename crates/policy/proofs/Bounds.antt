@@ -24,7 +24,7 @@ use Rattle.words.specs.declared.Comparison.the-variants.{Dominates, Equals}
 use Rattle.words.specs.Inner.{inDigits}
 use Rattle.policy.specs.Limits.{values, actions, mostValues, userNumbers, objectNumbers, mostLines}
 use Rattle.policy.specs.Policy.{Side, Rule, Policy, total, sets, attributeOf}
-use Rattle.policy.specs.Checks.{SideSizes, Sizes, sideSizes, sizes, widthFits, directFits, entryFits, pairFits, bothThere, wordFits}
+use Rattle.policy.specs.Checks.{SideSizes, sideSizes, sizes, widthFits, directFits, entryFits, pairFits, bothThere, wordFits}
 use Rattle.policy.specs.Value.{widthPlaces, entryPlaces, rulePlaces, pairPlaces, linePlaces}
 use Rattle.policy.specs.Inner.Sound.{widthsSound, listsSound}
 use Rattle.policy.specs.declared.value.Entry.{Entry}
@@ -252,23 +252,23 @@ module _ (p : Policy) (t : Parts p) where
 -- ---- pairs
 
 -- A, V and W of a line that passes check 6
-pub record PairFit (n : ℕ) (s : Sizes) (x : Pair) : Type 0 where
+pub record PairFit (n u o : ℕ) (x : Pair) : Type 0 where
   pub action : x .action < n
-  pub user : x .user < s .user .values
-  pub object : x .object < s .object .values
+  pub user : x .user < u
+  pub object : x .object < o
 
-pub pair-fits : (n : ℕ) (s : Sizes) (x : Pair) → pairFits n s x ≡ true → PairFit n s x
+pub pair-fits : (n u o : ℕ) (x : Pair) → pairFits n u o x ≡ true → PairFit n u o x
 unfolding pairFits
-pair-fits n s x e =
+pair-fits n u o x e =
     let e₁ = and-right (ltb (x .action) n) _ e in
     record {
       action = ltb-true _ _ (and-left (ltb (x .action) n) _ e);
-      user = ltb-true _ _ (and-left (ltb (x .user) (s .user .values)) _ e₁);
-      object = ltb-true _ _ (and-right (ltb (x .user) (s .user .values)) _ e₁);
+      user = ltb-true _ _ (and-left (ltb (x .user) u) _ e₁);
+      object = ltb-true _ _ (and-right (ltb (x .user) u) _ e₁);
     }
 
-pub pair-bounds : (p : Policy) → Parts p → (x : Pair) → List·Memᴰ x (p .pairs) → PairFit (actions (p .form)) (sizes p) x
-pair-bounds p t x m = pair-fits (actions (p .form)) (sizes p) x (rising-at (pairWithin p) pairHigher none (p .pairs) (t .pairs) x m)
+pub pair-bounds : (p : Policy) → Parts p → (x : Pair) → List·Memᴰ x (p .pairs) → PairFit (actions (p .form)) (total (p .user)) (total (p .object)) x
+pair-bounds p t x m = pair-fits (actions (p .form)) (total (p .user)) (total (p .object)) x (rising-at (pairWithin p) pairHigher none (p .pairs) (t .pairs) x m)
 
 -- ---- the lists fit their arrays
 

@@ -60,12 +60,12 @@ rules-rising n s b [] = refl
 rules-rising n s b (r ∷ rs) = rw (rules-rising n s (some r) rs)
 
 abbrev pub pairWithin : Policy → Pair → Bool
-pairWithin p = pairFits (actions (p .form)) (sizes p)
+pairWithin p = pairFits (actions (p .form)) (total (p .user)) (total (p .object))
 
 abbrev pub pairHigher : Pair → Pair → Bool
 pairHigher b x = pairAbove x b
 
-pub pairs-rising : (n : ℕ) (s : Sizes) (b : Option Pair) (xs : List Pair) → pairsSound n s b xs ≡ rising (pairFits n s) pairHigher b xs
+pub pairs-rising : (n : ℕ) (s : Sizes) (b : Option Pair) (xs : List Pair) → pairsSound n s b xs ≡ rising (pairFits n (s .user .values) (s .object .values)) pairHigher b xs
 unfolding pairsSound rising
 pairs-rising n s b [] = refl
 pairs-rising n s b (x ∷ xs) = rw (pairs-rising n s (some x) xs)

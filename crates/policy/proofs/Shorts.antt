@@ -9,8 +9,8 @@ use Rattle.seniority.specs.declared.Direct.{Direct}
 use Rattle.text.specs.Number.{mostDigits}
 use Rattle.text.specs.declared.number.Numbers.{Numbers}
 use Rattle.policy.specs.Limits.{values, actions, objectNumbers}
-use Rattle.policy.specs.Policy.{Side, Policy}
-use Rattle.policy.specs.Checks.{sideSizes, sizes}
+use Rattle.policy.specs.Policy.{Side, Policy, total}
+use Rattle.policy.specs.Checks.{sideSizes}
 use Rattle.policy.specs.Line.{noNumbers, oneNumber, twoNumbers, threeNumbers}
 use Rattle.policy.specs.declared.value.Entry.{Entry}
 use Rattle.policy.specs.declared.value.Pair.{Pair}
@@ -57,7 +57,7 @@ module _ (form : ℕ) where
 
 pub pair-short : (p : Policy) → Parts p → (x : Pair) → pairWithin p x ≡ true → Shorts (threeNumbers (x .action) (x .user) (x .object))
 pair-short p t x f =
-    let b = pair-fits (actions (p .form)) (sizes p) x f in
+    let b = pair-fits (actions (p .form)) (total (p .user)) (total (p .object)) x f in
     record {
       first = omega (arith, b .action, actions-most (p .form));
       second = omega (arith, b .user, total-few (p .form) (p .user) (t .user));

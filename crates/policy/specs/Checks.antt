@@ -61,9 +61,9 @@ directFits s v j =
 unfoldable pub entryFits : ℕ → ℕ → ℕ → ℕ → Bool
 entryFits most u n set = ltb n most && ltb set (2 ^ u)
 
--- "with the ranges of user and object values": action A of n, user value V, object value W
-unfoldable pub pairFits : ℕ → Sizes → Pair → Bool
-pairFits n s x = ltb (x .action) n && (ltb (x .user) (s .user .values) && ltb (x .object) (s .object .values))
+-- "with the ranges of user and object values": one of n actions, of u user values and of o object values
+unfoldable pub pairFits : (n u o : ℕ) → Pair → Bool
+pairFits n u o x = ltb (x .action) n && (ltb (x .user) u && ltb (x .object) o)
 
 -- both attributes are there
 abbrev pub bothThere : Sizes → ℕ → ℕ → Bool
@@ -95,7 +95,7 @@ inRange Osen form s n ws = directFits (s .object) (n .first) (n .second)
 inRange User form s n ws = entryFits userNumbers (s .user .values) (n .first) (n .second)
 inRange Object form s n ws = entryFits objectNumbers (s .object .values) (n .first) (n .second)
 inRange RuleKind form s n ws = ltb (n .first) (actions form) && all (wordFits s) ws
-inRange PairKind form s n ws = pairFits (actions form) s (pairIn n)
+inRange PairKind form s n ws = pairFits (actions form) (s .user .values) (s .object .values) (pairIn n)
 inRange End form s n ws = true
 
 -- ---- 7: "The line does not rise above the last of its kind."

@@ -1,7 +1,7 @@
 -- The pairs of a text, line by line.
 use Prim.Native.Nat.{ℕ, _<_}
 use mathlib.Core.Path.{_≡_, refl, sym, ap, _∙_}
-use mathlib.Core.Bool.{Bool, true, false, _&&_, _||_}
+use mathlib.Core.Bool.{Bool, true, false, _||_}
 use mathlib.Core.List.{List, [], _∷_, _++_}
 use native.Mathlib.Omega.{arith}
 use borrow.Author.Tests.{ltb-true}
@@ -11,7 +11,7 @@ use Rattle.basis.specs.Lists.{last}
 use Rattle.basis.proofs.Snoc.{last-snoc}
 use Rattle.text.specs.Kind.{placeOf}
 use Rattle.text.specs.declared.kind.Kind.the-variants.{Pair as PairKind}
-use Rattle.policy.specs.Checks.{pairIn, pairAbove, pairRises}
+use Rattle.policy.specs.Checks.{pairFits, pairIn, pairAbove, pairRises}
 use Rattle.policy.specs.Limits.{mostPairs}
 use Rattle.policy.specs.Policy.{pair}
 use Rattle.policy.specs.Value.{pairPlaces, pairsValue}
@@ -60,7 +60,7 @@ module _ {t : List ℕ} {n u o : ℕ} {c : Cursor} {x : Pairs} {z : Pair} {d : C
   abbrev here : Pair
   here = pairIn (d .numbers)
 
-  module _ (f : Bool) (e : f ≡ (ltb (here .action) n && (ltb (here .user) u && ltb (here .object) o))) (s : Bool) (i : s ≡ (eqb (x .count) 0 || pairAbove here z))
+  module _ (f : Bool) (e : f ≡ pairFits n u o here) (s : Bool) (i : s ≡ (eqb (x .count) 0 || pairAbove here z))
       (w : LineFault) (v : w ≡ faultBy f s (ltb (x .count) mostPairs)) where
     -- a pair that breaks nothing finds a free place
     pub pair-room : w ≡ None → x .count < pairPlaces
@@ -70,7 +70,7 @@ module _ {t : List ℕ} {n u o : ℕ} {c : Cursor} {x : Pairs} {z : Pair} {d : C
     unfolding pairRises
     here-rises = rises-last (pair 0 0 0) (pairAbove here) (h .pairs) ∙ rw (count-is, ← h .final) (sym i)
 
-    here-fault : faultBy (ltb (here .action) n && (ltb (here .user) u && ltb (here .object) o)) (pairRises (h .pairs) here) (ltb (length (h .pairs)) mostPairs) ≡ w
+    here-fault : faultBy (pairFits n u o here) (pairRises (h .pairs) here) (ltb (length (h .pairs)) mostPairs) ≡ w
     here-fault = rw (← e, here-rises, count-is) (sym v)
 
     module _ (a : Bool) (j : a ≡ aheadIs (d .ahead) PairKind) (y : a ≡ true) (b : Cursor) where

@@ -4,7 +4,7 @@ use Prim.Native.Nat.{ℕ}
 use Rattle.seniority.specs.Seniority.{direct}
 use Rattle.seniority.specs.declared.Direct.{Direct}
 use Rattle.text.specs.declared.kind.Kind.the-variants.{Uattr, Oattr, Usen, Osen, User, Object, Rule as RuleKind, Pair as PairKind}
-use Rattle.policy.specs.Checks.{SideSizes, sideSizes, directFits, pairFits, pairIn, inRange, directRises, ruleRises, rises, withUser, withObject, withUsers, withObjects, withRules, withPairs, extended}
+use Rattle.policy.specs.Checks.{SideSizes, sideSizes, directFits, pairIn, inRange, directRises, ruleRises, rises, withUser, withObject, withUsers, withObjects, withRules, withPairs, extended}
 use Rattle.policy.specs.Limits.{values, actions, userNumbers, objectNumbers}
 use Rattle.policy.specs.Policy.{Rule, Policy, total}
 use Rattle.policy.specs.declared.value.Entry.{Entry}
@@ -172,5 +172,5 @@ pairs =
     }
 
 pub pair : {p : Policy} {n u o : ℕ} → actions (p .form) ≡ n → total (p .user) ≡ u → total (p .object) ≡ o → TestedBy PairKind (pairTest n u o) pairs p
-unfolding pairs inRange pairFits rises
+unfolding pairs inRange rises
 pair e f g = record { layout = three-wordless; said = λ n ws. refl; range = λ xs n. rw (e, f, g); rise = λ xs n. refl; space = λ xs. refl }

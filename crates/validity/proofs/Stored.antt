@@ -116,7 +116,7 @@ module _ (a : ℕ) (s : Sizes) (xs : List Pair) (n : ℕ) (k : length xs ≡ pai
 
   pub pairs-in : n ≤ pairPlaces
       → pairsValid a s (record { count = n; entries = xs })
-      ≡ (all (samePair (pair 0 0 0)) (drop n xs) && rising (pairFits a s) pairHigher none (take n xs))
+      ≡ (all (samePair (pair 0 0 0)) (drop n xs) && rising (pairFits a (s .user .values) (s .object .values)) pairHigher none (take n xs))
   unfolding pairsValid samePairs pairsValue pairsOf holds
   pairs-in h =
       rw (

@@ -45,7 +45,8 @@ rulesSound n s before (r ∷ rs) = ruleSound n s r && (given before true (λ b. 
 -- pairs after another, where there are n actions
 unfoldable pub pairsSound : ℕ → Sizes → Option Pair → List Pair → Bool
 pairsSound n s before [] = true
-pairsSound n s before (x ∷ xs) = pairFits n s x && (given before true (pairAbove x) && pairsSound n s (some x) xs)
+pairsSound n s before (x ∷ xs) =
+    pairFits n (s .user .values) (s .object .values) x && (given before true (pairAbove x) && pairsSound n s (some x) xs)
 
 unfoldable pub sideSound : ℕ → Side → Bool
 sideSound most s = widthsSound most 0 (s .widths) && linesSound (sideSizes s) none (s .lines)

@@ -1,7 +1,7 @@
 -- The lines of one kind, which stand together in a text, as a list of a policy: what the functions that read it go by.
 use Prim.Native.Nat.{ℕ, suc, _≤_}
 use mathlib.Core.Path.{_≡_}
-use mathlib.Core.Bool.{Bool, true, cond, _&&_}
+use mathlib.Core.Bool.{Bool, true, cond}
 use mathlib.Core.List.{List, [], _∷_, _++_}
 use lib.Dec.{ltb}
 use lib.ListN.{length}
@@ -15,7 +15,7 @@ use Rattle.text.specs.declared.kind.Kind.the-variants.{Policy as PolicyKind, Os
 use Rattle.text.specs.declared.kind.Layout.{Layout}
 use Rattle.text.specs.declared.number.Numbers.{Numbers}
 use Rattle.words.specs.declared.Word.{Word}
-use Rattle.policy.specs.Checks.{SideSizes, Sizes, sizes, widthFits, directFits, directAbove, entryFits, entryRises, pairIn, pairRises, pairRoom, inRange, rises, balances, withForm, extended}
+use Rattle.policy.specs.Checks.{SideSizes, Sizes, sizes, widthFits, directFits, directAbove, entryFits, entryRises, pairFits, pairIn, pairRises, pairRoom, inRange, rises, balances, withForm, extended}
 use Rattle.policy.specs.Limits.{mostValues, mostPairs}
 use Rattle.policy.specs.Line.{formFits, wordsOf}
 use Rattle.policy.specs.Policy.{Side, Rule, Policy}
@@ -165,7 +165,7 @@ abbrev pub pairTest : (n u o : ℕ) → Test Pair
 pairTest n u o =
     record {
       says = pairIn;
-      fits = λ xs x. ltb (x .action) n && (ltb (x .user) u && ltb (x .object) o);
+      fits = λ xs. pairFits n u o;
       rises = pairRises;
       room = λ xs. ltb (length xs) mostPairs;
     }

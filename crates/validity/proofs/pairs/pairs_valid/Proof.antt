@@ -21,7 +21,7 @@ use Rattle.validity.proofs.pairs.pairs_valid.Tie as tie
 
 abbrev Inv-loop : tie.InvT-loop
 Inv-loop actions user object n pairs last₀ i₀ last i =
-    Risen (pairsValid actions (bothIn user object) (record { count = n; entries = pairs })) (samePair (pair 0 0 0)) (pairFits actions (bothIn user object)) (λ x. x) pairHigher pairs pairPlaces n i last
+    Risen (pairsValid actions (bothIn user object) (record { count = n; entries = pairs })) (samePair (pair 0 0 0)) (pairFits actions (user .total) (object .total)) (λ x. x) pairHigher pairs pairPlaces n i last
 
 abbrev μ-loop : tie.MeasureT-loop
 μ-loop actions user object n pairs last₀ i₀ last i = n - i
@@ -48,14 +48,12 @@ fits-requires : tie.Need-fits-requires Inv-loop μ-loop Inv-loop2 μ-loop2
 fits-requires c κs = search needs
 
 returns-2 : tie.Need-returns-2 Inv-loop μ-loop Inv-loop2 μ-loop2
-unfolding pairFits
 returns-2 c = risen-unfit (c .before .before .before .before .loop .inv) (pair 0 0 0) (search needs) (c .before .fits2 .ensures) (not-true _ (c .if2 .taken))
 
 rises-requires : tie.Need-rises-requires Inv-loop μ-loop Inv-loop2 μ-loop2
 rises-requires c κs = search needs
 
 returns-3 : tie.Need-returns-3 Inv-loop μ-loop Inv-loop2 μ-loop2
-unfolding pairFits
 returns-3 c =
     risen-falls (c .before .before .before .before .before .before .loop .inv) (pair 0 0 0) (search needs)
     (c .before .before .before .fits2 .ensures) (not-false _ (c .before .before .if2 .left)) (c .before .rises .ensures) (not-true _ (c .if3 .taken))
@@ -67,7 +65,6 @@ loop-less : tie.Need-loop-less Inv-loop μ-loop Inv-loop2 μ-loop2
 loop-less c = search needs
 
 loop-again : tie.Need-loop-again Inv-loop μ-loop Inv-loop2 μ-loop2
-unfolding pairFits
 loop-again c =
     risen-more (c .before .before .before .before .before .before .loop .inv) (pair 0 0 0) (search needs)
     (c .before .before .before .fits2 .ensures) (not-false _ (c .before .before .if2 .left)) (c .before .rises .ensures) (not-false _ (c .if3 .left))
