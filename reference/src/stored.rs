@@ -157,6 +157,26 @@ pub(crate) fn example_cases() -> Vec<(String, String)> {
         cases.push((text, read_as(answer)));
     }
     cases.extend(pairs::example_cases());
+    cases.extend(greatest_sets());
+    cases
+}
+
+/// For each number of values, the same on both sides: the greatest sets there
+/// are, and one too great on either side.
+fn greatest_sets() -> Vec<(String, String)> {
+    let mut cases = Vec::new();
+    for values in 1..=7 {
+        let mask = 2u32.pow(values) - 1;
+        for (user, object, answer) in [
+            (mask, mask, "Y"),
+            (mask + 1, mask, "R,6,3"),
+            (mask, mask + 1, "R,6,4"),
+        ] {
+            let sides = format!("uattr,{values}\noattr,{values}\n");
+            let text = format!("policy,1\n{sides}user,0,{user}\nobject,0,{object}\nend\n");
+            cases.push((text, read_as(answer)));
+        }
+    }
     cases
 }
 

@@ -24,6 +24,6 @@ minus a b = bitXor a (bitAnd a b)
 abbrev pub within : ℕ → ℕ → Bool
 within a b = eqb (bitAnd a b) a
 
--- "the masks of the first k values": the set of all values below k
+-- "masks of the first k values .. worked out as 2^k − 1": the set of all values below k, as `has-mask` says
 abbrev pub mask : ℕ → ℕ
 mask k = 2 ^ k - 1

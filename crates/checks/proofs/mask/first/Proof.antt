@@ -1,31 +1,23 @@
--- `checks::mask::first` meets its contract: entry k of the table is 2^k - 1, by one test of the whole table.
-use mathlib.Core.Path.{_≡_}
-use mathlib.Core.Bool.{true}
-use mathlib.Core.List.{List}
-use Prim.Native.Nat.{ℕ, suc, _≤_}
+-- `checks::mask::first` meets its contract: a side has fewer values than a number has bits, so that 2^k fits into one.
+use Prim.Native.Nat.{ℕ, _^_, _≤_, _<_}
 use native.Mathlib.Omega.{arith}
-use lib.Dec.{eqb}
-use lib.ListN.{length, getD}
+use lib.Pow.{pow-pos, pow-lt}
 use borrow.Author.Needs.{needs}
-use borrow.Author.Tests.{eqb-true}
-use Rattle.basis.proofs.Table.{everyEntry, at}
-use Rattle.sets.specs.Set.{mask}
 use Rattle.policy.specs.Limits.{mostValues}
 use Rattle.checks.proofs.mask.first.Statement.{statement}
 use Rattle.checks.proofs.mask.first.Tie as tie
 
-mul-result : tie.Need-mul-result
-mul-result c = search needs
+power-fits : (k : ℕ) → k ≤ mostValues → 2 ^ k < 2 ^ 32
+power-fits k h = pow-lt {i = k} {j = 32} (omega arith)
 
-array-read-result : tie.Need-array-read-result
-array-read-result c = search needs
+shl-result : tie.Need-shl-result
+shl-result c = search needs
 
--- a table for every number of values that passes the test has the mask of k at place k
-masked : (xs : List ℕ) (k : ℕ) → everyEntry (λ i x. eqb x (mask i)) 0 xs ≡ true → length xs ≡ suc mostValues → k ≤ mostValues → getD xs k 0 ≡ mask k
-masked xs k e l h = eqb-true (getD xs k 0) (mask k) (at (λ i x. eqb x (mask i)) 0 xs e k (omega arith))
+sub-result : tie.Need-sub-result
+sub-result c = omega (arith, power-fits (c .args .k) (c .pre), pow-pos (c .args .k))
 
 returns : tie.Need-returns
-returns c = search masked
+returns c = omega (arith, power-fits (c .args .k) (c .pre))
 
 pub first-spec : {M : Type 1} → statement M
-first-spec = tie.close (tie.spec mul-result array-read-result returns)
+first-spec = tie.close (tie.spec shl-result sub-result returns)
