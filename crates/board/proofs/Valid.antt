@@ -12,10 +12,10 @@ use Rattle.policy.specs.Limits.{values, userNumbers}
 use Rattle.policy.specs.Policy.{Side, sets, setOfNumber}
 use Rattle.policy.specs.Value.{entryPlaces, policyOf, sideValue, register, valueOf}
 use Rattle.policy.specs.Valid.{valid}
+use Rattle.policy.specs.Inner.Sound.{rising, numberAbove}
 use Rattle.policy.specs.declared.value.Entry.{Entry}
 use Rattle.policy.specs.declared.value.PolicyValue.{PolicyValue}
-use Rattle.policy.proofs.Parts.{numberFits, numberAbove, Parts, parts, whole}
-use Rattle.policy.proofs.Rising.{rising}
+use Rattle.policy.proofs.Parts.{numberFits, Parts, parts, whole}
 use Rattle.policy.proofs.Bounds.{Within, total-few, lines-ordered, entry-bounds, parts-within, sound-within}
 use Rattle.policy.proofs.Valid.{valid-stored}
 use Rattle.board.specs.Inner.{Reachable}

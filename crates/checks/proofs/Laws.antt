@@ -1,5 +1,5 @@
 -- What the answers of the checks rest on: tests in turn, sums and attributes place by place, and one law for each
--- answer of a width, a direct seniority and a set.
+-- answer of a width, a direct seniority, a set and a conflict.
 use Prim.Native.Nat.{ℕ, suc, _+_, _-_, _^_, _≤_, _<_}
 use mathlib.Core.Path.{_≡_, refl}
 use mathlib.Core.Bool.{Bool, false, cond, _&&_, _||_, and-true, and-false, or-false}
@@ -14,8 +14,10 @@ use Rattle.basis.specs.Lists.{sum}
 use Rattle.basis.proofs.Bools.{both-ways}
 use Rattle.basis.proofs.Walk.{part-next, part-end}
 use Rattle.sets.specs.Set.{mask}
+use Rattle.policy.specs.Limits.{mostTogether}
 use Rattle.policy.specs.Policy.{Side, total, attributeOf}
-use Rattle.policy.specs.Checks.{sideSizes, widthFits, directFits, entryFits}
+use Rattle.policy.specs.Checks.{sideSizes, widthFits, directFits, entryFits, conflictFits}
+use Rattle.policy.specs.declared.value.Conflict.{Conflict}
 use Rattle.checks.specs.Inner.{sizesIn, shapeOf}
 use Rattle.checks.specs.declared.side.Shape.{Shape}
 
@@ -105,7 +107,7 @@ module _ (x : Shape) (v j : ℕ) where
   unfolding directFits
   direct-out h = rw (le-ltb v (x .total) h)
 
--- ---- a user or an object
+-- ---- a set of a side of k values
 
 -- a set is below 2^k where it is at most the mask
 at-most-mask : (s k : ℕ) → leb s (mask k) ≡ ltb s (2 ^ k)
@@ -113,6 +115,8 @@ at-most-mask s k =
     both-ways (leb s (2 ^ k - 1)) (ltb s (2 ^ k))
     (λ e. lt-ltb s (2 ^ k) (omega (arith, leb-true s (2 ^ k - 1) e, pow-pos k)))
     (λ e. le-leb s (2 ^ k - 1) (omega (arith, ltb-true s (2 ^ k) e)))
+
+-- ---- a user or an object
 
 module _ (most t n set : ℕ) where
   pub entry-set : (m : ℕ) → n < most → m ≡ mask t → leb set m ≡ entryFits most t n set
@@ -122,3 +126,14 @@ module _ (most t n set : ℕ) where
   pub entry-out : most ≤ n → false ≡ entryFits most t n set
   unfolding entryFits
   entry-out h = rw (le-ltb n most h)
+
+-- ---- a conflict
+
+module _ (u m : ℕ) (x : Conflict) (q : m ≡ mask u) where
+  pub conflict-most : x .set ≤ m → leb (x .most) mostTogether ≡ conflictFits u x
+  unfolding conflictFits
+  conflict-most h = rw (← at-most-mask (x .set) u, ← q, le-leb (x .set) m h)
+
+  pub conflict-out : m < x .set → false ≡ conflictFits u x
+  unfolding conflictFits
+  conflict-out h = rw (← at-most-mask (x .set) u, ← q, lt-leb (x .set) m h)

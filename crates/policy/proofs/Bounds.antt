@@ -1,6 +1,6 @@
 -- What the tests of a sound policy bound: widths and their sum, seniorities, numbers and sets, words; and so that its
 -- lists fit their arrays.
-use Prim.Native.Nat.{ℕ, zero, suc, _+_, _≤_, _<_}
+use Prim.Native.Nat.{ℕ, zero, suc, _+_, _≤_, _^_, _<_}
 use mathlib.Core.Path.{_≡_, refl, ap}
 use mathlib.Core.Bool.{Bool, true, _&&_}
 use mathlib.Core.List.{List, [], _∷_, _++_, List·Memᴰ, List·Memᴰ·head, List·Memᴰ·tail, List·Memᴰ·not-nil}
@@ -22,16 +22,17 @@ use Rattle.words.specs.declared.Word.the-variants.{True, False, Holds, Compares
 use Rattle.words.specs.declared.Holding.the-variants.{User as UserValue, Object as ObjectValue}
 use Rattle.words.specs.declared.Comparison.the-variants.{Dominates, Equals}
 use Rattle.words.specs.Inner.{inDigits}
-use Rattle.policy.specs.Limits.{values, actions, mostValues, userNumbers, objectNumbers, mostLines}
+use Rattle.policy.specs.Limits.{values, actions, mostValues, userNumbers, objectNumbers, mostLines, mostTogether}
 use Rattle.policy.specs.Policy.{Side, Rule, Policy, total, sets, attributeOf}
-use Rattle.policy.specs.Checks.{SideSizes, sideSizes, sizes, widthFits, directFits, entryFits, pairFits, bothThere, wordFits}
-use Rattle.policy.specs.Value.{widthPlaces, entryPlaces, rulePlaces, pairPlaces, linePlaces}
-use Rattle.policy.specs.Inner.Sound.{widthsSound, listsSound}
+use Rattle.policy.specs.Checks.{SideSizes, sideSizes, sizes, widthFits, directFits, entryFits, conflictFits, pairFits, bothThere, wordFits}
+use Rattle.policy.specs.Value.{widthPlaces, entryPlaces, conflictPlaces, rulePlaces, pairPlaces, linePlaces}
+use Rattle.policy.specs.Inner.Sound.{widthsSound, listsSound, rising, lineAbove, numberAbove, actionAbove, pairHigher}
 use Rattle.policy.specs.declared.value.Entry.{Entry}
+use Rattle.policy.specs.declared.value.Conflict.{Conflict}
 use Rattle.policy.specs.declared.value.Pair.{Pair}
 use Rattle.policy.proofs.Forms.{values-most, actions-most}
-use Rattle.policy.proofs.Rising.{rising, head, rising-at, rising-few}
-use Rattle.policy.proofs.Parts.{lineFits, lineAbove, numberFits, numberAbove, actionAbove, SideParts, RuleParts, rule-parts, Parts, parts, ruleFits, pairWithin, pairHigher}
+use Rattle.policy.proofs.Rising.{head, rising-at, rising-few}
+use Rattle.policy.proofs.Parts.{lineFits, numberFits, SideParts, RuleParts, rule-parts, Parts, parts, ruleFits, pairWithin}
 
 -- ---- widths
 
@@ -249,6 +250,13 @@ module _ (p : Policy) (t : Parts p) where
   pub rule-digits : (r : Rule) → RuleParts p r → all inDigits (r .words) ≡ true
   rule-digits r q = all-of inDigits (r .words) (λ w m. word-digits w (all-at (wordFits (sizes p)) (r .words) (q .fit) w m))
 
+-- ---- conflicts
+
+-- S and K of a line that passes check 6
+pub conflict-fits : (u : ℕ) (x : Conflict) → conflictFits u x ≡ true → (x .set < 2 ^ u) × (x .most ≤ mostTogether)
+unfolding conflictFits
+conflict-fits u x e = (ltb-true _ _ (and-left (ltb (x .set) (2 ^ u)) _ e), leb-true _ _ (and-right (ltb (x .set) (2 ^ u)) _ e))
+
 -- ---- pairs
 
 -- A, V and W of a line that passes check 6
@@ -281,6 +289,7 @@ pub record Within (p : Policy) : Type 0 where
   pub object : WithinSide (p .object)
   pub users : length (p .users) ≤ entryPlaces
   pub objects : length (p .objects) ≤ entryPlaces
+  pub conflicts : length (p .conflicts) ≤ conflictPlaces
   pub rules : length (p .rules) ≤ rulePlaces
   pub pairs : length (p .pairs) ≤ pairPlaces
 
@@ -298,6 +307,7 @@ parts-within p t =
       object = side-within (p .form) (p .object) (t .object);
       users = le-trans (entries-few userNumbers (p .user) (p .users) (t .users)) (lit≤ tt);
       objects = entries-few objectNumbers (p .object) (p .objects) (t .objects);
+      conflicts = t .few-conflicts;
       rules = le-trans (rules-few p (p .rules) (t .rules)) (actions-most (p .form));
       pairs = t .few-pairs;
     }

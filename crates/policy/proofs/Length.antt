@@ -18,7 +18,7 @@ use Rattle.text.specs.Number.{mostDigits, decimal}
 use Rattle.text.specs.Parts.{comma, lineFeed, join, textOf as linesText}
 use Rattle.text.specs.Kind.{wordOf, kinds, layoutOf}
 use Rattle.text.specs.declared.kind.Kind.{Kind}
-use Rattle.text.specs.declared.kind.Kind.the-variants.{Policy as PolicyKind, Uattr, Oattr, Usen, Osen, User, Object, Rule as RuleKind, Pair as PairKind, End}
+use Rattle.text.specs.declared.kind.Kind.the-variants.{Policy as PolicyKind, Uattr, Oattr, Usen, Osen, User, Object, Conflict as ConflictKind, Rule as RuleKind, Pair as PairKind, End}
 use Rattle.text.specs.declared.kind.Layout.{Layout}
 use Rattle.text.specs.declared.kind.Layout.the-variants.{Bare, One, Two, Three, Formula}
 use Rattle.text.specs.declared.number.Numbers.{Numbers}
@@ -26,18 +26,20 @@ use Rattle.text.proofs.RoundTrip.{decimal-short}
 use Rattle.words.specs.Word.{written}
 use Rattle.words.specs.declared.Word.{Word}
 use Rattle.words.proofs.RoundTrip.{mostLetters, written-short}
-use Rattle.policy.specs.Limits.{textBytes, isForm, values, mostValues, userNumbers, objectNumbers, mostWords, mostActions, mostLines, mostPairs}
+use Rattle.policy.specs.Limits.{textBytes, isForm, values, mostValues, userNumbers, objectNumbers, mostWords, mostActions, mostLines, mostConflicts, mostPairs}
 use Rattle.policy.specs.Policy.{Side, Rule, Policy}
 use Rattle.policy.specs.Line.{Line, noNumbers, oneNumber, twoNumbers, threeNumbers, plain, ruleLine}
-use Rattle.policy.specs.Text.{flat, widthLines, directLines, entryLines, ruleLines, pairLines, laterFields, lineText, textOf}
+use Rattle.policy.specs.Text.{flat, widthLines, directLines, entryLines, conflictLines, ruleLines, pairLines, laterFields, lineText, textOf}
+use Rattle.policy.specs.Inner.Sound.{rising, lineAbove, numberAbove, pairHigher, setAbove}
 use Rattle.policy.specs.declared.value.Entry.{Entry}
+use Rattle.policy.specs.declared.value.Conflict.{Conflict}
 use Rattle.policy.specs.declared.value.Pair.{Pair}
 use Rattle.policy.proofs.Forms.{form-few}
-use Rattle.policy.proofs.Parts.{lineFits, lineAbove, numberFits, numberAbove, pairWithin, pairHigher, SideParts, Parts}
-use Rattle.policy.proofs.Rising.{rising, rising-at}
+use Rattle.policy.proofs.Parts.{lineFits, numberFits, conflictWithin, pairWithin, SideParts, Parts}
+use Rattle.policy.proofs.Rising.{rising-at}
 use Rattle.policy.proofs.Bounds.{width-bounds, entries-few, rule-bounds, parts-within}
 use Rattle.policy.proofs.Groups.{groups, linesFrom, lines-from}
-use Rattle.policy.proofs.Shorts.{Short, Shorts, no-short, one-short, width-short, action-short, direct-short, entry-short, pair-short}
+use Rattle.policy.proofs.Shorts.{Short, Shorts, no-short, one-short, width-short, action-short, direct-short, entry-short, conflict-short, pair-short}
 
 -- ---- the bytes of a line
 
@@ -106,6 +108,7 @@ mostOf Usen = mostLines
 mostOf Osen = mostLines
 mostOf User = userNumbers
 mostOf Object = objectNumbers
+mostOf ConflictKind = mostConflicts
 mostOf RuleKind = mostActions
 mostOf PairKind = mostPairs
 mostOf End = 1
@@ -183,6 +186,12 @@ module _ (p : Policy) (t : Parts p) (form : isForm (p .form) ≡ true) where
       group k (λ (x : Entry). plain k (twoNumbers (x .number) (x .set))) es (le-trans (entries-few most s es e) l)
       (λ x m. line-bytes (plain k (twoNumbers (x .number) (x .set))) (entry-short (p .form) s h most g x (rising-at (numberFits most s) numberAbove none es e x m)) (omega arith))
 
+  conflicts-group : Group ConflictKind (conflictLines (p .conflicts))
+  unfolding mostOf
+  conflicts-group =
+      group ConflictKind (λ (x : Conflict). plain ConflictKind (twoNumbers (x .set) (x .most))) (p .conflicts) (t .few-conflicts)
+      (λ x m. line-bytes (plain ConflictKind (twoNumbers (x .set) (x .most))) (conflict-short (p .form) (p .user) (t .user) x (rising-at (conflictWithin (p .user)) setAbove none (p .conflicts) (t .conflicts) x m)) (omega arith))
+
   rules-group : Group RuleKind (ruleLines (p .rules))
   unfolding mostOf
   rules-group =
@@ -210,7 +219,7 @@ module _ (p : Policy) (t : Parts p) (form : isForm (p .form) ≡ true) where
       (then (directs-group Osen (p .object) (t .object) (w .object .lines))
       (then (entries-group User userNumbers (lit≤ tt) (lit≤ tt) (p .user) (t .user) (p .users) (t .users))
       (then (entries-group Object objectNumbers (lit≤ tt) (lit≤ tt) (p .object) (t .object) (p .objects) (t .objects))
-      (then rules-group (then pairs-group (then (one-group End noNumbers (lit≤ tt) no-short) none-left)))))))))
+      (then conflicts-group (then rules-group (then pairs-group (then (one-group End noNumbers (lit≤ tt) no-short) none-left))))))))))
 
   pub parts-short : length (textOf p) ≤ textBytes
   unfolding size textOf linesFrom

@@ -9,9 +9,9 @@ use native.Mathlib.Omega.{arith}
 use lib.Dec.{eqb}
 use borrow.Author.Tests.{eqb-true}
 use Rattle.policy.specs.Policy.{Side, sets, setOfNumber}
+use Rattle.policy.specs.Inner.Sound.{rising, numberAbove}
 use Rattle.policy.specs.declared.value.Entry.{Entry}
-use Rattle.policy.proofs.Rising.{rising}
-use Rattle.policy.proofs.Parts.{numberFits, numberAbove}
+use Rattle.policy.proofs.Parts.{numberFits}
 use Rattle.policy.proofs.Bounds.{entry-bounds}
 
 -- a choice that gives w takes v, which is w, or what is left gives it

@@ -15,7 +15,7 @@ use Rattle.basis.proofs.Same.{agree-eq}
 use Rattle.basis.proofs.Table.{everyEntry}
 use Rattle.text.specs.Kind.{kinds, placeOf, follows}
 use Rattle.text.specs.declared.kind.Kind.{Kind}
-use Rattle.text.specs.declared.kind.Kind.the-variants.{Policy as PolicyKind, Uattr, Oattr, Usen, Osen, User, Object, Rule as RuleKind, Pair as PairKind, End}
+use Rattle.text.specs.declared.kind.Kind.the-variants.{Policy as PolicyKind, Uattr, Oattr, Usen, Osen, User, Object, Conflict as ConflictKind, Rule as RuleKind, Pair as PairKind, End}
 use Rattle.text.proofs.Naming.{each-kind}
 use Rattle.policy.specs.Policy.{Policy}
 use Rattle.policy.specs.Line.{allowed}
@@ -95,6 +95,7 @@ cut i p =
       object = record { widths = keep i Oattr (p .object .widths); lines = keep i Osen (p .object .lines) };
       users = keep i User (p .users);
       objects = keep i Object (p .objects);
+      conflicts = keep i ConflictKind (p .conflicts);
       rules = keep i RuleKind (p .rules);
       pairs = keep i PairKind (p .pairs);
     }
@@ -115,6 +116,7 @@ cut-cut i j p h =
       keep-keep i j Osen (p .object .lines) h,
       keep-keep i j User (p .users) h,
       keep-keep i j Object (p .objects) h,
+      keep-keep i j ConflictKind (p .conflicts) h,
       keep-keep i j RuleKind (p .rules) h,
       keep-keep i j PairKind (p .pairs) h,
     )

@@ -1,74 +1,39 @@
--- The tests of a sound policy taken apart: each list's, the lists but the widths as rising lists, and both ways.
+-- The tests of a sound policy taken apart, list by list, and put together again.
 use Prim.Native.Nat.{ℕ, _≤_, _<_}
-use mathlib.Core.Path.{_≡_, refl}
-use mathlib.Core.Bool.{Bool, true}
-use mathlib.Core.List.{List, [], _∷_}
-use mathlib.Core.Option.{Option, none, some}
+use mathlib.Core.Path.{_≡_}
+use mathlib.Core.Bool.{Bool, true, _&&_}
+use mathlib.Core.List.{List}
+use mathlib.Core.Option.{none}
 use lib.Dec.{leb, ltb}
 use lib.ListN.{length}
 use borrow.Author.Tests.{leb-true, ltb-true, le-leb}
 use Rattle.basis.specs.Lists.{all}
 use Rattle.basis.proofs.Bools.{and-left, and-right}
 use Rattle.seniority.specs.declared.Direct.{Direct}
-use Rattle.policy.specs.Limits.{isForm, values, actions, userNumbers, objectNumbers, mostWords, mostPairs}
+use Rattle.policy.specs.Limits.{isForm, values, actions, userNumbers, objectNumbers, mostWords, mostConflicts, mostPairs}
 use Rattle.policy.specs.Policy.{Side, Rule, Policy, total}
-use Rattle.policy.specs.Checks.{SideSizes, Sizes, sideSizes, sizes, directFits, directAbove, entryFits, pairFits, pairAbove, wordFits, widthsEqual, balanced}
-use Rattle.policy.specs.Inner.Sound.{widthsSound, linesSound, entriesSound, ruleSound, rulesSound, pairsSound, sideSound, listsSound, sound}
+use Rattle.policy.specs.Checks.{sideSizes, sizes, conflictFits, pairFits, wordFits, widthsEqual, balanced}
+use Rattle.policy.specs.Inner.Sound.{widthsSound, rising, lineIn, lineAbove, numberIn, numberAbove, setAbove, ruleSound, actionAbove, pairHigher, sideSound, listsSound, sound}
 use Rattle.policy.specs.declared.value.Entry.{Entry}
+use Rattle.policy.specs.declared.value.Conflict.{Conflict}
 use Rattle.policy.specs.declared.value.Pair.{Pair}
-use Rattle.policy.proofs.Rising.{rising}
 
--- ---- lists that rise
-
-abbrev pub lineIn : SideSizes → Direct → Bool
-lineIn s l = directFits s (l .senior) (l .junior)
+-- ---- the tests of a policy's lists
 
 abbrev pub lineFits : Side → Direct → Bool
 lineFits s = lineIn (sideSizes s)
 
-abbrev pub lineAbove : Direct → Direct → Bool
-lineAbove b l = directAbove (l .senior) (l .junior) b
-
-abbrev pub numberIn : ℕ → ℕ → Entry → Bool
-numberIn most n e = entryFits most n (e .number) (e .set)
-
 abbrev pub numberFits : ℕ → Side → Entry → Bool
 numberFits most s = numberIn most (total s)
 
-abbrev pub numberAbove : Entry → Entry → Bool
-numberAbove b e = ltb (b .number) (e .number)
-
-abbrev pub actionAbove : Rule → Rule → Bool
-actionAbove b r = ltb (b .action) (r .action)
+abbrev pub conflictWithin : Side → Conflict → Bool
+conflictWithin s = conflictFits (total s)
 
 abbrev pub ruleFits : Policy → Rule → Bool
 ruleFits p = ruleSound (actions (p .form)) (sizes p)
 
-pub lines-rising : (s : SideSizes) (b : Option Direct) (ls : List Direct) → linesSound s b ls ≡ rising (lineIn s) lineAbove b ls
-unfolding linesSound rising
-lines-rising s b [] = refl
-lines-rising s b (l ∷ ls) = rw (lines-rising s (some l) ls)
-
-pub entries-rising : (most n : ℕ) (b : Option Entry) (es : List Entry) → entriesSound most n b es ≡ rising (numberIn most n) numberAbove b es
-unfolding entriesSound rising
-entries-rising most n b [] = refl
-entries-rising most n b (e ∷ es) = rw (entries-rising most n (some e) es)
-
-pub rules-rising : (n : ℕ) (s : Sizes) (b : Option Rule) (rs : List Rule) → rulesSound n s b rs ≡ rising (ruleSound n s) actionAbove b rs
-unfolding rulesSound rising
-rules-rising n s b [] = refl
-rules-rising n s b (r ∷ rs) = rw (rules-rising n s (some r) rs)
-
 abbrev pub pairWithin : Policy → Pair → Bool
 pairWithin p = pairFits (actions (p .form)) (total (p .user)) (total (p .object))
-
-abbrev pub pairHigher : Pair → Pair → Bool
-pairHigher b x = pairAbove x b
-
-pub pairs-rising : (n : ℕ) (s : Sizes) (b : Option Pair) (xs : List Pair) → pairsSound n s b xs ≡ rising (pairFits n (s .user .values) (s .object .values)) pairHigher b xs
-unfolding pairsSound rising
-pairs-rising n s b [] = refl
-pairs-rising n s b (x ∷ xs) = rw (pairs-rising n s (some x) xs)
 
 -- ---- the parts of a sound side, rule and policy
 
@@ -78,12 +43,11 @@ pub record SideParts (most : ℕ) (s : Side) : Type 0 where
 
 pub side-parts : (most : ℕ) (s : Side) → sideSound most s ≡ true → SideParts most s
 unfolding sideSound
-side-parts most s e =
-    record { widths = and-left _ _ e; lines = rw (lines-rising (sideSizes s) none (s .lines)) at (and-right (widthsSound most 0 (s .widths)) _ e) }
+side-parts most s e = record { widths = and-left _ _ e; lines = and-right (widthsSound most 0 (s .widths)) _ e }
 
 pub side-sound : (most : ℕ) (s : Side) → SideParts most s → sideSound most s ≡ true
 unfolding sideSound
-side-sound most s p = rw (p .widths, lines-rising (sideSizes s) none (s .lines), p .lines)
+side-sound most s p = rw (p .widths, p .lines)
 
 pub record RuleParts (p : Policy) (r : Rule) : Type 0 where
   pub few : length (r .words) ≤ mostWords
@@ -111,6 +75,8 @@ pub record Parts (p : Policy) : Type 0 where
   pub object : SideParts (values (p .form)) (p .object)
   pub users : rising (numberFits userNumbers (p .user)) numberAbove none (p .users) ≡ true
   pub objects : rising (numberFits objectNumbers (p .object)) numberAbove none (p .objects) ≡ true
+  pub few-conflicts : length (p .conflicts) ≤ mostConflicts
+  pub conflicts : rising (conflictWithin (p .user)) setAbove none (p .conflicts) ≡ true
   pub rules : rising (ruleFits p) actionAbove none (p .rules) ≡ true
   pub few-pairs : length (p .pairs) ≤ mostPairs
   pub pairs : rising (pairWithin p) pairHigher none (p .pairs) ≡ true
@@ -120,17 +86,22 @@ unfolding listsSound
 parts p e =
     let e₁ = and-right (sideSound (values (p .form)) (p .user)) _ e in
     let e₂ = and-right (sideSound (values (p .form)) (p .object)) _ e₁ in
-    let e₃ = and-right (entriesSound userNumbers (total (p .user)) none (p .users)) _ e₂ in
-    let e₄ = and-right (entriesSound objectNumbers (total (p .object)) none (p .objects)) _ e₃ in
-    let e₅ = and-right (rulesSound (actions (p .form)) (sizes p) none (p .rules)) _ e₄ in
+    let e₃ = and-right (rising (numberFits userNumbers (p .user)) numberAbove none (p .users)) _ e₂ in
+    let e₄ = and-right (rising (numberFits objectNumbers (p .object)) numberAbove none (p .objects)) _ e₃ in
+    let c = leb (length (p .conflicts)) mostConflicts in
+    let f = and-left (c && rising (conflictWithin (p .user)) setAbove none (p .conflicts)) _ e₄ in
+    let e₅ = and-right (c && rising (conflictWithin (p .user)) setAbove none (p .conflicts)) _ e₄ in
+    let e₆ = and-right (rising (ruleFits p) actionAbove none (p .rules)) _ e₅ in
     record {
       user = side-parts (values (p .form)) (p .user) (and-left _ _ e);
       object = side-parts (values (p .form)) (p .object) (and-left _ _ e₁);
-      users = rw (entries-rising userNumbers (total (p .user)) none (p .users)) at (and-left (entriesSound userNumbers (total (p .user)) none (p .users)) _ e₂);
-      objects = rw (entries-rising objectNumbers (total (p .object)) none (p .objects)) at (and-left (entriesSound objectNumbers (total (p .object)) none (p .objects)) _ e₃);
-      rules = rw (rules-rising (actions (p .form)) (sizes p) none (p .rules)) at (and-left (rulesSound (actions (p .form)) (sizes p) none (p .rules)) _ e₄);
-      few-pairs = leb-true _ _ (and-left (leb (length (p .pairs)) mostPairs) _ e₅);
-      pairs = rw (pairs-rising (actions (p .form)) (sizes p) none (p .pairs)) at (and-right (leb (length (p .pairs)) mostPairs) _ e₅);
+      users = and-left _ _ e₂;
+      objects = and-left _ _ e₃;
+      few-conflicts = leb-true _ _ (and-left c _ f);
+      conflicts = and-right c _ f;
+      rules = and-left _ _ e₅;
+      few-pairs = leb-true _ _ (and-left (leb (length (p .pairs)) mostPairs) _ e₆);
+      pairs = and-right (leb (length (p .pairs)) mostPairs) _ e₆;
     }
 
 pub lists-sound : (p : Policy) → Parts p → listsSound p ≡ true
@@ -139,14 +110,12 @@ lists-sound p t =
     rw (
       side-sound (values (p .form)) (p .user) (t .user),
       side-sound (values (p .form)) (p .object) (t .object),
-      entries-rising userNumbers (total (p .user)) none (p .users),
       t .users,
-      entries-rising objectNumbers (total (p .object)) none (p .objects),
       t .objects,
-      rules-rising (actions (p .form)) (sizes p) none (p .rules),
+      le-leb (length (p .conflicts)) mostConflicts (t .few-conflicts),
+      t .conflicts,
       t .rules,
       le-leb (length (p .pairs)) mostPairs (t .few-pairs),
-      pairs-rising (actions (p .form)) (sizes p) none (p .pairs),
       t .pairs,
     )
 

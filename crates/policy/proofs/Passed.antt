@@ -14,7 +14,7 @@ use Rattle.text.specs.declared.kind.Named.{Named}
 use Rattle.text.specs.declared.kind.Named.the-variants.{Is, Unknown}
 use Rattle.policy.specs.Policy.{Policy}
 use Rattle.policy.specs.Line.{allowed, countFits, formFits, lineOf}
-use Rattle.policy.specs.Checks.{lineInRange, lineRises, lineHasRoom, lineWidthsEqual, lineBalances}
+use Rattle.policy.specs.Checks.{lineInRange, lineRises, lineConflictRoom, linePairRoom, lineWidthsEqual, lineBalances}
 use Rattle.policy.specs.Read.{checksOf, checksFor, refusalOf, State, kindOf, lineRefusal}
 
 -- the first of some checks passes, and no other is broken
@@ -31,7 +31,8 @@ pub record Passed (before : Option Kind) (p : Policy) (ended : Bool) (k : Kind) 
   pub form : formFits (layoutOf k) fs ≡ true
   pub range : lineInRange p (lineOf k fs) ≡ true
   pub rise : lineRises p (lineOf k fs) ≡ true
-  pub room : lineHasRoom p (lineOf k fs) ≡ true
+  pub conflict-room : lineConflictRoom p (lineOf k fs) ≡ true
+  pub pair-room : linePairRoom p (lineOf k fs) ≡ true
   pub equal : lineWidthsEqual p (lineOf k fs) ≡ true
   pub balance : lineBalances (lineOf k fs) ≡ true
 
@@ -46,14 +47,15 @@ module _ (before : Option Kind) (p : Policy) (ended : Bool) where
       let e₅ = unbroken-next 5 (formFits (layoutOf k) fs) _ (e₄ .1) in
       let e₆ = unbroken-next 6 (lineInRange p l) _ (e₅ .1) in
       let e₇ = unbroken-next 7 (lineRises p l) _ (e₆ .1) in
-      let e₂₁ = unbroken-next 21 (lineHasRoom p l) _ (e₇ .1) in
+      let e₂₂ = unbroken-next 22 (lineConflictRoom p l) _ (e₇ .1) in
+      let e₂₁ = unbroken-next 21 (linePairRoom p l) _ (e₂₂ .1) in
       let e₈ = unbroken-next 8 (lineWidthsEqual p l) _ (e₂₁ .1) in
       let e₉ = unbroken-next 9 (lineBalances l) _ (e₈ .1) in
-      record { ends = e₂ .0; order = e₃ .0; count = e₄ .0; form = e₅ .0; range = e₆ .0; rise = e₇ .0; room = e₂₁ .0; equal = e₈ .0; balance = e₉ .0 }
+      record { ends = e₂ .0; order = e₃ .0; count = e₄ .0; form = e₅ .0; range = e₆ .0; rise = e₇ .0; conflict-room = e₂₂ .0; pair-room = e₂₁ .0; equal = e₈ .0; balance = e₉ .0 }
 
   pub not-refused : (k : Kind) (fs : List (List ℕ)) → Passed before p ended k fs → refusalOf before p ended (Is k) fs ≡ none
   unfolding refusalOf checksFor checksOf firstBroken
-  not-refused k fs c = rw (c .ends, c .order, c .count, c .form, c .range, c .rise, c .room, c .equal, c .balance)
+  not-refused k fs c = rw (c .ends, c .order, c .count, c .form, c .range, c .rise, c .conflict-room, c .pair-room, c .equal, c .balance)
 
   -- a line of no known kind is refused
   pub unknown-refused : (fs : List (List ℕ)) → refusalOf before p ended Unknown fs ≡ none → ⊥

@@ -20,7 +20,8 @@ use Rattle.policy.specs.Line.{Line, allowed}
 use Rattle.policy.specs.Checks.{withLineOf}
 use Rattle.policy.specs.Read.{Accepted, State, after, readLines}
 use Rattle.policy.specs.Text.{fieldsOf, lineText}
-use Rattle.policy.proofs.Rising.{rising, head}
+use Rattle.policy.specs.Inner.Sound.{rising}
+use Rattle.policy.proofs.Rising.{head}
 use Rattle.policy.proofs.Order.{reached, required, May, order-allowed}
 use Rattle.policy.proofs.Passed.{Passed, not-refused}
 use Rattle.policy.proofs.Growth.{Fits}
@@ -40,7 +41,7 @@ Leads s ls q = (n : ℕ) → readLines s n (map textLine ls) ≡ Accepted q
 
 -- ---- one line
 
--- a line is read back from its fields and passes checks 6 to 9 and 21
+-- a line is read back from its fields and passes checks 6 to 9, 21 and 22
 pub record Good (p : Policy) (l : Line) : Type 0 where
   pub back : Back l
   pub fits : Fits (l .kind) p (l .numbers) (l .words)
@@ -57,7 +58,8 @@ good-passed b p l a g =
       form = g .back .form;
       range = rw (n, w) (f .range);
       rise = rw n (f .rise);
-      room = f .room;
+      conflict-room = f .conflict-room;
+      pair-room = f .pair-room;
       equal = rw w (f .equal);
       balance = rw w (f .balance);
     }

@@ -14,7 +14,7 @@ use Rattle.text.specs.Parts.{TextLine, fields}
 use Rattle.text.specs.Kind.{layoutOf, placeOf}
 use Rattle.text.specs.declared.kind.Kind.{Kind}
 use Rattle.text.specs.declared.kind.Named.the-variants.{Is}
-use Rattle.text.specs.declared.kind.Kind.the-variants.{Policy as PolicyKind, Uattr, Oattr, Usen, Osen, User, Object, Rule as RuleKind, Pair as PairKind, End}
+use Rattle.text.specs.declared.kind.Kind.the-variants.{Policy as PolicyKind, Uattr, Oattr, Usen, Osen, User, Object, Conflict as ConflictKind, Rule as RuleKind, Pair as PairKind, End}
 use Rattle.text.specs.declared.kind.Layout.{Layout}
 use Rattle.text.specs.declared.kind.Layout.the-variants.{Bare, One, Two, Three, Formula}
 use Rattle.text.specs.declared.number.Numbers.{Numbers}
@@ -25,7 +25,7 @@ use Rattle.policy.specs.Policy.{Policy, blank}
 use Rattle.policy.specs.Line.{allowed, countFits, wordsOf, lineOf}
 use Rattle.policy.specs.Checks.{sizes, inRange, extended}
 use Rattle.policy.specs.Read.{State, start, after, lineRefusal, lineAfter}
-use Rattle.policy.specs.Inner.Sound.{widthsSound, linesSound, entriesSound, rulesSound, pairsSound, sideSound, listsSound, sound}
+use Rattle.policy.specs.Inner.Sound.{widthsSound, rising, sideSound, listsSound, sound}
 use Rattle.policy.proofs.Parts.{Parts, parts, lists-sound, is-sound}
 use Rattle.policy.proofs.Order.{reached, required, May, allowed-order, cut, cut-more}
 use Rattle.policy.proofs.Growth.{Fits, parts-more}
@@ -46,7 +46,7 @@ pub record Reading (s : State) : Type 0 where
   pub due : Due (reached (s .before)) (s .policy)
 
 pub reading-start : Reading start
-unfolding blank listsSound sideSound widthsSound linesSound entriesSound rulesSound pairsSound cut
+unfolding blank listsSound sideSound widthsSound rising cut
 reading-start =
     record {
       lists = refl;
@@ -75,6 +75,7 @@ due-more Usen i n ws p a f d = due-still i _ p (a .low) d
 due-more Osen i n ws p a f d = due-still i _ p (a .low) d
 due-more User i n ws p a f d = due-still i _ p (a .low) d
 due-more Object i n ws p a f d = due-still i _ p (a .low) d
+due-more ConflictKind i n ws p a f d = due-still i _ p (a .low) d
 due-more RuleKind i n ws p a f d = due-still i _ p (a .low) d
 due-more PairKind i n ws p a f d = due-still i _ p (a .low) d
 due-more End i n ws p a f d = due-still i _ p (a .low) d
@@ -88,6 +89,7 @@ cut-extended Usen n ws p = refl
 cut-extended Osen n ws p = refl
 cut-extended User n ws p = refl
 cut-extended Object n ws p = refl
+cut-extended ConflictKind n ws p = refl
 cut-extended RuleKind n ws p = refl
 cut-extended PairKind n ws p = refl
 cut-extended End n ws p = refl
@@ -118,10 +120,10 @@ few-words Three fs e = omega arith
 few-words Formula fs e =
     omega (arith, leb-true (length fs) (2 + mostWords) (and-right (leb 3 (length fs)) _ e), length-map (drop 2 fs) (λ f. wordIn (parsed f)), length-drop 2 fs)
 
--- checks 6 to 9 and 21 of a line of a text
+-- checks 6 to 9, 21 and 22 of a line of a text
 pub line-fits : (s : State) (e : Bool) (k : Kind) (fs : List (List ℕ)) → Passed (s .before) (s .policy) e k fs
     → let l = lineOf k fs in Fits k (s .policy) (l .numbers) (l .words)
-line-fits s e k fs c = record { range = c .range; rise = c .rise; room = c .room; equal = c .equal; balance = c .balance; few = few-words (layoutOf k) fs (c .count) }
+line-fits s e k fs c = record { range = c .range; rise = c .rise; conflict-room = c .conflict-room; pair-room = c .pair-room; equal = c .equal; balance = c .balance; few = few-words (layoutOf k) fs (c .count) }
 
 pub reading-kind : (s : State) (e : Bool) (k : Kind) (fs : List (List ℕ)) → Reading s → Passed (s .before) (s .policy) e k fs
     → Reading (after (Is k) fs s)

@@ -11,11 +11,7 @@ use Rattle.basis.specs.Choice.{given}
 use Rattle.basis.specs.Lists.{last}
 use Rattle.basis.proofs.Snoc.{lastAfter, last-after}
 use Rattle.basis.proofs.Bools.{and-left, and-right}
-
--- elements after another: the lists of a policy but its widths
-unfoldable pub rising : {A : Type 0} → (A → Bool) → (A → A → Bool) → Option A → List A → Bool
-rising fits above b [] = true
-rising fits above b (x ∷ xs) = fits x && (given b true (λ y. above y x) && rising fits above (some x) xs)
+use Rattle.policy.specs.Inner.Sound.{rising}
 
 module _ {A : Type 0} (fits : A → Bool) (above : A → A → Bool) where
   -- the parts of the test at a list's first element
@@ -64,10 +60,3 @@ module _ {A : Type 0} (fits : A → Bool) (above : A → A → Bool) where
     pub rising-few : (xs : List A) → rising fits above none xs ≡ true → length xs ≤ n
     rising-few [] e = omega arith
     rising-few (x ∷ xs) e = let h = head none x xs e in omega (arith, few-above x xs (h .fits-it) (h .rest))
-
--- equal tests
-pub rising-same : {A : Type 0} (f g : A → Bool) (above : A → A → Bool) → ((x : A) → f x ≡ g x) → (b : Option A) (xs : List A)
-    → rising f above b xs ≡ rising g above b xs
-unfolding rising
-rising-same f g above e b [] = refl
-rising-same f g above e b (x ∷ xs) = rw (e x, rising-same f g above e (some x) xs)

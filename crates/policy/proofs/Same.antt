@@ -19,14 +19,16 @@ use Rattle.words.specs.declared.Word.{Word}
 use Rattle.words.specs.declared.Word.the-variants.{True, False, Holds, Compares, Not, And, Or}
 use Rattle.words.specs.declared.Holding.the-variants.{User as UserValue, Object as ObjectValue}
 use Rattle.words.specs.declared.Comparison.the-variants.{Dominates, Equals}
-use Rattle.policy.specs.Policy.{pair}
+use Rattle.policy.specs.Policy.{conflict, pair}
 use Rattle.policy.specs.Value.{slot}
-use Rattle.policy.specs.Valid.{sameLine, sameEntry, samePair, sameSlot, sameSide, sameRegister, sameRule, sameRules, samePairs, sameValue}
+use Rattle.policy.specs.Valid.{sameLine, sameEntry, sameConflict, samePair, sameSlot, sameSide, sameRegister, sameConflicts, sameRule, sameRules, samePairs, sameValue}
 use Rattle.policy.specs.declared.value.Entry.{Entry}
 use Rattle.policy.specs.declared.value.SideValue.{SideValue}
 use Rattle.policy.specs.declared.value.Register.{Register}
 use Rattle.policy.specs.declared.value.RuleValue.{RuleValue}
 use Rattle.policy.specs.declared.value.Rules.{Rules}
+use Rattle.policy.specs.declared.value.Conflict.{Conflict}
+use Rattle.policy.specs.declared.value.Conflicts.{Conflicts}
 use Rattle.policy.specs.declared.value.Pair.{Pair}
 use Rattle.policy.specs.declared.value.Pairs.{Pairs}
 use Rattle.policy.specs.declared.value.PolicyValue.{PolicyValue}
@@ -113,6 +115,15 @@ exact-register =
     made (λ t. record { count = t .0; entries = t .1 }) (λ x. refl)
     (both (part (λ (x : Register). x .count) exact-number) (part (λ (x : Register). x .entries) (exact-list sameEntry exact-entry)))
 
+pub exact-conflict : Exact sameConflict
+exact-conflict = made (λ t. conflict (t .0) (t .1)) (λ x. refl) (both (part (λ (x : Conflict). x .set) exact-number) (part (λ (x : Conflict). x .most) exact-number))
+
+pub exact-conflicts : Exact sameConflicts
+unfolding sameConflicts
+exact-conflicts =
+    made (λ t. record { count = t .0; entries = t .1 }) (λ x. refl)
+    (both (part (λ (x : Conflicts). x .count) exact-number) (part (λ (x : Conflicts). x .entries) (exact-list sameConflict exact-conflict)))
+
 pub exact-rule : Exact sameRule
 unfolding sameRule
 exact-rule =
@@ -141,13 +152,14 @@ exact-pairs =
 pub exact-value : Exact sameValue
 unfolding sameValue
 exact-value =
-    made (λ t. record { form = t .0; user = t .1 .0; object = t .1 .1 .0; users = t .1 .1 .1 .0; objects = t .1 .1 .1 .1 .0; rules = t .1 .1 .1 .1 .1 .0; pairs = t .1 .1 .1 .1 .1 .1 }) (λ x. refl)
+    made (λ t. record { form = t .0; user = t .1 .0; object = t .1 .1 .0; users = t .1 .1 .1 .0; objects = t .1 .1 .1 .1 .0; conflicts = t .1 .1 .1 .1 .1 .0; rules = t .1 .1 .1 .1 .1 .1 .0; pairs = t .1 .1 .1 .1 .1 .1 .1 }) (λ x. refl)
     (both (part (λ (x : PolicyValue). x .form) exact-number)
     (both (part (λ (x : PolicyValue). x .user) exact-side)
     (both (part (λ (x : PolicyValue). x .object) exact-side)
     (both (part (λ (x : PolicyValue). x .users) exact-register)
     (both (part (λ (x : PolicyValue). x .objects) exact-register)
-    (both (part (λ (x : PolicyValue). x .rules) exact-rules) (part (λ (x : PolicyValue). x .pairs) exact-pairs)))))))
+    (both (part (λ (x : PolicyValue). x .conflicts) exact-conflicts)
+    (both (part (λ (x : PolicyValue). x .rules) exact-rules) (part (λ (x : PolicyValue). x .pairs) exact-pairs))))))))
 
 pub same-value : (x y : PolicyValue) → (sameValue x y ≡ true) ↔ (x ≡ y)
 same-value x y = (exact-value .equal x y, λ e. rw e (exact-value .self y))

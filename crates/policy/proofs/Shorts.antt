@@ -13,10 +13,11 @@ use Rattle.policy.specs.Policy.{Side, Policy, total}
 use Rattle.policy.specs.Checks.{sideSizes}
 use Rattle.policy.specs.Line.{noNumbers, oneNumber, twoNumbers, threeNumbers}
 use Rattle.policy.specs.declared.value.Entry.{Entry}
+use Rattle.policy.specs.declared.value.Conflict.{Conflict}
 use Rattle.policy.specs.declared.value.Pair.{Pair}
 use Rattle.policy.proofs.Forms.{values-most, actions-most}
-use Rattle.policy.proofs.Parts.{lineFits, numberFits, pairWithin, SideParts, Parts}
-use Rattle.policy.proofs.Bounds.{direct-fits, entry-fits, pair-fits, total-few}
+use Rattle.policy.proofs.Parts.{lineFits, numberFits, conflictWithin, pairWithin, SideParts, Parts}
+use Rattle.policy.proofs.Bounds.{direct-fits, entry-fits, conflict-fits, pair-fits, total-few}
 
 abbrev pub Short : ℕ → Type 0
 Short n = n < 10 ^ mostDigits
@@ -54,6 +55,12 @@ module _ (form : ℕ) where
         let b = entry-fits most s e f in
         let m = pow-mono (total-few form s h) in
         two-short (e .number) (e .set) (omega (arith, b .0)) (omega (arith, b .1))
+
+    pub conflict-short : (x : Conflict) → conflictWithin s x ≡ true → Shorts (twoNumbers (x .set) (x .most))
+    conflict-short x f =
+        let b = conflict-fits (total s) x f in
+        let m = pow-mono (total-few form s h) in
+        two-short (x .set) (x .most) (omega (arith, b .0)) (omega (arith, b .1))
 
 pub pair-short : (p : Policy) → Parts p → (x : Pair) → pairWithin p x ≡ true → Shorts (threeNumbers (x .action) (x .user) (x .object))
 pair-short p t x f =

@@ -13,12 +13,13 @@ use Rattle.seniority.specs.declared.Direct.{Direct}
 use Rattle.text.specs.Parts.{lines}
 use Rattle.text.specs.Kind.{placeOf, isKind}
 use Rattle.text.specs.declared.kind.Kind.{Kind}
-use Rattle.text.specs.declared.kind.Kind.the-variants.{Policy as PolicyKind, Uattr, Oattr, Usen, Osen, User, Object, Rule as RuleKind, Pair as PairKind, End}
+use Rattle.text.specs.declared.kind.Kind.the-variants.{Policy as PolicyKind, Uattr, Oattr, Usen, Osen, User, Object, Conflict as ConflictKind, Rule as RuleKind, Pair as PairKind, End}
 use Rattle.policy.specs.Policy.{Rule, Policy}
 use Rattle.policy.specs.Line.{Line, allowed, noNumbers, oneNumber, twoNumbers, threeNumbers, numbersOf, wordsOf, plain, ruleLine, lineOf}
-use Rattle.policy.specs.Checks.{pairIn, extended, withLineOf}
+use Rattle.policy.specs.Checks.{conflictIn, pairIn, extended, withLineOf}
 use Rattle.policy.specs.Text.{flat, linesOf}
 use Rattle.policy.specs.declared.value.Entry.{Entry}
+use Rattle.policy.specs.declared.value.Conflict.{Conflict}
 use Rattle.policy.specs.declared.value.Pair.{Pair}
 use Rattle.policy.proofs.Order.{reached, allowed-order, cut}
 use Rattle.policy.proofs.Groups.{flat-more, groups, openLines, linesFrom, lines-open}
@@ -59,6 +60,8 @@ open-more User fs p h g =
     group-more User p (λ (e : Entry). plain User (twoNumbers (e .number) (e .set))) (p .users) (record { number = lineOf User fs .numbers .first; set = lineOf User fs .numbers .second }) refl
 open-more Object fs p h g =
     group-more Object p (λ (e : Entry). plain Object (twoNumbers (e .number) (e .set))) (p .objects) (record { number = lineOf Object fs .numbers .first; set = lineOf Object fs .numbers .second }) refl
+open-more ConflictKind fs p h g =
+    group-more ConflictKind p (λ (x : Conflict). plain ConflictKind (twoNumbers (x .set) (x .most))) (p .conflicts) (conflictIn (lineOf ConflictKind fs .numbers)) refl
 open-more RuleKind fs p h g =
     group-more RuleKind p (λ (r : Rule). ruleLine (r .action) (r .words)) (p .rules) (record { action = lineOf RuleKind fs .numbers .first; words = lineOf RuleKind fs .words }) refl
 open-more PairKind fs p h g =
@@ -104,6 +107,7 @@ so-far-more Usen fs b p = mid-more fs b p Usen (lit< tt) (lit< tt)
 so-far-more Osen fs b p = mid-more fs b p Osen (lit< tt) (lit< tt)
 so-far-more User fs b p = mid-more fs b p User (lit< tt) (lit< tt)
 so-far-more Object fs b p = mid-more fs b p Object (lit< tt) (lit< tt)
+so-far-more ConflictKind fs b p = mid-more fs b p ConflictKind (lit< tt) (lit< tt)
 so-far-more RuleKind fs b p = mid-more fs b p RuleKind (lit< tt) (lit< tt)
 so-far-more PairKind fs b p = mid-more fs b p PairKind (lit< tt) (lit< tt)
 so-far-more End fs b p = end-more fs b p

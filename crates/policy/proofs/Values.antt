@@ -8,14 +8,16 @@ use Rattle.basis.proofs.Padded.{take-padded, take-padded-map, padded-more, padd
 use Rattle.seniority.specs.Seniority.{direct}
 use Rattle.words.specs.declared.Word.{Word}
 use Rattle.words.specs.declared.Word.the-variants.{True}
-use Rattle.policy.specs.Policy.{Side, Rule, Policy, pair}
+use Rattle.policy.specs.Policy.{Side, Rule, Policy, conflict, pair}
 use Rattle.policy.specs.Checks.{withEntry}
-use Rattle.policy.specs.Value.{widthPlaces, entryPlaces, wordPlaces, rulePlaces, pairPlaces, slot, noEntry, noRule, sideValue, register, ruleValue, rulesValue, pairsValue, valueOf, sideOf, entriesOf, ruleOf, rulesOf, pairsOf, policyOf, linePlaces}
+use Rattle.policy.specs.Value.{widthPlaces, entryPlaces, conflictPlaces, wordPlaces, rulePlaces, pairPlaces, slot, noEntry, noRule, sideValue, register, conflictsValue, ruleValue, rulesValue, pairsValue, valueOf, sideOf, entriesOf, conflictsOf, ruleOf, rulesOf, pairsOf, policyOf, linePlaces}
 use Rattle.policy.specs.declared.value.Entry.{Entry}
 use Rattle.policy.specs.declared.value.Slot.{Slot}
 use Rattle.policy.specs.declared.value.Register.{Register}
 use Rattle.policy.specs.declared.value.RuleValue.{RuleValue}
 use Rattle.policy.specs.declared.value.Rules.{Rules}
+use Rattle.policy.specs.declared.value.Conflict.{Conflict}
+use Rattle.policy.specs.declared.value.Conflicts.{Conflicts}
 use Rattle.policy.specs.declared.value.Pair.{Pair}
 use Rattle.policy.specs.declared.value.Pairs.{Pairs}
 
@@ -45,13 +47,17 @@ pub rules-value : (rs : List Rule) → rulesOf (rulesValue rs) ≡ rs
 unfolding rulesOf rulesValue
 rules-value rs = rw (take-padded-map ruleValue rulePlaces noRule rs) (rules-back rs)
 
+pub conflicts-value : (xs : List Conflict) → conflictsOf (conflictsValue xs) ≡ xs
+unfolding conflictsOf conflictsValue
+conflicts-value xs = take-padded conflictPlaces (conflict 0 0) xs
+
 pub pairs-value : (xs : List Pair) → pairsOf (pairsValue xs) ≡ xs
 unfolding pairsOf pairsValue
 pairs-value xs = take-padded pairPlaces (pair 0 0 0) xs
 
 pub policy-value : (p : Policy) → policyOf (valueOf p) ≡ p
 unfolding policyOf valueOf
-policy-value p = rw (side-value (p .user), side-value (p .object), register-value (p .users), register-value (p .objects), rules-value (p .rules), pairs-value (p .pairs))
+policy-value p = rw (side-value (p .user), side-value (p .object), register-value (p .users), register-value (p .objects), conflicts-value (p .conflicts), rules-value (p .rules), pairs-value (p .pairs))
 
 -- ---- one line more is a store behind the last
 
@@ -60,6 +66,9 @@ moreEntry n s x = record { count = x .count + 1; entries = set (x .entries) (x .
 
 abbrev pub moreRule : RuleValue → Rules → Rules
 moreRule r x = record { count = x .count + 1; entries = set (x .entries) (x .count) r }
+
+abbrev pub moreConflict : Conflict → Conflicts → Conflicts
+moreConflict x xs = record { count = xs .count + 1; entries = set (xs .entries) (xs .count) x }
 
 abbrev pub morePair : Pair → Pairs → Pairs
 morePair x xs = record { count = xs .count + 1; entries = set (xs .entries) (xs .count) x }
@@ -71,6 +80,10 @@ more-entry n s es h = let e : Entry = record { number = n; set = s } in rw (leng
 pub more-rule : (r : Rule) (rs : List Rule) → length rs < rulePlaces → rulesValue (rs ++ (r ∷ [])) ≡ moreRule (ruleValue r) (rulesValue rs)
 unfolding rulesValue
 more-rule r rs h = rw (length-snoc rs r, padded-more-map ruleValue rulePlaces noRule rs r h)
+
+pub more-conflict : (x : Conflict) (xs : List Conflict) → length xs < conflictPlaces → conflictsValue (xs ++ (x ∷ [])) ≡ moreConflict x (conflictsValue xs)
+unfolding conflictsValue
+more-conflict x xs h = rw (length-snoc xs x, padded-more conflictPlaces (conflict 0 0) xs x h)
 
 pub more-pair : (x : Pair) (xs : List Pair) → length xs < pairPlaces → pairsValue (xs ++ (x ∷ [])) ≡ morePair x (pairsValue xs)
 unfolding pairsValue

@@ -11,7 +11,7 @@ use Rattle.policy.specs.declared.value.Reading.{Reading}
 use Rattle.policy.specs.declared.value.Verdict.{Verdict}
 use Rattle.policy.specs.declared.value.Verdict.the-variants.{Accepted as AcceptedText, Refused as RefusedText}
 use Rattle.policy.specs.declared.refusal.Refusal.{Refusal}
-use Rattle.policy.specs.declared.refusal.Refusal.the-variants.{TextTooLong, LineFeedMissing, KindNotAllowed, WrongFieldCount, MalformedField, OutOfRange, NotRising, UnequalWidths, UnbalancedFormula, EndMissing, InvalidState, UnknownAction, UnknownSession, UnregisteredUser, UnregisteredObject, SessionOpen, SessionNotOpen, SessionOfAnother, SetOutOfReach, BufferTooShort, TooManyPairs}
+use Rattle.policy.specs.declared.refusal.Refusal.the-variants.{TextTooLong, LineFeedMissing, KindNotAllowed, WrongFieldCount, MalformedField, OutOfRange, NotRising, UnequalWidths, UnbalancedFormula, EndMissing, InvalidState, UnknownAction, UnknownSession, UnregisteredUser, UnregisteredObject, SessionOpen, SessionNotOpen, SessionOfAnother, SetOutOfReach, BufferTooShort, TooManyPairs, TooManyConflicts, TooManyHeld}
 
 abbrev pub numberOf : Refusal → ℕ
 numberOf TextTooLong = 1
@@ -35,6 +35,8 @@ numberOf SessionOfAnother = 18
 numberOf SetOutOfReach = 19
 numberOf BufferTooShort = 20
 numberOf TooManyPairs = 21
+numberOf TooManyConflicts = 22
+numberOf TooManyHeld = 23
 
 -- granted, denied or refused, and done for a session call that is no request
 pub data Reply : Type 0 where

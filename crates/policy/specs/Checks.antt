@@ -1,4 +1,4 @@
--- A line against the lines before it: refusals 6 to 9 and 21, and what the line adds.
+-- A line against the lines before it: refusals 6 to 9, 21 and 22, and what the line adds.
 use Prim.Native.Nat.{ℕ, _+_, _-_, _^_}
 use mathlib.Core.Bool.{Bool, true, _&&_, _||_}
 use mathlib.Core.List.{List, [], _∷_, _++_}
@@ -11,7 +11,7 @@ use Rattle.seniority.specs.Seniority.{direct}
 use Rattle.seniority.specs.declared.Direct.{Direct}
 use Rattle.text.specs.Kind.{layoutOf, isKind}
 use Rattle.text.specs.declared.kind.Kind.{Kind}
-use Rattle.text.specs.declared.kind.Kind.the-variants.{Policy as PolicyKind, Uattr, Oattr, Usen, Osen, User, Object, Rule as RuleKind, Pair as PairKind, End}
+use Rattle.text.specs.declared.kind.Kind.the-variants.{Policy as PolicyKind, Uattr, Oattr, Usen, Osen, User, Object, Conflict as ConflictKind, Rule as RuleKind, Pair as PairKind, End}
 use Rattle.text.specs.declared.kind.Layout.{Layout}
 use Rattle.text.specs.declared.kind.Layout.the-variants.{Bare, One, Two, Three, Formula}
 use Rattle.text.specs.declared.number.Numbers.{Numbers}
@@ -19,10 +19,11 @@ use Rattle.words.specs.declared.Word.{Word}
 use Rattle.words.specs.declared.Word.the-variants.{True, False, Holds, Compares, Not, And, Or}
 use Rattle.words.specs.declared.Holding.the-variants.{User as UserValue, Object as ObjectValue}
 use Rattle.words.specs.declared.Comparison.the-variants.{Dominates, Equals}
-use Rattle.policy.specs.Limits.{isForm, values, actions, userNumbers, objectNumbers, mostPairs}
-use Rattle.policy.specs.Policy.{Side, Rule, Policy, pair, total, attributeOf}
+use Rattle.policy.specs.Limits.{isForm, values, actions, userNumbers, objectNumbers, mostConflicts, mostTogether, mostPairs}
+use Rattle.policy.specs.Policy.{Side, Rule, Policy, conflict, pair, total, attributeOf}
 use Rattle.policy.specs.Line.{Line}
 use Rattle.policy.specs.declared.value.Entry.{Entry}
+use Rattle.policy.specs.declared.value.Conflict.{Conflict}
 use Rattle.policy.specs.declared.value.Pair.{Pair}
 
 -- ---- what the ranges and the comparisons of a line go by
@@ -61,6 +62,10 @@ directFits s v j =
 unfoldable pub entryFits : ℕ → ℕ → ℕ → ℕ → Bool
 entryFits most u n set = ltb n most && ltb set (2 ^ u)
 
+-- "user set S (below 2^U)", and "K (0 to 7)"
+unfoldable pub conflictFits : ℕ → Conflict → Bool
+conflictFits u x = ltb (x .set) (2 ^ u) && leb (x .most) mostTogether
+
 -- "with the ranges of user and object values": one of n actions, of u user values and of o object values
 unfoldable pub pairFits : (n u o : ℕ) → Pair → Bool
 pairFits n u o x = ltb (x .action) n && (ltb (x .user) u && ltb (x .object) o)
@@ -81,7 +86,10 @@ wordFits s Not = true
 wordFits s And = true
 wordFits s Or = true
 
--- the pair that the numbers of its line say
+-- the conflict, or the pair, that the numbers of its line say
+abbrev pub conflictIn : Numbers → Conflict
+conflictIn n = conflict (n .first) (n .second)
+
 abbrev pub pairIn : Numbers → Pair
 pairIn n = pair (n .first) (n .second) (n .third)
 
@@ -94,6 +102,7 @@ inRange Usen form s n ws = directFits (s .user) (n .first) (n .second)
 inRange Osen form s n ws = directFits (s .object) (n .first) (n .second)
 inRange User form s n ws = entryFits userNumbers (s .user .values) (n .first) (n .second)
 inRange Object form s n ws = entryFits objectNumbers (s .object .values) (n .first) (n .second)
+inRange ConflictKind form s n ws = conflictFits (s .user .values) (conflictIn n)
 inRange RuleKind form s n ws = ltb (n .first) (actions form) && all (wordFits s) ws
 inRange PairKind form s n ws = pairFits (actions form) (s .user .values) (s .object .values) (pairIn n)
 inRange End form s n ws = true
@@ -114,6 +123,10 @@ entryRises es n = given (last es) true (λ e. ltb (e .number) n)
 unfoldable pub ruleRises : List Rule → ℕ → Bool
 ruleRises rs a = given (last rs) true (λ r. ltb (r .action) a)
 
+-- "rising by S"
+unfoldable pub conflictRises : List Conflict → Conflict → Bool
+conflictRises xs x = given (last xs) true (λ b. ltb (b .set) (x .set))
+
 -- "rising by A, V, W"
 abbrev pub pairAbove : Pair → Pair → Bool
 pairAbove x b =
@@ -131,9 +144,16 @@ rises Usen p n = directRises (p .user) (n .first) (n .second)
 rises Osen p n = directRises (p .object) (n .first) (n .second)
 rises User p n = entryRises (p .users) (n .first)
 rises Object p n = entryRises (p .objects) (n .first)
+rises ConflictKind p n = conflictRises (p .conflicts) (conflictIn n)
 rises RuleKind p n = ruleRises (p .rules) (n .first)
 rises PairKind p n = pairRises (p .pairs) (pairIn n)
 rises End p n = true
+
+-- ---- 22: "a conflict line is past the 16th"
+
+-- before a conflict line stand fewer than 16
+abbrev pub conflictRoom : Kind → Policy → Bool
+conflictRoom k p = implies (isKind ConflictKind k) (ltb (length (p .conflicts)) mostConflicts)
 
 -- ---- 21: "a pair line is past the 64th"
 
@@ -193,26 +213,29 @@ abbrev pub withEntry : ℕ → ℕ → List Entry → List Entry
 withEntry n s es = es ++ (record { number = n; set = s } ∷ [])
 
 abbrev pub withUser : Side → Policy → Policy
-withUser s p = record { form = p .form; user = s; object = p .object; users = p .users; objects = p .objects; rules = p .rules; pairs = p .pairs }
+withUser s p = record { form = p .form; user = s; object = p .object; users = p .users; objects = p .objects; conflicts = p .conflicts; rules = p .rules; pairs = p .pairs }
 
 abbrev pub withObject : Side → Policy → Policy
-withObject s p = record { form = p .form; user = p .user; object = s; users = p .users; objects = p .objects; rules = p .rules; pairs = p .pairs }
+withObject s p = record { form = p .form; user = p .user; object = s; users = p .users; objects = p .objects; conflicts = p .conflicts; rules = p .rules; pairs = p .pairs }
 
 abbrev pub withUsers : List Entry → Policy → Policy
-withUsers es p = record { form = p .form; user = p .user; object = p .object; users = es; objects = p .objects; rules = p .rules; pairs = p .pairs }
+withUsers es p = record { form = p .form; user = p .user; object = p .object; users = es; objects = p .objects; conflicts = p .conflicts; rules = p .rules; pairs = p .pairs }
 
 abbrev pub withObjects : List Entry → Policy → Policy
-withObjects es p = record { form = p .form; user = p .user; object = p .object; users = p .users; objects = es; rules = p .rules; pairs = p .pairs }
+withObjects es p = record { form = p .form; user = p .user; object = p .object; users = p .users; objects = es; conflicts = p .conflicts; rules = p .rules; pairs = p .pairs }
+
+abbrev pub withConflicts : List Conflict → Policy → Policy
+withConflicts xs p = record { form = p .form; user = p .user; object = p .object; users = p .users; objects = p .objects; conflicts = xs; rules = p .rules; pairs = p .pairs }
 
 abbrev pub withRules : List Rule → Policy → Policy
-withRules rs p = record { form = p .form; user = p .user; object = p .object; users = p .users; objects = p .objects; rules = rs; pairs = p .pairs }
+withRules rs p = record { form = p .form; user = p .user; object = p .object; users = p .users; objects = p .objects; conflicts = p .conflicts; rules = rs; pairs = p .pairs }
 
 abbrev pub withPairs : List Pair → Policy → Policy
 withPairs xs p =
-    record { form = p .form; user = p .user; object = p .object; users = p .users; objects = p .objects; rules = p .rules; pairs = xs }
+    record { form = p .form; user = p .user; object = p .object; users = p .users; objects = p .objects; conflicts = p .conflicts; rules = p .rules; pairs = xs }
 
 abbrev pub withForm : ℕ → Policy → Policy
-withForm n p = record { form = n; user = p .user; object = p .object; users = p .users; objects = p .objects; rules = p .rules; pairs = p .pairs }
+withForm n p = record { form = n; user = p .user; object = p .object; users = p .users; objects = p .objects; conflicts = p .conflicts; rules = p .rules; pairs = p .pairs }
 
 unfoldable pub extended : Kind → Numbers → List Word → Policy → Policy
 extended PolicyKind n ws p = withForm (n .first) p
@@ -222,6 +245,7 @@ extended Usen n ws p = withUser (withLine (n .first) (n .second) (p .user)) p
 extended Osen n ws p = withObject (withLine (n .first) (n .second) (p .object)) p
 extended User n ws p = withUsers (withEntry (n .first) (n .second) (p .users)) p
 extended Object n ws p = withObjects (withEntry (n .first) (n .second) (p .objects)) p
+extended ConflictKind n ws p = withConflicts (p .conflicts ++ (conflictIn n ∷ [])) p
 extended RuleKind n ws p = withRules (p .rules ++ (record { action = n .first; words = ws } ∷ [])) p
 extended PairKind n ws p = withPairs (p .pairs ++ (pairIn n ∷ [])) p
 extended End n ws p = p
@@ -234,8 +258,11 @@ lineInRange p l = inRange (l .kind) (p .form) (sizes p) (l .numbers) (l .words)
 abbrev pub lineRises : Policy → Line → Bool
 lineRises p l = rises (l .kind) p (l .numbers)
 
-abbrev pub lineHasRoom : Policy → Line → Bool
-lineHasRoom p l = pairRoom (l .kind) p
+abbrev pub lineConflictRoom : Policy → Line → Bool
+lineConflictRoom p l = conflictRoom (l .kind) p
+
+abbrev pub linePairRoom : Policy → Line → Bool
+linePairRoom p l = pairRoom (l .kind) p
 
 abbrev pub lineWidthsEqual : Policy → Line → Bool
 lineWidthsEqual p l = all (widthsEqual (sizes p)) (l .words)

@@ -1,4 +1,4 @@
--- The limits of document 01, each in one place; whatever else is bounded is bounded by these, by name.
+-- The limits of documents 01 and 02, each in one place; whatever else is bounded is bounded by these, by name.
 use Prim.Native.Nat.{ℕ, _*_, _-_, _/_, _^_}
 use mathlib.Core.Bool.{Bool}
 use lib.Dec.{eqb}
@@ -45,6 +45,14 @@ sessionNumbers = 32
 -- "as 1 to 32 words"
 abbrev pub mostWords : ℕ
 mostWords = 32
+
+-- 22: "a conflict line is past the 16th"
+abbrev pub mostConflicts : ℕ
+mostConflicts = 16
+
+-- "at most K (0 to 7)"
+abbrev pub mostTogether : ℕ
+mostTogether = 7
 
 -- 21: "a pair line is past the 64th"
 abbrev pub mostPairs : ℕ

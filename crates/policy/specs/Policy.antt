@@ -10,12 +10,16 @@ use Rattle.basis.specs.Lists.{any, sum}
 use Rattle.seniority.specs.declared.Direct.{Direct}
 use Rattle.words.specs.declared.Word.{Word}
 use Rattle.policy.specs.declared.value.Entry.{Entry}
+use Rattle.policy.specs.declared.value.Conflict.{Conflict}
 use Rattle.policy.specs.declared.value.Pair.{Pair}
 
 -- users or objects: the widths of the attributes, and the direct seniorities
 pub record Side : Type 0 where
   pub widths : List ℕ
   pub lines : List Direct
+
+abbrev pub conflict : ℕ → ℕ → Conflict
+conflict s k = record { set = s; most = k }
 
 pub record Rule : Type 0 where
   pub action : ℕ
@@ -30,6 +34,7 @@ pub record Policy : Type 0 where
   pub object : Side
   pub users : List Entry
   pub objects : List Entry
+  pub conflicts : List Conflict
   pub rules : List Rule
   pub pairs : List Pair
 
@@ -38,7 +43,7 @@ blankSide = record { widths = []; lines = [] }
 
 -- before the first line
 unfoldable pub blank : Policy
-blank = record { form = 0; user = blankSide; object = blankSide; users = []; objects = []; rules = []; pairs = [] }
+blank = record { form = 0; user = blankSide; object = blankSide; users = []; objects = []; conflicts = []; rules = []; pairs = [] }
 
 -- U of the user side, O of the object side: "values are numbered from 0 through all attributes"
 unfoldable pub total : Side → ℕ

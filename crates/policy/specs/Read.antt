@@ -15,7 +15,7 @@ use Rattle.text.specs.declared.kind.Named.the-variants.{Is, Unknown}
 use Rattle.policy.specs.Limits.{textBytes}
 use Rattle.policy.specs.Policy.{Policy, blank}
 use Rattle.policy.specs.Line.{allowed, countFits, formFits, fieldAt, lineOf}
-use Rattle.policy.specs.Checks.{lineInRange, lineRises, lineHasRoom, lineWidthsEqual, lineBalances, withLineOf}
+use Rattle.policy.specs.Checks.{lineInRange, lineRises, lineConflictRoom, linePairRoom, lineWidthsEqual, lineBalances, withLineOf}
 
 -- a text is accepted, and yields a policy, or it is refused with a number at a line
 pub data Outcome : Type 0 where
@@ -27,7 +27,7 @@ abbrev pub kindOf : List ℕ → Named
 kindOf l = named (fieldAt (fields l) 0)
 
 -- the checks of a line of a known kind, after the line before it and the policy of all lines before it, in the order of
--- testing: 21 stands "between 7 and 8"
+-- testing: 22 stands "after 7" and 21 "between 7 and 8"
 unfoldable pub checksOf : Option Kind → Policy → Bool → Kind → List (List ℕ) → List Check
 checksOf before p ended k fs =
     check 2 (not ended)
@@ -36,7 +36,8 @@ checksOf before p ended k fs =
     ∷ check 5 (not (formFits (layoutOf k) fs))
     ∷ check 6 (not (lineInRange p (lineOf k fs)))
     ∷ check 7 (not (lineRises p (lineOf k fs)))
-    ∷ check 21 (not (lineHasRoom p (lineOf k fs)))
+    ∷ check 22 (not (lineConflictRoom p (lineOf k fs)))
+    ∷ check 21 (not (linePairRoom p (lineOf k fs)))
     ∷ check 8 (not (lineWidthsEqual p (lineOf k fs)))
     ∷ check 9 (not (lineBalances (lineOf k fs)))
     ∷ []
@@ -81,6 +82,6 @@ unfoldable pub readLines : State → ℕ → List TextLine → Outcome
 readLines s n [] = ending s n
 readLines s n (l ∷ ls) = given (lineRefusal s l) (readLines (lineAfter s l) (suc n) ls) (λ r. Refused r n)
 
--- "The reader accepts every text that breaks none of 1 to 10", nor 21
+-- "The reader accepts every text that breaks none of 1 to 10", nor 21 or 22
 unfoldable pub readText : List ℕ → Outcome
 readText t = cond (ltb textBytes (length t)) (Refused 1 0) (readLines start 0 (lines t))

@@ -6,7 +6,7 @@ use Rattle.text.specs.Number.{decimal}
 use Rattle.text.specs.Parts.{join, comma, textOf as linesText}
 use Rattle.text.specs.Kind.{wordOf, layoutOf}
 use Rattle.text.specs.declared.kind.Kind.{Kind}
-use Rattle.text.specs.declared.kind.Kind.the-variants.{Policy as PolicyKind, Uattr, Oattr, Usen, Osen, User, Object, Pair as PairKind, End}
+use Rattle.text.specs.declared.kind.Kind.the-variants.{Policy as PolicyKind, Uattr, Oattr, Usen, Osen, User, Object, Conflict as ConflictKind, Pair as PairKind, End}
 use Rattle.text.specs.declared.kind.Layout.{Layout}
 use Rattle.text.specs.declared.kind.Layout.the-variants.{Bare, One, Two, Three, Formula}
 use Rattle.text.specs.declared.number.Numbers.{Numbers}
@@ -15,6 +15,7 @@ use Rattle.words.specs.declared.Word.{Word}
 use Rattle.policy.specs.Policy.{Side, Rule, Policy}
 use Rattle.policy.specs.Line.{Line, noNumbers, oneNumber, twoNumbers, threeNumbers, plain, ruleLine}
 use Rattle.policy.specs.declared.value.Entry.{Entry}
+use Rattle.policy.specs.declared.value.Conflict.{Conflict}
 use Rattle.policy.specs.declared.value.Pair.{Pair}
 
 -- the lines of a policy
@@ -26,6 +27,9 @@ directLines k s = map (λ (l : Direct). plain k (twoNumbers (l .senior) (l .juni
 
 abbrev pub entryLines : Kind → List Entry → List Line
 entryLines k es = map (λ (e : Entry). plain k (twoNumbers (e .number) (e .set))) es
+
+abbrev pub conflictLines : List Conflict → List Line
+conflictLines xs = map (λ (x : Conflict). plain ConflictKind (twoNumbers (x .set) (x .most))) xs
 
 abbrev pub ruleLines : List Rule → List Line
 ruleLines rs = map (λ (r : Rule). ruleLine (r .action) (r .words)) rs
@@ -43,6 +47,7 @@ linesByKind p =
     ∷ directLines Osen (p .object)
     ∷ entryLines User (p .users)
     ∷ entryLines Object (p .objects)
+    ∷ conflictLines (p .conflicts)
     ∷ ruleLines (p .rules)
     ∷ pairLines (p .pairs)
     ∷ (plain End noNumbers ∷ [])

@@ -12,6 +12,8 @@ use Rattle.policy.specs.Read.{Outcome, Accepted, Refused, readText}
 use Rattle.policy.specs.Text.{textOf}
 use Rattle.policy.specs.Value.{valueOf, policyOf}
 use Rattle.policy.specs.declared.value.Entry.{Entry}
+use Rattle.policy.specs.declared.value.Conflict.{Conflict}
+use Rattle.policy.specs.declared.value.Conflicts.{Conflicts}
 use Rattle.policy.specs.declared.value.Slot.{Slot}
 use Rattle.policy.specs.declared.value.SideValue.{SideValue}
 use Rattle.policy.specs.declared.value.Register.{Register}
@@ -34,6 +36,9 @@ sameLine x y = eqb (x .senior) (y .senior) && eqb (x .junior) (y .junior)
 abbrev pub sameEntry : Entry → Entry → Bool
 sameEntry x y = eqb (x .number) (y .number) && eqb (x .set) (y .set)
 
+abbrev pub sameConflict : Conflict → Conflict → Bool
+sameConflict x y = eqb (x .set) (y .set) && eqb (x .most) (y .most)
+
 abbrev pub samePair : Pair → Pair → Bool
 samePair x y = eqb (x .action) (y .action) && (eqb (x .user) (y .user) && eqb (x .object) (y .object))
 
@@ -49,6 +54,9 @@ sameSide x y =
 unfoldable pub sameRegister : Register → Register → Bool
 sameRegister x y = eqb (x .count) (y .count) && same sameEntry (x .entries) (y .entries)
 
+unfoldable pub sameConflicts : Conflicts → Conflicts → Bool
+sameConflicts x y = eqb (x .count) (y .count) && same sameConflict (x .entries) (y .entries)
+
 unfoldable pub sameRule : RuleValue → RuleValue → Bool
 sameRule x y = eqb (x .action) (y .action) && (eqb (x .count) (y .count) && same sameSlot (x .words) (y .words))
 
@@ -63,7 +71,9 @@ sameValue x y =
     eqb (x .form) (y .form)
     && (sameSide (x .user) (y .user)
     && (sameSide (x .object) (y .object)
-    && (sameRegister (x .users) (y .users) && (sameRegister (x .objects) (y .objects) && (sameRules (x .rules) (y .rules) && samePairs (x .pairs) (y .pairs))))))
+    && (sameRegister (x .users) (y .users)
+    && (sameRegister (x .objects) (y .objects)
+    && (sameConflicts (x .conflicts) (y .conflicts) && (sameRules (x .rules) (y .rules) && samePairs (x .pairs) (y .pairs)))))))
 
 -- ---- a test of check 11
 

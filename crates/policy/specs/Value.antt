@@ -6,9 +6,11 @@ use Rattle.basis.specs.Lists.{padded}
 use Rattle.seniority.specs.Seniority.{direct}
 use Rattle.words.specs.declared.Word.{Word}
 use Rattle.words.specs.declared.Word.the-variants.{True}
-use Rattle.policy.specs.Limits.{mostValues, mostActions, objectNumbers, mostWords, mostLines, mostPairs}
-use Rattle.policy.specs.Policy.{Side, Rule, Policy, pair}
+use Rattle.policy.specs.Limits.{mostValues, mostActions, objectNumbers, mostWords, mostLines, mostConflicts, mostPairs}
+use Rattle.policy.specs.Policy.{Side, Rule, Policy, conflict, pair}
 use Rattle.policy.specs.declared.value.Entry.{Entry}
+use Rattle.policy.specs.declared.value.Conflict.{Conflict}
+use Rattle.policy.specs.declared.value.Conflicts.{Conflicts}
 use Rattle.policy.specs.declared.value.Slot.{Slot}
 use Rattle.policy.specs.declared.value.SideValue.{SideValue}
 use Rattle.policy.specs.declared.value.Register.{Register}
@@ -27,6 +29,9 @@ linePlaces = mostLines
 
 abbrev pub entryPlaces : ℕ
 entryPlaces = objectNumbers
+
+abbrev pub conflictPlaces : ℕ
+conflictPlaces = mostConflicts
 
 abbrev pub wordPlaces : ℕ
 wordPlaces = mostWords
@@ -57,6 +62,9 @@ sideValue s =
 unfoldable pub register : List Entry → Register
 register es = record { count = length es; entries = padded entryPlaces noEntry es }
 
+unfoldable pub conflictsValue : List Conflict → Conflicts
+conflictsValue xs = record { count = length xs; entries = padded conflictPlaces (conflict 0 0) xs }
+
 unfoldable pub noRule : RuleValue
 noRule = record { action = 0; count = 0; words = padded wordPlaces (slot True) [] }
 
@@ -77,6 +85,7 @@ valueOf p =
       object = sideValue (p .object);
       users = register (p .users);
       objects = register (p .objects);
+      conflicts = conflictsValue (p .conflicts);
       rules = rulesValue (p .rules);
       pairs = pairsValue (p .pairs);
     }
@@ -88,6 +97,9 @@ sideOf s = record { widths = take (s .attributes) (s .widths); lines = take (s .
 
 unfoldable pub entriesOf : Register → List Entry
 entriesOf r = take (r .count) (r .entries)
+
+unfoldable pub conflictsOf : Conflicts → List Conflict
+conflictsOf x = take (x .count) (x .entries)
 
 -- the words in the first n places
 abbrev pub wordsIn : ℕ → List Slot → List Word
@@ -110,6 +122,7 @@ policyOf v =
       object = sideOf (v .object);
       users = entriesOf (v .users);
       objects = entriesOf (v .objects);
+      conflicts = conflictsOf (v .conflicts);
       rules = rulesOf (v .rules);
       pairs = pairsOf (v .pairs);
     }

@@ -1,4 +1,4 @@
-// The limits of document 01, each in one place; every array's length and every bound follows from these, by name.
+// The limits of documents 01 and 02, each in one place; every array's length and every bound follows from these, by name.
 ghost use mathlib.Core.Path.{_≡_};
 ghost use Rattle.policy.specs.Limits as limits;
 
@@ -25,6 +25,11 @@ pub const SESSION_NUMBERS: u32 = 32;
 
 // The most words of a formula.
 pub const MOST_WORDS: usize = 32;
+
+// The most conflict lines, and the greatest number of values that one may allow together.
+pub const MOST_CONFLICTS: usize = 16;
+
+pub const MOST_TOGETHER: u32 = 7;
 
 // The most pair lines.
 pub const MOST_PAIRS: usize = 64;

@@ -1,4 +1,4 @@
-// The refusals of document 01, in the order of their numbers.
+// The refusals of documents 01 and 02, in the order of their numbers.
 ghost use mathlib.Core.Path.{_≡_};
 ghost use Rattle.policy.specs.Answers.{numberOf};
 
@@ -24,6 +24,8 @@ pub enum Refusal {
     SetOutOfReach,
     BufferTooShort,
     TooManyPairs,
+    TooManyConflicts,
+    TooManyHeld,
 }
 
 // The number of a refusal.
@@ -52,5 +54,7 @@ pub fn number_of(refusal: Refusal) -> u32
         Refusal::SetOutOfReach => 19,
         Refusal::BufferTooShort => 20,
         Refusal::TooManyPairs => 21,
+        Refusal::TooManyConflicts => 22,
+        Refusal::TooManyHeld => 23,
     }
 }

@@ -13,6 +13,8 @@ pub const LINE_PLACES: usize = limits::MOST_LINES;
 
 pub const ENTRY_PLACES: usize = limits::OBJECT_NUMBERS as usize;
 
+pub const CONFLICT_PLACES: usize = limits::MOST_CONFLICTS;
+
 pub const WORD_PLACES: usize = limits::MOST_WORDS;
 
 pub const RULE_PLACES: usize = limits::MOST_ACTIONS;
@@ -40,6 +42,19 @@ pub struct Entry {
 pub struct Register {
     pub count: usize,
     pub entries: [Entry; ENTRY_PLACES],
+}
+
+// A conflict line: a set of user values, and how many of them a session may hold at most.
+#[repr(C)]
+pub struct Conflict {
+    pub set: u32,
+    pub most: u32,
+}
+
+#[repr(C)]
+pub struct Conflicts {
+    pub count: usize,
+    pub entries: [Conflict; CONFLICT_PLACES],
 }
 
 // A word in a struct of its own: an array of enums cannot be a field.
@@ -79,6 +94,7 @@ pub struct PolicyValue {
     pub object: SideValue,
     pub users: Register,
     pub objects: Register,
+    pub conflicts: Conflicts,
     pub rules: Rules,
     pub pairs: Pairs,
 }
@@ -100,6 +116,10 @@ pub fn blank() -> PolicyValue
     let register = Register {
         count: 0,
         entries: [Entry { number: 0, set: 0 }; ENTRY_PLACES],
+    };
+    let conflicts = Conflicts {
+        count: 0,
+        entries: [Conflict { set: 0, most: 0 }; CONFLICT_PLACES],
     };
     let words = [Slot { word: Word::True }; WORD_PLACES];
     let rule = RuleValue {
@@ -126,6 +146,7 @@ pub fn blank() -> PolicyValue
         object: side,
         users: register,
         objects: register,
+        conflicts,
         rules,
         pairs,
     }

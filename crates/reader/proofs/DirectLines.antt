@@ -18,10 +18,10 @@ use Rattle.text.specs.declared.kind.Kind.{Kind}
 use Rattle.policy.specs.Checks.{SideSizes, directFits, directAbove}
 use Rattle.policy.specs.Limits.{mostValues}
 use Rattle.policy.specs.Value.{linePlaces}
+use Rattle.policy.specs.Inner.Sound.{rising, lineAbove}
 use Rattle.policy.specs.declared.refusal.Refusal.the-variants.{OutOfRange, NotRising}
 use Rattle.policy.proofs.Bounds.{direct-fits, directs-few}
-use Rattle.policy.proofs.Parts.{lineAbove}
-use Rattle.policy.proofs.Rising.{rising, rising-more}
+use Rattle.policy.proofs.Rising.{rising-more}
 use Rattle.checks.specs.Inner.{sizesIn}
 use Rattle.checks.specs.declared.side.Shape.{Shape}
 use Rattle.reader.specs.Inner.Cursor.{bareAt, Stands, NextOf, aheadIs}

@@ -1,7 +1,7 @@
 -- Laws of kinds: what one word more says of the kind, and a kind by its place.
 use mathlib.Core.Path.{_≡_, refl, sym, _∙_}
 use mathlib.Core.Bool.{Bool, true, false}
-use mathlib.Core.List.{List, [], _∷_}
+use mathlib.Core.List.{List, _∷_}
 use Prim.Native.Nat.{ℕ, _<_}
 use lib.Dec.{eqb, lit<}
 use lib.ListN.{length, getD}
@@ -9,9 +9,9 @@ use Rattle.basis.specs.Lists.{same}
 use Rattle.basis.proofs.Table.{everyEntry, at}
 use Rattle.text.specs.Kind.{wordOf, kinds, namedIn, placeOf}
 use Rattle.text.specs.declared.kind.Kind.{Kind}
-use Rattle.text.specs.declared.kind.Kind.the-variants.{Policy, Uattr, Oattr, Usen, Osen, User, Object, Rule, Pair, End}
+use Rattle.text.specs.declared.kind.Kind.the-variants.{Policy, Uattr, Oattr, Usen, Osen, User, Object, Conflict, Rule, Pair, End}
 use Rattle.text.specs.declared.kind.Named.{Named}
-use Rattle.text.specs.declared.kind.Named.the-variants.{Is, Unknown}
+use Rattle.text.specs.declared.kind.Named.the-variants.{Is}
 
 -- the first word of some is the field, or it is not and the others decide
 module _ (f : List ℕ) (k : Kind) (ks : List Kind) (r : Bool) (is : r ≡ same eqb f (wordOf k)) where
@@ -23,10 +23,6 @@ module _ (f : List ℕ) (k : Kind) (ks : List Kind) (r : Bool) (is : r ≡ same 
   unfolding namedIn
   miss x e q = rw (sym is ∙ e, q)
 
-pub none : (f : List ℕ) → Unknown ≡ namedIn [] f
-unfolding namedIn
-none f = refl
-
 -- ---- a kind by its place
 
 pub place-lt : (k : Kind) → placeOf k < length kinds
@@ -37,6 +33,7 @@ place-lt Usen = lit< tt
 place-lt Osen = lit< tt
 place-lt User = lit< tt
 place-lt Object = lit< tt
+place-lt Conflict = lit< tt
 place-lt Rule = lit< tt
 place-lt Pair = lit< tt
 place-lt End = lit< tt
@@ -52,10 +49,11 @@ kind-at Usen = refl
 kind-at Osen = refl
 kind-at User = refl
 kind-at Object = refl
+kind-at Conflict = refl
 kind-at Rule = refl
 kind-at Pair = refl
 kind-at End = refl
 
--- a test of kinds that passes at each of the ten
+-- a test of kinds that passes at each of the eleven
 pub each-kind : (f : Kind → Bool) → everyEntry (λ _ k. f k) 0 kinds ≡ true → (k : Kind) → f k ≡ true
 each-kind f e k = rw (kind-at k) at (at (λ _ j. f j) End kinds e (placeOf k) (place-lt k))

@@ -20,7 +20,7 @@ use Rattle.text.specs.Number.{mostDigits, isDigit, digitOf, valueFrom, v
 use Rattle.text.specs.Parts.{lineFeed, comma, onto, split, join, TextLine, linesOf, lines, textOf}
 use Rattle.text.specs.Kind.{wordOf, kinds, namedIn, named}
 use Rattle.text.specs.declared.kind.Kind.{Kind}
-use Rattle.text.specs.declared.kind.Kind.the-variants.{Policy, Uattr, Oattr, Usen, Osen, User, Object, Rule, Pair, End}
+use Rattle.text.specs.declared.kind.Kind.the-variants.{Policy, Uattr, Oattr, Usen, Osen, User, Object, Conflict, Rule, Pair, End}
 use Rattle.text.specs.declared.kind.Named.{Named}
 use Rattle.text.specs.declared.kind.Named.the-variants.{Is}
 use Rattle.text.proofs.Split.{split-pos}
@@ -365,6 +365,7 @@ named-word Usen = refl
 named-word Osen = refl
 named-word User = refl
 named-word Object = refl
+named-word Conflict = refl
 named-word Rule = refl
 named-word Pair = refl
 named-word End = refl

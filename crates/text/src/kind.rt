@@ -1,4 +1,4 @@
-// The ten words that a line may start with, and which kind may follow which.
+// The eleven words that a line may start with, and which kind may follow which.
 ghost use mathlib.Core.Path.{_≡_};
 ghost use lib.Dec.{eqb};
 ghost use lib.ListN.{drop};
@@ -14,6 +14,7 @@ pub enum Kind {
     Osen,
     User,
     Object,
+    Conflict,
     Rule,
     Pair,
     End,
@@ -33,6 +34,8 @@ pub const OSEN: [u8; 4] = *b"osen";
 pub const USER: [u8; 4] = *b"user";
 
 pub const OBJECT: [u8; 6] = *b"object";
+
+pub const CONFLICT: [u8; 8] = *b"conflict";
 
 pub const RULE: [u8; 4] = *b"rule";
 
@@ -81,6 +84,9 @@ fn parse_later(f: &[u8]) -> Named
     if equal(f, &OBJECT) {
         return Named::Is(Kind::Object);
     }
+    if equal(f, &CONFLICT) {
+        return Named::Is(Kind::Conflict);
+    }
     if equal(f, &RULE) {
         return Named::Is(Kind::Rule);
     }
@@ -115,7 +121,7 @@ pub fn parse(f: &[u8]) -> Named
     parse_later(f)
 }
 
-// A kind's place in the list of ten.
+// A kind's place in the list of eleven.
 fn place(k: Kind) -> usize
     ensures { λ r. ⌜ r ≡ placeOf k ⌝ }
 {
@@ -127,9 +133,10 @@ fn place(k: Kind) -> usize
         Kind::Osen => 4,
         Kind::User => 5,
         Kind::Object => 6,
-        Kind::Rule => 7,
-        Kind::Pair => 8,
-        Kind::End => 9,
+        Kind::Conflict => 7,
+        Kind::Rule => 8,
+        Kind::Pair => 9,
+        Kind::End => 10,
     }
 }
 
@@ -144,6 +151,7 @@ pub fn layout_of(k: Kind) -> Layout
         Kind::Osen => Layout::Two,
         Kind::User => Layout::Two,
         Kind::Object => Layout::Two,
+        Kind::Conflict => Layout::Two,
         Kind::Rule => Layout::Formula,
         Kind::Pair => Layout::Three,
         Kind::End => Layout::Bare,
@@ -156,7 +164,7 @@ pub fn same(j: Kind, k: Kind) -> bool
     place(j) == place(k)
 }
 
-const KINDS: usize = 10;
+const KINDS: usize = 11;
 
 // Each as wide as the other, so that the table's columns stand below each other.
 const YES: bool = true;
@@ -165,15 +173,16 @@ const NOT: bool = false;
 
 // Row by the kind before, column by the kind after.
 const FOLLOWS: [[bool; KINDS]; KINDS] = [
-    [NOT, YES, NOT, NOT, NOT, NOT, NOT, NOT, NOT, NOT],
-    [NOT, YES, YES, NOT, NOT, NOT, NOT, NOT, NOT, NOT],
-    [NOT, NOT, YES, YES, YES, YES, YES, YES, YES, YES],
-    [NOT, NOT, NOT, YES, YES, YES, YES, YES, YES, YES],
-    [NOT, NOT, NOT, NOT, YES, YES, YES, YES, YES, YES],
-    [NOT, NOT, NOT, NOT, NOT, YES, YES, YES, YES, YES],
-    [NOT, NOT, NOT, NOT, NOT, NOT, YES, YES, YES, YES],
-    [NOT, NOT, NOT, NOT, NOT, NOT, NOT, YES, YES, YES],
-    [NOT, NOT, NOT, NOT, NOT, NOT, NOT, NOT, YES, YES],
+    [NOT, YES, NOT, NOT, NOT, NOT, NOT, NOT, NOT, NOT, NOT],
+    [NOT, YES, YES, NOT, NOT, NOT, NOT, NOT, NOT, NOT, NOT],
+    [NOT, NOT, YES, YES, YES, YES, YES, YES, YES, YES, YES],
+    [NOT, NOT, NOT, YES, YES, YES, YES, YES, YES, YES, YES],
+    [NOT, NOT, NOT, NOT, YES, YES, YES, YES, YES, YES, YES],
+    [NOT, NOT, NOT, NOT, NOT, YES, YES, YES, YES, YES, YES],
+    [NOT, NOT, NOT, NOT, NOT, NOT, YES, YES, YES, YES, YES],
+    [NOT, NOT, NOT, NOT, NOT, NOT, NOT, YES, YES, YES, YES],
+    [NOT, NOT, NOT, NOT, NOT, NOT, NOT, NOT, YES, YES, YES],
+    [NOT, NOT, NOT, NOT, NOT, NOT, NOT, NOT, NOT, YES, YES],
     [NOT; KINDS],
 ];
 

@@ -12,8 +12,8 @@ use lib.ListN.{length, getD, take, drop}
 use Rattle.basis.specs.Choice.{given}
 use Rattle.basis.specs.Lists.{all}
 use Rattle.basis.proofs.Walk.{part-next, part-end}
-use Rattle.policy.proofs.Rising.{rising}
 use Rattle.validity.proofs.Blank.{BlankTo, blank-none}
+use Rattle.policy.specs.Inner.Sound.{rising}
 
 -- The elements before place i of n in an array of m pass: the answer is that of the rest, and of the places from n on,
 -- which must be blank. The code keeps the key of the element before place i and compares by `above`.

@@ -27,13 +27,11 @@ use Rattle.policy.specs.Limits.{mostPairs}
 use Rattle.policy.specs.Policy.{pair}
 use Rattle.policy.specs.Value.{widthPlaces, entryPlaces, wordPlaces, pairPlaces, slot, noEntry, noRule, entriesOf, register, ruleValue, ruleOf, pairsValue, pairsOf, linePlaces}
 use Rattle.policy.specs.Valid.{sameLine, sameEntry, samePair, sameSlot, sameRegister, sameRule, samePairs}
-use Rattle.policy.specs.Inner.Sound.{widthsSound}
+use Rattle.policy.specs.Inner.Sound.{widthsSound, rising, lineIn, lineAbove, numberIn, numberAbove, pairHigher}
 use Rattle.policy.specs.declared.value.Entry.{Entry}
 use Rattle.policy.specs.declared.value.RuleValue.{RuleValue}
 use Rattle.policy.specs.declared.value.Pair.{Pair}
 use Rattle.policy.proofs.Same.{exact-number, exact-line, exact-entry, exact-slot, exact-pair}
-use Rattle.policy.proofs.Parts.{lineIn, lineAbove, numberIn, numberAbove, pairHigher, lines-rising, entries-rising, pairs-rising}
-use Rattle.policy.proofs.Rising.{rising}
 use Rattle.validity.specs.Inner.{holds, widthsValid, linesValid, registerValid, pairsValid}
 
 -- ---- any list

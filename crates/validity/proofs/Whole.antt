@@ -19,13 +19,11 @@ use Rattle.policy.specs.Policy.{Side, total}
 use Rattle.policy.specs.Checks.{SideSizes, Sizes, sideSizes, sizes, wordFits, widthsEqual, balanced}
 use Rattle.policy.specs.Value.{widthPlaces, wordPlaces, wordsIn, rulePlaces, noRule, register, sideOf, sideValue, entriesOf, ruleOf, ruleValue, rulesOf, rulesValue, policyOf, valueOf}
 use Rattle.policy.specs.Valid.{sameSide, sameRegister, sameRule, sameRules, sameValue, valid}
-use Rattle.policy.specs.Inner.Sound.{widthsSound, sideSound, entriesSound, ruleSound, rulesSound, listsSound, sound}
+use Rattle.policy.specs.Inner.Sound.{widthsSound, sideSound, entriesSound, ruleSound, rulesSound, listsSound, sound, rising, actionAbove}
 use Rattle.policy.specs.declared.value.SideValue.{SideValue}
 use Rattle.policy.specs.declared.value.RuleValue.{RuleValue}
 use Rattle.policy.specs.declared.value.Rules.{Rules}
 use Rattle.policy.specs.declared.value.PolicyValue.{PolicyValue}
-use Rattle.policy.proofs.Parts.{actionAbove, rules-rising}
-use Rattle.policy.proofs.Rising.{rising}
 use Rattle.policy.proofs.Valid.{valid-sound}
 use Rattle.checks.specs.Inner.{sizesIn, bothIn, shapeOf}
 use Rattle.checks.specs.declared.side.Shape.{Shape}

@@ -11,9 +11,8 @@ use Rattle.basis.specs.Lists.{all, sum}
 use Rattle.basis.proofs.Walk.{part-next, part-end}
 use Rattle.policy.specs.Policy.{total}
 use Rattle.policy.specs.Checks.{widthFits}
-use Rattle.policy.specs.Inner.Sound.{widthsSound}
+use Rattle.policy.specs.Inner.Sound.{widthsSound, rising}
 use Rattle.policy.proofs.Bounds.{width-fits, total-most}
-use Rattle.policy.proofs.Rising.{rising}
 use Rattle.validity.proofs.Blank.{BlankTo}
 
 pub record Summed (most : ℕ) (answer : Bool) (ws : List ℕ) (m n t i : ℕ) : Type 0 where

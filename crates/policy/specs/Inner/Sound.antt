@@ -1,5 +1,5 @@
--- Policies whose lines pass checks 6 to 9 and 21 one after the other, by a test for each list. Reading yields exactly
--- these, and check 11 tests for them; nothing here is needed to say what reading or check 11 means.
+-- Policies whose lines pass checks 6 to 9, 21 and 22 one after the other, by a test for each list. Reading yields
+-- exactly these, and check 11 tests for them; nothing here is needed to say what reading or check 11 means.
 use Prim.Native.Nat.{ℕ, _+_}
 use mathlib.Core.Bool.{Bool, true, _&&_}
 use mathlib.Core.List.{List, [], _∷_}
@@ -9,10 +9,11 @@ use lib.ListN.{length}
 use Rattle.basis.specs.Choice.{given}
 use Rattle.basis.specs.Lists.{all}
 use Rattle.seniority.specs.declared.Direct.{Direct}
-use Rattle.policy.specs.Limits.{isForm, values, actions, userNumbers, objectNumbers, mostWords, mostPairs}
+use Rattle.policy.specs.Limits.{isForm, values, actions, userNumbers, objectNumbers, mostWords, mostConflicts, mostPairs}
 use Rattle.policy.specs.Policy.{Side, Rule, Policy, total}
-use Rattle.policy.specs.Checks.{SideSizes, Sizes, sideSizes, sizes, widthFits, directFits, directAbove, entryFits, pairFits, pairAbove, wordFits, widthsEqual, balanced}
+use Rattle.policy.specs.Checks.{SideSizes, Sizes, sideSizes, sizes, widthFits, directFits, directAbove, entryFits, conflictFits, pairFits, pairAbove, wordFits, widthsEqual, balanced}
 use Rattle.policy.specs.declared.value.Entry.{Entry}
+use Rattle.policy.specs.declared.value.Conflict.{Conflict}
 use Rattle.policy.specs.declared.value.Pair.{Pair}
 
 -- widths after others that sum to n
@@ -20,46 +21,59 @@ unfoldable pub widthsSound : ℕ → ℕ → List ℕ → Bool
 widthsSound most n [] = true
 widthsSound most n (w ∷ ws) = widthFits most n w && widthsSound most (n + w) ws
 
--- lines of a side after another
-unfoldable pub linesSound : SideSizes → Option Direct → List Direct → Bool
-linesSound s before [] = true
-linesSound s before (l ∷ ls) =
-    directFits s (l .senior) (l .junior) && (given before true (directAbove (l .senior) (l .junior)) && linesSound s (some l) ls)
+-- elements after another: each passes a test and stands above the one before it
+unfoldable pub rising : {A : Type 0} → (A → Bool) → (A → A → Bool) → Option A → List A → Bool
+rising fits above before [] = true
+rising fits above before (x ∷ xs) = fits x && (given before true (λ b. above b x) && rising fits above (some x) xs)
 
--- users or objects of a side of n values after another
-unfoldable pub entriesSound : ℕ → ℕ → Option Entry → List Entry → Bool
-entriesSound most n before [] = true
-entriesSound most n before (e ∷ es) =
-    entryFits most n (e .number) (e .set) && (given before true (λ b. ltb (b .number) (e .number)) && entriesSound most n (some e) es)
+-- ---- the test of each list's elements, and their order
 
--- a rule where there are n actions, and rules after another
+-- direct seniorities of a side
+abbrev pub lineIn : SideSizes → Direct → Bool
+lineIn s l = directFits s (l .senior) (l .junior)
+
+abbrev pub lineAbove : Direct → Direct → Bool
+lineAbove b l = directAbove (l .senior) (l .junior) b
+
+-- users or objects of a side of n values
+abbrev pub numberIn : ℕ → ℕ → Entry → Bool
+numberIn most n e = entryFits most n (e .number) (e .set)
+
+abbrev pub numberAbove : Entry → Entry → Bool
+numberAbove b e = ltb (b .number) (e .number)
+
+-- conflicts
+abbrev pub setAbove : Conflict → Conflict → Bool
+setAbove b x = ltb (b .set) (x .set)
+
+-- rules where there are n actions
 unfoldable pub ruleSound : ℕ → Sizes → Rule → Bool
 ruleSound n s r =
     leb (length (r .words)) mostWords
     && (ltb (r .action) n && (all (wordFits s) (r .words) && (all (widthsEqual s) (r .words) && balanced 0 (r .words))))
 
-unfoldable pub rulesSound : ℕ → Sizes → Option Rule → List Rule → Bool
-rulesSound n s before [] = true
-rulesSound n s before (r ∷ rs) = ruleSound n s r && (given before true (λ b. ltb (b .action) (r .action)) && rulesSound n s (some r) rs)
+abbrev pub actionAbove : Rule → Rule → Bool
+actionAbove b r = ltb (b .action) (r .action)
 
--- pairs after another, where there are n actions
-unfoldable pub pairsSound : ℕ → Sizes → Option Pair → List Pair → Bool
-pairsSound n s before [] = true
-pairsSound n s before (x ∷ xs) =
-    pairFits n (s .user .values) (s .object .values) x && (given before true (pairAbove x) && pairsSound n s (some x) xs)
+-- pairs
+abbrev pub pairHigher : Pair → Pair → Bool
+pairHigher b x = pairAbove x b
+
+-- ---- the lists
 
 unfoldable pub sideSound : ℕ → Side → Bool
-sideSound most s = widthsSound most 0 (s .widths) && linesSound (sideSizes s) none (s .lines)
+sideSound most s = widthsSound most 0 (s .widths) && rising (lineIn (sideSizes s)) lineAbove none (s .lines)
 
 -- every list is sound: what holds while a text is read, from the first line on
 unfoldable pub listsSound : Policy → Bool
 listsSound p =
     sideSound (values (p .form)) (p .user)
     && (sideSound (values (p .form)) (p .object)
-    && (entriesSound userNumbers (total (p .user)) none (p .users)
-    && (entriesSound objectNumbers (total (p .object)) none (p .objects)
-    && (rulesSound (actions (p .form)) (sizes p) none (p .rules)
-    && (leb (length (p .pairs)) mostPairs && pairsSound (actions (p .form)) (sizes p) none (p .pairs))))))
+    && (rising (numberIn userNumbers (total (p .user))) numberAbove none (p .users)
+    && (rising (numberIn objectNumbers (total (p .object))) numberAbove none (p .objects)
+    && ((leb (length (p .conflicts)) mostConflicts && rising (conflictFits (total (p .user))) setAbove none (p .conflicts))
+    && (rising (ruleSound (actions (p .form)) (sizes p)) actionAbove none (p .rules)
+    && (leb (length (p .pairs)) mostPairs && rising (pairFits (actions (p .form)) (total (p .user)) (total (p .object))) pairHigher none (p .pairs)))))))
 
 -- and the form and both sides are there: what holds of an accepted text's policy
 unfoldable pub sound : Policy → Bool

@@ -2,12 +2,12 @@
 use mathlib.Core.Path.{refl}
 use Rattle.basis.specs.Lists.{padded}
 use Rattle.policy.specs.Policy.{blank}
-use Rattle.policy.specs.Value.{sideValue, register, noRule, rulesValue, pairsValue, valueOf}
+use Rattle.policy.specs.Value.{sideValue, register, conflictsValue, noRule, rulesValue, pairsValue, valueOf}
 use Rattle.policy.proofs.value.blank.Statement.{statement}
 use Rattle.policy.proofs.value.blank.Tie as tie
 
 returns : tie.Need-returns
-unfolding padded blank sideValue register noRule rulesValue pairsValue valueOf
+unfolding padded blank sideValue register conflictsValue noRule rulesValue pairsValue valueOf
 returns c = refl
 
 pub blank-spec : {M : Type 1} → statement M

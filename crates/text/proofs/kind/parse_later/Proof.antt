@@ -1,7 +1,7 @@
 -- `text::kind::parse_later` meets its contract: each test settles one word.
 use borrow.Author.Needs.{needs}
 use Rattle.text.specs.Kind.{namedIn}
-use Rattle.text.proofs.Naming.{hit, miss, none}
+use Rattle.text.proofs.Naming.{hit, miss}
 use Rattle.text.proofs.kind.parse_later.Statement.{statement}
 use Rattle.text.proofs.kind.parse_later.Tie as tie
 
@@ -50,9 +50,18 @@ equal-requires-5 c κs = search needs
 returns-5 : tie.Need-returns-5
 returns-5 c = search (hit, miss)
 
+slice-aggregate-equal-6 : tie.Need-slice-aggregate-equal-6
+slice-aggregate-equal-6 c = search needs
+
+equal-requires-6 : tie.Need-equal-requires-6
+equal-requires-6 c κs = search needs
+
 returns-6 : tie.Need-returns-6
+returns-6 c = search (hit, miss) depth 7
+
+returns-7 : tie.Need-returns-7
 unfolding namedIn
-returns-6 c = search (miss, none)
+returns-7 c = search miss depth 7
 
 pub parse-later-spec : {M : Type 1} → statement M
 parse-later-spec =
@@ -73,4 +82,7 @@ parse-later-spec =
     slice-aggregate-equal-5
     equal-requires-5
     returns-5
-    returns-6)
+    slice-aggregate-equal-6
+    equal-requires-6
+    returns-6
+    returns-7)

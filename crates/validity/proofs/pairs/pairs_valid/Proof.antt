@@ -10,7 +10,7 @@ use Rattle.policy.specs.Policy.{pair}
 use Rattle.policy.specs.Checks.{pairFits}
 use Rattle.policy.specs.Value.{pairPlaces}
 use Rattle.policy.specs.Valid.{samePair}
-use Rattle.policy.proofs.Parts.{pairHigher}
+use Rattle.policy.specs.Inner.Sound.{pairHigher}
 use Rattle.checks.specs.Inner.{bothIn}
 use Rattle.validity.specs.Inner.{pairsValid}
 use Rattle.validity.proofs.Blank.{BlankTo, blank-all, blank-more}

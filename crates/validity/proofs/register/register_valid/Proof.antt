@@ -9,8 +9,8 @@ use Rattle.basis.specs.Lists.{all}
 use Rattle.basis.proofs.Lists.{long}
 use Rattle.policy.specs.Value.{entryPlaces, noEntry}
 use Rattle.policy.specs.Valid.{sameEntry}
+use Rattle.policy.specs.Inner.Sound.{numberIn}
 use Rattle.policy.specs.declared.value.Entry.{Entry}
-use Rattle.policy.proofs.Parts.{numberIn}
 use Rattle.validity.specs.Inner.{registerValid}
 use Rattle.validity.proofs.Blank.{BlankTo, blank-all, blank-more}
 use Rattle.validity.proofs.Rising.{Risen, risen-none, risen-blank, risen-all, risen-unfit, risen-falls, risen-more}

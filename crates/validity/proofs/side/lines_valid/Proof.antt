@@ -9,7 +9,7 @@ use Rattle.basis.proofs.Lists.{long}
 use Rattle.policy.specs.Value.{linePlaces}
 use Rattle.seniority.specs.Seniority.{direct}
 use Rattle.policy.specs.Valid.{sameLine}
-use Rattle.policy.proofs.Parts.{lineIn, lineAbove}
+use Rattle.policy.specs.Inner.Sound.{lineIn, lineAbove}
 use Rattle.checks.specs.Inner.{sizesIn}
 use Rattle.validity.specs.Inner.{linesValid}
 use Rattle.validity.proofs.Blank.{BlankTo, blank-all, blank-more}
