@@ -7,7 +7,7 @@ use mathlib.Core.List.{List, [], map-map, map-id}
 use mathlib.Core.Option.{none}
 use native.Mathlib.Omega.{arith}
 use borrow.Author.Tests.{eq-eqb, ne-eqb, eqb-true, lt-leb, le-leb}
-use lib.Dec.{eqb}
+use lib.Dec.{eqb, leb}
 use lib.ListN.{length, take, drop, length-map, length-take}
 use lib.Seq.{length-take-le}
 use Rattle.basis.specs.Lists.{all, same}
@@ -22,17 +22,17 @@ use Rattle.words.specs.declared.Holding.{Holding}
 use Rattle.words.specs.declared.Holding.the-variants.{User, Object}
 use Rattle.words.specs.declared.Comparison.{Comparison}
 use Rattle.words.specs.declared.Comparison.the-variants.{Dominates, Equals}
-use Rattle.policy.specs.Checks.{SideSizes, Sizes, pairFits}
-use Rattle.policy.specs.Limits.{mostPairs}
-use Rattle.policy.specs.Policy.{pair}
-use Rattle.policy.specs.Value.{widthPlaces, entryPlaces, wordPlaces, pairPlaces, slot, noEntry, noRule, entriesOf, register, ruleValue, ruleOf, pairsValue, pairsOf, linePlaces}
-use Rattle.policy.specs.Valid.{sameLine, sameEntry, samePair, sameSlot, sameRegister, sameRule, samePairs}
-use Rattle.policy.specs.Inner.Sound.{widthsSound, rising, lineIn, lineAbove, numberIn, numberAbove, pairHigher}
+use Rattle.policy.specs.Checks.{SideSizes, Sizes, conflictFits, pairFits}
+use Rattle.policy.specs.Policy.{conflict, pair}
+use Rattle.policy.specs.Value.{widthPlaces, entryPlaces, conflictPlaces, wordPlaces, pairPlaces, slot, noEntry, noRule, entriesOf, register, conflictsValue, conflictsOf, ruleValue, ruleOf, pairsValue, pairsOf, linePlaces}
+use Rattle.policy.specs.Valid.{sameLine, sameEntry, sameConflict, samePair, sameSlot, sameRegister, sameConflicts, sameRule, samePairs}
+use Rattle.policy.specs.Inner.Sound.{widthsSound, rising, lineIn, lineAbove, numberIn, numberAbove, pairHigher, setAbove}
 use Rattle.policy.specs.declared.value.Entry.{Entry}
 use Rattle.policy.specs.declared.value.RuleValue.{RuleValue}
+use Rattle.policy.specs.declared.value.Conflict.{Conflict}
 use Rattle.policy.specs.declared.value.Pair.{Pair}
-use Rattle.policy.proofs.Same.{exact-number, exact-line, exact-entry, exact-slot, exact-pair}
-use Rattle.validity.specs.Inner.{holds, widthsValid, linesValid, registerValid, pairsValid}
+use Rattle.policy.proofs.Same.{exact-number, exact-line, exact-entry, exact-conflict, exact-slot, exact-pair}
+use Rattle.validity.specs.Inner.{holds, widthsValid, linesValid, registerValid, conflictsValid, pairsValid}
 
 -- ---- any list
 
@@ -48,6 +48,11 @@ module _ {A : Type 0} (e : A → A → Bool) (blank : A) (xs : List A) (n m : �
   holds-in r h =
       let l : length (take n xs) ≡ n = length-take-le n xs (omega arith) in
       rw (eq-eqb (length (take n xs)) n l, ← k, same-padded e blank (take n xs) xs (omega arith), l, same-self e r (take n xs))
+
+  -- and the list keeps to its limit
+  pub holds-few : ((x : A) → e x x ≡ true) → n ≤ m → (r : Bool)
+      → (holds e m blank xs n && (leb (length (take n xs)) m && r)) ≡ (all (e blank) (drop n xs) && r)
+  holds-few s h r = rw (holds-in s h, le-leb (length (take n xs)) m (omega (arith, length-take n xs)))
 
 -- ---- a blank place
 
@@ -94,7 +99,7 @@ module _ (s : SideSizes) (ls : List Direct) (n : ℕ) (k : length ls ≡ linePla
 
   pub lines-in : n ≤ linePlaces → linesValid s ls n ≡ (all (sameLine (direct 0 0)) (drop n ls) && rising (lineIn s) lineAbove none (take n ls))
   unfolding linesValid
-  lines-in h = rw (holds-in sameLine (direct 0 0) ls n linePlaces k (exact-line .self) h, lines-rising s none (take n ls))
+  lines-in h = rw (holds-in sameLine (direct 0 0) ls n linePlaces k (exact-line .self) h)
 
 module _ (most total : ℕ) (es : List Entry) (n : ℕ) (k : length es ≡ entryPlaces) where
   pub entries-out : entryPlaces < n → false ≡ registerValid most total (record { count = n; entries = es })
@@ -105,7 +110,18 @@ module _ (most total : ℕ) (es : List Entry) (n : ℕ) (k : length es ≡ entry
       → registerValid most total (record { count = n; entries = es })
       ≡ (all (sameEntry noEntry) (drop n es) && rising (numberIn most total) numberAbove none (take n es))
   unfolding registerValid sameRegister register entriesOf holds
-  entries-in h = rw (holds-in sameEntry noEntry es n entryPlaces k (exact-entry .self) h, entries-rising most total none (take n es))
+  entries-in h = rw (holds-in sameEntry noEntry es n entryPlaces k (exact-entry .self) h)
+
+module _ (u : ℕ) (xs : List Conflict) (n : ℕ) (k : length xs ≡ conflictPlaces) where
+  pub conflicts-out : conflictPlaces < n → false ≡ conflictsValid u (record { count = n; entries = xs })
+  unfolding conflictsValid sameConflicts conflictsValue conflictsOf holds
+  conflicts-out h = rw (holds-out sameConflict (conflict 0 0) xs n conflictPlaces k h)
+
+  pub conflicts-in : n ≤ conflictPlaces
+      → conflictsValid u (record { count = n; entries = xs })
+      ≡ (all (sameConflict (conflict 0 0)) (drop n xs) && rising (conflictFits u) setAbove none (take n xs))
+  unfolding conflictsValid sameConflicts conflictsValue conflictsOf holds
+  conflicts-in h = holds-few sameConflict (conflict 0 0) xs n conflictPlaces k (exact-conflict .self) h _
 
 module _ (a : ℕ) (s : Sizes) (xs : List Pair) (n : ℕ) (k : length xs ≡ pairPlaces) where
   pub pairs-out : pairPlaces < n → false ≡ pairsValid a s (record { count = n; entries = xs })
@@ -116,12 +132,7 @@ module _ (a : ℕ) (s : Sizes) (xs : List Pair) (n : ℕ) (k : length xs ≡ pai
       → pairsValid a s (record { count = n; entries = xs })
       ≡ (all (samePair (pair 0 0 0)) (drop n xs) && rising (pairFits a (s .user .values) (s .object .values)) pairHigher none (take n xs))
   unfolding pairsValid samePairs pairsValue pairsOf holds
-  pairs-in h =
-      rw (
-        holds-in samePair (pair 0 0 0) xs n pairPlaces k (exact-pair .self) h,
-        le-leb (length (take n xs)) mostPairs (omega (arith, length-take n xs)),
-        pairs-rising a s none (take n xs),
-      )
+  pairs-in h = holds-few samePair (pair 0 0 0) xs n pairPlaces k (exact-pair .self) h _
 
 module _ (x : RuleValue) (k : length (x .words) ≡ wordPlaces) where
   rule-holds : sameRule (ruleValue (ruleOf x)) x ≡ holds sameSlot wordPlaces (slot True) (x .words) (x .count)

@@ -14,12 +14,12 @@ use lib.Seq.{length-take-le}
 use Rattle.basis.specs.Lists.{all, sum}
 use Rattle.basis.proofs.Bools.{and-left, and-right}
 use Rattle.basis.proofs.Padded.{same-padded, same-map}
-use Rattle.policy.specs.Limits.{isForm, values, actions, userNumbers, objectNumbers, mostWords, mostValues}
+use Rattle.policy.specs.Limits.{isForm, values, actions, userNumbers, objectNumbers, mostConflicts, mostWords, mostValues}
 use Rattle.policy.specs.Policy.{Side, total}
-use Rattle.policy.specs.Checks.{SideSizes, Sizes, sideSizes, sizes, wordFits, widthsEqual, balanced}
-use Rattle.policy.specs.Value.{widthPlaces, wordPlaces, wordsIn, rulePlaces, noRule, register, sideOf, sideValue, entriesOf, ruleOf, ruleValue, rulesOf, rulesValue, policyOf, valueOf}
-use Rattle.policy.specs.Valid.{sameSide, sameRegister, sameRule, sameRules, sameValue, valid}
-use Rattle.policy.specs.Inner.Sound.{widthsSound, sideSound, entriesSound, ruleSound, rulesSound, listsSound, sound, rising, actionAbove}
+use Rattle.policy.specs.Checks.{SideSizes, Sizes, sideSizes, sizes, conflictFits, wordFits, widthsEqual, balanced}
+use Rattle.policy.specs.Value.{widthPlaces, wordPlaces, wordsIn, rulePlaces, noRule, register, sideOf, sideValue, entriesOf, conflictsOf, conflictsValue, ruleOf, ruleValue, rulesOf, rulesValue, policyOf, valueOf}
+use Rattle.policy.specs.Valid.{sameSide, sameRegister, sameConflicts, sameRule, sameRules, sameValue, valid}
+use Rattle.policy.specs.Inner.Sound.{widthsSound, rising, numberIn, numberAbove, setAbove, ruleSound, actionAbove, sideSound, listsSound, sound}
 use Rattle.policy.specs.declared.value.SideValue.{SideValue}
 use Rattle.policy.specs.declared.value.RuleValue.{RuleValue}
 use Rattle.policy.specs.declared.value.Rules.{Rules}
@@ -28,7 +28,7 @@ use Rattle.policy.proofs.Valid.{valid-sound}
 use Rattle.checks.specs.Inner.{sizesIn, bothIn, shapeOf}
 use Rattle.checks.specs.declared.side.Shape.{Shape}
 use Rattle.checks.proofs.Laws.{shape-sizes}
-use Rattle.validity.specs.Inner.{holds, widthsValid, linesValid, sideValid, registerValid, ruleValid, rulesValid, pairsValid, listsValid}
+use Rattle.validity.specs.Inner.{holds, widthsValid, linesValid, sideValid, registerValid, conflictsValid, ruleValid, rulesValid, pairsValid, listsValid}
 use Rattle.validity.proofs.Rising.{rising-map, rising-all}
 use Rattle.validity.proofs.Turns.{turn-fails, turn-rest}
 use Rattle.validity.proofs.Widths.{sound-sum}
@@ -117,7 +117,6 @@ module _ (n : ℕ) (s : Sizes) (x : Rules) (k : length (x .entries) ≡ rulePlac
       rw (
         rules-stored h,
         rules-order (all (λ y. sameRule (ruleValue (ruleOf y)) y) zs),
-        rules-rising n s none (map ruleOf zs),
         rising-map (ruleSound n s) actionAbove ruleOf none,
         rising-all,
       )
@@ -142,25 +141,26 @@ unfolding policyOf
 both-are v u o x y =
     ap (λ (z : SideSizes). record { user = z; object = sizesIn o }) x ∙ ap (λ (z : SideSizes). record { user = sideSizes (sideOf (v .user)); object = z }) y
 
-value-order : (su so ru ro rr rp f lu lo ku ko eu eo er ep : Bool)
-    → ((su && (so && (ru && (ro && (rr && rp))))) && (f && (lu && (lo && (ku && (ko && (eu && (eo && (er && ep)))))))))
-    ≡ (f && ((su && (lu && ku)) && ((so && (lo && ko)) && ((ru && eu) && ((ro && eo) && ((rr && er) && (rp && ep)))))))
-value-order false so ru ro rr rp f lu lo ku ko eu eo er ep = simp and-false
-value-order true false ru ro rr rp f lu lo ku ko eu eo er ep = simp and-false
-value-order true true false ro rr rp f lu lo ku ko eu eo er ep = simp and-false
-value-order true true true false rr rp f lu lo ku ko eu eo er ep = simp and-false
-value-order true true true true false rp f lu lo ku ko eu eo er ep = simp and-false
-value-order true true true true true false f lu lo ku ko eu eo er ep = simp and-false
-value-order true true true true true true f false lo ku ko eu eo er ep = refl
-value-order true true true true true true f true false ku ko eu eo er ep = simp and-false
-value-order true true true true true true f true true ku ko eu eo er ep = refl
+value-order : (su so ru ro rc rr rp f lu lo ku ko eu eo ec er ep : Bool)
+    → ((su && (so && (ru && (ro && (rc && (rr && rp)))))) && (f && (lu && (lo && (ku && (ko && (eu && (eo && (ec && (er && ep))))))))))
+    ≡ (f && ((su && (lu && ku)) && ((so && (lo && ko)) && ((ru && eu) && ((ro && eo) && ((rc && ec) && ((rr && er) && (rp && ep))))))))
+value-order false so ru ro rc rr rp f lu lo ku ko eu eo ec er ep = simp and-false
+value-order true false ru ro rc rr rp f lu lo ku ko eu eo ec er ep = simp and-false
+value-order true true false ro rc rr rp f lu lo ku ko eu eo ec er ep = simp and-false
+value-order true true true false rc rr rp f lu lo ku ko eu eo ec er ep = simp and-false
+value-order true true true true false rr rp f lu lo ku ko eu eo ec er ep = simp and-false
+value-order true true true true true false rp f lu lo ku ko eu eo ec er ep = simp and-false
+value-order true true true true true true false f lu lo ku ko eu eo ec er ep = simp and-false
+value-order true true true true true true true f false lo ku ko eu eo ec er ep = refl
+value-order true true true true true true true f true false ku ko eu eo ec er ep = simp and-false
+value-order true true true true true true true f true true ku ko eu eo ec er ep = refl
 
 valid-parts : (v : PolicyValue)
     → valid v
     ≡ (isForm (v .form)
     && (sideValid (values (v .form)) (v .user)
-    && (sideValid (values (v .form)) (v .object) && listsValid (v .form) (sizes (policyOf v)) (v .users) (v .objects) (v .rules) (v .pairs))))
-unfolding sameValue valueOf policyOf sound listsSound sideValid registerValid rulesValid pairsValid listsValid
+    && (sideValid (values (v .form)) (v .object) && listsValid (v .form) (sizes (policyOf v)) (v .users) (v .objects) (v .conflicts) (v .rules) (v .pairs))))
+unfolding sameValue valueOf policyOf sound listsSound sideValid registerValid conflictsValid rulesValid pairsValid listsValid
 valid-parts v =
     valid-sound v
     ∙ (rw (eq-eqb (v .form) (v .form) refl)
@@ -169,6 +169,7 @@ valid-parts v =
     (sameSide (sideValue (sideOf (v .object))) (v .object))
     (sameRegister (register (entriesOf (v .users))) (v .users))
     (sameRegister (register (entriesOf (v .objects))) (v .objects))
+    (sameConflicts (conflictsValue (conflictsOf (v .conflicts))) (v .conflicts))
     (sameRules (rulesValue (rulesOf (v .rules))) (v .rules))
     _
     (isForm (v .form))
@@ -176,9 +177,10 @@ valid-parts v =
     (leb 1 (length (sideOf (v .object) .widths)))
     (sideSound (values (v .form)) (sideOf (v .user)))
     (sideSound (values (v .form)) (sideOf (v .object)))
-    (entriesSound userNumbers (total (sideOf (v .user))) none (entriesOf (v .users)))
-    (entriesSound objectNumbers (total (sideOf (v .object))) none (entriesOf (v .objects)))
-    (rulesSound (actions (v .form)) (sizes (policyOf v)) none (rulesOf (v .rules)))
+    (rising (numberIn userNumbers (total (sideOf (v .user)))) numberAbove none (entriesOf (v .users)))
+    (rising (numberIn objectNumbers (total (sideOf (v .object)))) numberAbove none (entriesOf (v .objects)))
+    (leb (length (conflictsOf (v .conflicts))) mostConflicts && rising (conflictFits (total (sideOf (v .user)))) setAbove none (conflictsOf (v .conflicts)))
+    (rising (ruleSound (actions (v .form)) (sizes (policyOf v))) actionAbove none (rulesOf (v .rules)))
     _))
 
 -- the answers about the value
@@ -201,5 +203,5 @@ module _ (v : PolicyValue) (a : Bool) (f : a ≡ isForm (v .form)) where
       object-not l = turn-rest f e (turn-rest user h (turn-fails object l _)) ∙ sym (valid-parts v)
 
       pub lists-left : not d ≡ false → {s : Sizes} → s ≡ sizes (policyOf v)
-          → {r : Bool} → r ≡ listsValid (v .form) s (v .users) (v .objects) (v .rules) (v .pairs) → r ≡ valid v
+          → {r : Bool} → r ≡ listsValid (v .form) s (v .users) (v .objects) (v .conflicts) (v .rules) (v .pairs) → r ≡ valid v
       lists-left l x q = turn-rest f e (turn-rest user h (turn-rest object l (rw x at q))) ∙ sym (valid-parts v)

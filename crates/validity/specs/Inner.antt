@@ -9,13 +9,14 @@ use lib.ListN.{length, take}
 use Rattle.basis.specs.Lists.{same, padded}
 use Rattle.seniority.specs.Seniority.{direct}
 use Rattle.seniority.specs.declared.Direct.{Direct}
-use Rattle.policy.specs.Limits.{actions, userNumbers, objectNumbers, mostPairs}
-use Rattle.policy.specs.Checks.{SideSizes, Sizes}
-use Rattle.policy.specs.Value.{widthPlaces, sideValue, register, ruleValue, rulesValue, pairsValue, sideOf, entriesOf, ruleOf, rulesOf, pairsOf, linePlaces}
-use Rattle.policy.specs.Valid.{sameLine, sameSide, sameRegister, sameRule, sameRules, samePairs}
-use Rattle.policy.specs.Inner.Sound.{widthsSound, linesSound, sideSound, entriesSound, ruleSound, rulesSound, pairsSound}
+use Rattle.policy.specs.Limits.{actions, userNumbers, objectNumbers, mostConflicts, mostPairs}
+use Rattle.policy.specs.Checks.{SideSizes, Sizes, conflictFits, pairFits}
+use Rattle.policy.specs.Value.{widthPlaces, sideValue, register, conflictsValue, ruleValue, rulesValue, pairsValue, sideOf, entriesOf, conflictsOf, ruleOf, rulesOf, pairsOf, linePlaces}
+use Rattle.policy.specs.Valid.{sameLine, sameSide, sameRegister, sameConflicts, sameRule, sameRules, samePairs}
+use Rattle.policy.specs.Inner.Sound.{widthsSound, rising, lineIn, lineAbove, numberIn, numberAbove, setAbove, ruleSound, actionAbove, pairHigher, sideSound}
 use Rattle.policy.specs.declared.value.SideValue.{SideValue}
 use Rattle.policy.specs.declared.value.Register.{Register}
+use Rattle.policy.specs.declared.value.Conflicts.{Conflicts}
 use Rattle.policy.specs.declared.value.RuleValue.{RuleValue}
 use Rattle.policy.specs.declared.value.Rules.{Rules}
 use Rattle.policy.specs.declared.value.Pairs.{Pairs}
@@ -30,7 +31,7 @@ unfoldable pub widthsValid : ℕ → List ℕ → ℕ → Bool
 widthsValid most ws n = holds eqb widthPlaces 0 ws n && (leb 1 (length (take n ws)) && widthsSound most 0 (take n ws))
 
 unfoldable pub linesValid : SideSizes → List Direct → ℕ → Bool
-linesValid s ls n = holds sameLine linePlaces (direct 0 0) ls n && linesSound s none (take n ls)
+linesValid s ls n = holds sameLine linePlaces (direct 0 0) ls n && rising (lineIn s) lineAbove none (take n ls)
 
 unfoldable pub sideValid : ℕ → SideValue → Bool
 sideValid most x = sameSide (sideValue (sideOf x)) x && (leb 1 (length (sideOf x .widths)) && sideSound most (sideOf x))
@@ -39,7 +40,15 @@ sideValid most x = sameSide (sideValue (sideOf x)) x && (leb 1 (length (sideOf x
 
 -- of a side of so many values
 unfoldable pub registerValid : ℕ → ℕ → Register → Bool
-registerValid most total x = sameRegister (register (entriesOf x)) x && entriesSound most total none (entriesOf x)
+registerValid most total x = sameRegister (register (entriesOf x)) x && rising (numberIn most total) numberAbove none (entriesOf x)
+
+-- ---- conflicts
+
+-- of so many user values
+unfoldable pub conflictsValid : ℕ → Conflicts → Bool
+conflictsValid u x =
+    sameConflicts (conflictsValue (conflictsOf x)) x
+    && (leb (length (conflictsOf x)) mostConflicts && rising (conflictFits u) setAbove none (conflictsOf x))
 
 -- ---- rules
 
@@ -48,19 +57,21 @@ unfoldable pub ruleValid : ℕ → Sizes → RuleValue → Bool
 ruleValid n s x = sameRule (ruleValue (ruleOf x)) x && ruleSound n s (ruleOf x)
 
 unfoldable pub rulesValid : ℕ → Sizes → Rules → Bool
-rulesValid n s x = sameRules (rulesValue (rulesOf x)) x && rulesSound n s none (rulesOf x)
+rulesValid n s x = sameRules (rulesValue (rulesOf x)) x && rising (ruleSound n s) actionAbove none (rulesOf x)
 
 -- ---- pairs
 
 -- of n actions and sides of these sizes
 unfoldable pub pairsValid : ℕ → Sizes → Pairs → Bool
 pairsValid n s x =
-    samePairs (pairsValue (pairsOf x)) x && (leb (length (pairsOf x)) mostPairs && pairsSound n s none (pairsOf x))
+    samePairs (pairsValue (pairsOf x)) x
+    && (leb (length (pairsOf x)) mostPairs && rising (pairFits n (s .user .values) (s .object .values)) pairHigher none (pairsOf x))
 
 -- ---- the value
 
 -- the lists, for sides of these sizes
-unfoldable pub listsValid : ℕ → Sizes → Register → Register → Rules → Pairs → Bool
-listsValid form s users objects rules pairs =
+unfoldable pub listsValid : ℕ → Sizes → Register → Register → Conflicts → Rules → Pairs → Bool
+listsValid form s users objects conflicts rules pairs =
     registerValid userNumbers (s .user .values) users
-    && (registerValid objectNumbers (s .object .values) objects && (rulesValid (actions form) s rules && pairsValid (actions form) s pairs))
+    && (registerValid objectNumbers (s .object .values) objects
+    && (conflictsValid (s .user .values) conflicts && (rulesValid (actions form) s rules && pairsValid (actions form) s pairs)))

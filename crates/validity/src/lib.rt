@@ -8,6 +8,7 @@ ghost use Rattle.checks.specs.Inner.{bothIn};
 ghost use Rattle.validity.specs.Inner.{listsValid};
 
 mod behind;
+mod conflicts;
 mod order;
 mod pairs;
 mod register;
@@ -16,23 +17,25 @@ mod side;
 
 use checks::side::Shape;
 use policy::limits;
+use policy::value::Conflicts;
 use policy::value::Pairs;
 use policy::value::PolicyValue;
 use policy::value::Register;
 use policy::value::Rules;
 
-// The users, the objects, the rules and the pairs, for sides of these shapes.
+// The users, the objects, the conflicts, the rules and the pairs, for sides of these shapes.
 fn lists_valid(
     form: u32,
     u: Shape,
     o: Shape,
     users: Register,
     objects: Register,
+    conflicts: Conflicts,
     rules: Rules,
     pairs: Pairs,
 ) -> bool
     requires { ⌜ (u .total ≤ mostValues) × (o .total ≤ mostValues) × (u .attributes ≤ widthPlaces) × (o .attributes ≤ widthPlaces) ⌝ }
-    ensures { λ r. ⌜ r ≡ listsValid form (bothIn u o) users objects rules pairs ⌝ }
+    ensures { λ r. ⌜ r ≡ listsValid form (bothIn u o) users objects conflicts rules pairs ⌝ }
 {
     let user_entries = users.entries;
     if !register::register_valid(limits::USER_NUMBERS, u.total, user_entries, users.count) {
@@ -45,6 +48,10 @@ fn lists_valid(
         object_entries,
         objects.count,
     ) {
+        return false;
+    }
+    let conflict_entries = conflicts.entries;
+    if !conflicts::conflicts_valid(u.total, conflict_entries, conflicts.count) {
         return false;
     }
     let actions = limits::actions(form);
@@ -78,7 +85,8 @@ pub fn check(v: PolicyValue) -> bool
     let o = checks::side::measure(object_widths, object.attributes);
     let users = v.users;
     let objects = v.objects;
+    let conflicts = v.conflicts;
     let rules = v.rules;
     let pairs = v.pairs;
-    lists_valid(v.form, u, o, users, objects, rules, pairs)
+    lists_valid(v.form, u, o, users, objects, conflicts, rules, pairs)
 }

@@ -68,18 +68,18 @@ measure-requires-2 c κs =
 
 lists-valid-requires : tie.Need-lists-valid-requires
 lists-valid-requires c κs =
-    let p = c .before .before .before .before .before .before .before .before in
-    let u = c .before .before .before .before .before .before .measure .ensures in
-    let o = c .before .before .before .before .measure2 .ensures in
+    let p = c .before .before .before .before .before .before .before .before .before in
+    let u = c .before .before .before .before .before .before .before .measure .ensures in
+    let o = c .before .before .before .before .before .measure2 .ensures in
     (shape-small (user p) u (most p), shape-small (object p) o (most p), shape-places (user p) u, shape-places (object p) o)
 
 returns-4 : tie.Need-returns-4
 unfolding sideOf
 returns-4 c =
-    let p = c .before .before .before .before .before .before .before .before .before in
+    let p = c .before .before .before .before .before .before .before .before .before .before in
     let a = start p in
-    let u = shape-is (user p) (c .before .before .before .before .before .before .before .measure .ensures) (user-long a) (sideOf (a .args .v .user)) refl in
-    let o = shape-is (object p) (c .before .before .before .before .before .measure2 .ensures) (object-long a) (sideOf (a .args .v .object)) refl in
+    let u = shape-is (user p) (c .before .before .before .before .before .before .before .before .measure .ensures) (user-long a) (sideOf (a .args .v .user)) refl in
+    let o = shape-is (object p) (c .before .before .before .before .before .before .measure2 .ensures) (object-long a) (sideOf (a .args .v .object)) refl in
     lists-left _ _ (p .before .before .before .before .before .before .before .before .is-form .ensures) (p .before .before .before .before .before .before .before .if1 .left) _ (limit p .values .ensures)
     _ (p .before .before .before .before .side-valid .ensures) (p .before .before .before .if2 .left) _ (p .before .side-valid2 .ensures) (p .if3 .left)
     (both-are _ _ _ u o) (c .lists-valid .ensures)
