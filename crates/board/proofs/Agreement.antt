@@ -12,12 +12,12 @@ use lib.Dec.{eqb}
 use lib.ListN.{length, getD, set, length-set, length-replicate}
 use lib.Pow.{pow-pos}
 use lib.Seq.{getD-set-same, getD-set-other}
-use borrow.Author.Tests.{eqb-true, eqb-false, leb-false, not-false}
+use borrow.Author.Tests.{eqb-true, eqb-false, leb-false, not-false, not-true}
 use Rattle.basis.specs.Choice.{given, there, firstBroken}
-use Rattle.basis.proofs.Bools.{and-left, and-right, and-both}
+use Rattle.basis.proofs.Bools.{and-left, and-right}
 use Rattle.basis.proofs.Choice.{unbroken}
 use Rattle.basis.proofs.Lists.{all-getD, all-set, all-replicate, getD-blank}
-use Rattle.sets.specs.Set.{within}
+use Rattle.sets.specs.Set.{union, minus, within}
 use Rattle.sets.proofs.Laws.{setOf-lt, within-union, within-minus, within-le}
 use Rattle.seniority.specs.Seniority.{reach, heldOrSenior}
 use Rattle.policy.specs.Limits.{actions, sessionNumbers}
@@ -28,8 +28,9 @@ use Rattle.policy.specs.Answers.{refused, decided}
 use Rattle.policy.specs.declared.value.PolicyValue.{PolicyValue}
 use Rattle.formula.specs.Truth.{Sets, grants}
 use Rattle.board.specs.declared.Board.{Board}
-use Rattle.board.specs.Machine.{Entry, empty, put, Call, opens, adds, drops, closes, requests, sessionOf, reachOf, objectSet, checks, entryAfter, heldIn, setsAsked, reply, Out, step, run}
+use Rattle.board.specs.Machine.{Entry, empty, put, Call, opens, adds, drops, closes, requests, sessionOf, reachOf, objectSet, tooMany, checks, entry, entryAfter, heldIn, setsAsked, reply, Out, step, run}
 use Rattle.board.specs.Board.{closed, entryOf, sessionFor, entryAt, store, fresh, entryFits, boardFits, fits, Labels, pastEnd, grantsByLabels, lookUp, boardReply, boardAfter, boardStep}
+use Rattle.board.proofs.Judging.{fewer-kept}
 use Rattle.board.proofs.Refusals.{allowed, step-is, lower-good}
 use Rattle.board.proofs.Run.{RanAlike}
 use Rattle.board.proofs.OneEntry.{ended, entryStep, ByEntry, put-same, Same, run-same}
@@ -67,10 +68,28 @@ objectSet-lt p h n = go (setOfNumber (p .objects) n) refl
 abbrev pub fitting : Policy → Option Entry → Bool
 fitting p e = given e true (entryFits p)
 
+-- its user is registered, and its set in reach and within every conflict
+record Fitting (p : Policy) (x : Entry) : Type 0 where
+  registered : there (setOfNumber (p .users) (x .user)) ≡ true
+  reached : within (x .held) (reachOf p (x .user)) ≡ true
+  few : tooMany p (x .held) ≡ false
+
+fitting-parts : (p : Policy) (x : Entry) → entryFits p x ≡ true → Fitting p x
+fitting-parts p x h =
+    let t = and-right (there (setOfNumber (p .users) (x .user))) _ h in
+    record {
+      registered = and-left _ _ h;
+      reached = and-left _ _ t;
+      few = not-true _ (and-right (within (x .held) (reachOf p (x .user))) _ t);
+    }
+
+fitting-whole : (p : Policy) (x : Entry) → Fitting p x → entryFits p x ≡ true
+fitting-whole p x f = rw (f .registered, f .reached, f .few)
+
 pub held-lt : (p : Policy) (e : Option Entry) → fitting p e ≡ true → heldIn e < sets (p .user)
 held-lt p none h = pow-pos (total (p .user))
 held-lt p (some x) h =
-    lt-of-le-of-lt (within-le (x .held) (reachOf p (x .user)) (and-right (there (setOfNumber (p .users) (x .user))) _ h)) (reachOf-lt p (x .user))
+    lt-of-le-of-lt (within-le (x .held) (reachOf p (x .user)) (fitting-parts p x h .reached)) (reachOf-lt p (x .user))
 
 -- a call that is not refused names one of the session numbers
 pub near : (p : Policy) (c : Call) (e : Option Entry) → firstBroken (checks p c e) ≡ none → sessionOf c < sessionNumbers
@@ -86,18 +105,20 @@ pub kept : (p : Policy) (c : Call) (e : Option Entry) → fitting p e ≡ true �
 unfolding checks entryAfter
 kept p (opens u s set) e f h =
     let t = unbroken (checks p (opens u s set) e) h in
-    and-both (there (setOfNumber (p .users) u)) (within set (reachOf p u)) (not-false _ (t .1 .0)) (not-false _ (t .1 .1 .1 .0))
+    fitting-whole p (entry u set) (record { registered = not-false _ (t .1 .0); reached = not-false _ (t .1 .1 .1 .0); few = t .1 .1 .1 .1 .0 })
 kept p (adds u s set) none f h = refl
 kept p (adds u s set) (some x) f h =
     let t = unbroken (checks p (adds u s set) (some x)) h in
+    let g = fitting-parts p x f in
     let q : x .user ≡ u = eqb-true (x .user) u (not-false _ (t .1 .1 .1 .0)) in
     let w : within set (reachOf p (x .user)) ≡ true = rw q (not-false _ (t .1 .1 .1 .1 .0)) in
-    and-both (there (setOfNumber (p .users) (x .user))) _ (and-left (there (setOfNumber (p .users) (x .user))) _ f)
-    (within-union (x .held) set (reachOf p (x .user)) (and-right (there (setOfNumber (p .users) (x .user))) _ f) w)
+    fitting-whole p (entry (x .user) (union (x .held) set))
+    (record { registered = g .registered; reached = within-union (x .held) set (reachOf p (x .user)) (g .reached) w; few = t .1 .1 .1 .1 .1 .0 })
 kept p (drops u s set) none f h = refl
 kept p (drops u s set) (some x) f h =
-    and-both (there (setOfNumber (p .users) (x .user))) _ (and-left (there (setOfNumber (p .users) (x .user))) _ f)
-    (within-minus (x .held) set (reachOf p (x .user)) (and-right (there (setOfNumber (p .users) (x .user))) _ f))
+    let g = fitting-parts p x f in
+    fitting-whole p (entry (x .user) (minus (x .held) set))
+    (record { registered = g .registered; reached = within-minus (x .held) set (reachOf p (x .user)) (g .reached); few = fewer-kept p (x .held) set (g .few) })
 kept p (closes u s) e f h = refl
 kept p (requests s a n) e f h = f
 

@@ -6,6 +6,7 @@ pub mod OneRequest
 pub mod Valid
 mod Look
 mod Users
+mod Judging
 mod ByNumber
 mod Ways
 mod Fitting

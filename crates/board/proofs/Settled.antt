@@ -12,19 +12,20 @@ use Rattle.basis.proofs.Choice.{unbroken}
 use Rattle.sets.specs.Set.{union, minus}
 use Rattle.policy.specs.Limits.{sessionNumbers}
 use Rattle.policy.specs.Policy.{Policy, setOfNumber}
-use Rattle.policy.specs.Value.{entryPlaces, entriesOf, sideOf, policyOf}
+use Rattle.policy.specs.Value.{entryPlaces, conflictPlaces, entriesOf, conflictsOf, sideOf, policyOf}
 use Rattle.policy.specs.Answers.{done, refused}
 use Rattle.policy.specs.declared.value.PolicyValue.{PolicyValue}
 use Rattle.board.specs.declared.Session.{Session}
 use Rattle.board.specs.declared.Board.{Board}
 use Rattle.board.specs.declared.reach.Found.{Found}
 use Rattle.board.specs.declared.rulings.Ruling.{Ruling}
-use Rattle.board.specs.Machine.{Entry, Call, opens, adds, drops, closes, sessionOf, checks, entryAfter, Out}
+use Rattle.board.specs.Machine.{Entry, Call, opens, adds, drops, closes, sessionOf, tooMany, checks, entryAfter, Out}
 use Rattle.board.specs.Board.{closed, entryOf, entryAt, sessionFor, store, fits, Labels, lookUp, boardReply, boardAfter, boardStep}
-use Rattle.board.specs.Inner.{refusalOf, FoundAs, Reaches, Reachable, lower, invalid, settled}
+use Rattle.board.specs.Inner.{refusalOf, FoundAs, Reaches, Reachable, over, Judges, lower, invalid, settled}
 use Rattle.board.proofs.Refusals.{allowed, step-is, lower-bad, lower-good}
 use Rattle.board.proofs.Fitting.{fits-valid}
 use Rattle.board.proofs.Agreement.{near}
+use Rattle.board.proofs.Judging.{judges, conflicts-within}
 use Rattle.board.proofs.Valid.{reachable, objects-within}
 
 -- what passes the checks passes the machine's
@@ -119,6 +120,12 @@ module _ (v : PolicyValue) (b : Board) (t : Bool) (ht : t ≡ fits v b) where
     pub ready : Reachable (v .user) (v .users)
     ready = reachable v (fits-valid v b (sym ht ∙ not-false t n))
 
+    pub conflicts-ready : v .conflicts .count ≤ conflictPlaces
+    conflicts-ready = conflicts-within v (fits-valid v b (sym ht ∙ not-false t n))
+
+    judged : Judges (policyOf v) (v .conflicts)
+    judged = judges v (fits-valid v b (sym ht ∙ not-false t n))
+
     pub objects-ready : v .objects .count ≤ entryPlaces
     objects-ready = objects-within v (fits-valid v b (sym ht ∙ not-false t n))
 
@@ -136,12 +143,20 @@ module _ (v : PolicyValue) (b : Board) (t : Bool) (ht : t ≡ fits v b) where
       close-ruled f hf hy = ruled (closes u s) x hx (refusalOf y) (hy (policyOf v) (hf .registered))
 
       module _ (f : Found) (hf : (p : Policy) → p .users ≡ entriesOf (v .users) → p .user ≡ sideOf (v .user) → Reaches p u f) where
-        pub open-ruled : (set : ℕ) → ((p : Policy) (w : ℕ) → Reaches p w f → refusalOf y ≡ firstBroken (checks p (opens w s set) (entryOf x)))
+        pub open-ruled : (set : ℕ) (o : Bool) → o ≡ over (conflictsOf (v .conflicts)) set
+            → ((p : Policy) (w : ℕ) → Reaches p w f → o ≡ tooMany p set → refusalOf y ≡ firstBroken (checks p (opens w s set) (entryOf x)))
             → refusalOf y ≡ lower v (opens u s set) b
         unfolding policyOf
-        open-ruled set hy = ruled (opens u s set) x hx (refusalOf y) (hy (policyOf v) u (hf (policyOf v) refl refl))
+        open-ruled set o ho hy = ruled (opens u s set) x hx (refusalOf y) (hy (policyOf v) u (hf (policyOf v) refl refl) (ho ∙ judged set))
 
-        pub change-ruled : (c : Call) → sessionOf c ≡ s → ((p : Policy) → Reaches p u f → refusalOf y ≡ firstBroken (checks p c (entryOf x)))
-            → refusalOf y ≡ lower v c b
+        pub add-ruled : (set held : ℕ) → held ≡ union (x .held) set → (o : Bool) → o ≡ over (conflictsOf (v .conflicts)) held
+            → ((p : Policy) → Reaches p u f → o ≡ tooMany p (union (x .held) set) → refusalOf y ≡ firstBroken (checks p (adds u s set) (entryOf x)))
+            → refusalOf y ≡ lower v (adds u s set) b
         unfolding policyOf
-        change-ruled c e hy = ruled c x (rw e hx) (refusalOf y) (hy (policyOf v) (hf (policyOf v) refl refl))
+        add-ruled set held hh o ho hy =
+            ruled (adds u s set) x hx (refusalOf y) (hy (policyOf v) (hf (policyOf v) refl refl) (rw (← hh) (ho ∙ judged held)))
+
+        pub drop-ruled : (set : ℕ) → ((p : Policy) → Reaches p u f → refusalOf y ≡ firstBroken (checks p (drops u s set) (entryOf x)))
+            → refusalOf y ≡ lower v (drops u s set) b
+        unfolding policyOf
+        drop-ruled set hy = ruled (drops u s set) x hx (refusalOf y) (hy (policyOf v) (hf (policyOf v) refl refl))

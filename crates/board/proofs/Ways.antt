@@ -1,13 +1,13 @@
 -- One law for each way out of a ruling: the checks before it pass and its own is broken; where it allows, none is.
 use Prim.Native.Nat.{ℕ, _≤_, _<_}
-use mathlib.Core.Path.{_≡_, sym, ap, _∙_}
-use mathlib.Core.Bool.{Bool, true, false, not}
-use mathlib.Core.List.{[], _∷_}
+use mathlib.Core.Path.{_≡_, refl, sym, ap, _∙_}
+use mathlib.Core.Bool.{Bool, true, false, not, cond}
 use mathlib.Core.Option.{Option, none, some}
+use lib.Dec.{eqb}
 use borrow.Author.Tests.{le-leb, lt-leb, eq-eqb, ne-eqb, not-true, not-false}
-use Rattle.basis.specs.Choice.{given, there, gives, refuses, check, firstBroken}
+use Rattle.basis.specs.Choice.{given, there, gives, refuses, firstBroken}
 use Rattle.basis.proofs.Choice.{first-broken-append}
-use Rattle.sets.specs.Set.{within}
+use Rattle.sets.specs.Set.{union, within}
 use Rattle.policy.specs.Limits.{actions, sessionNumbers}
 use Rattle.policy.specs.Policy.{Policy, setOfNumber}
 use Rattle.policy.specs.declared.refusal.Refusal.{Refusal}
@@ -17,9 +17,9 @@ use Rattle.board.specs.declared.Session.{Session}
 use Rattle.board.specs.declared.reach.Found.{Found}
 use Rattle.board.specs.declared.rulings.Ruling.{Ruling}
 use Rattle.board.specs.declared.rulings.Ruling.the-variants.{Allowed, Refused}
-use Rattle.board.specs.Machine.{opens, closes, objectSet, outOfReach, checks}
+use Rattle.board.specs.Machine.{Entry, opens, adds, closes, objectSet, outOfReach, tooMany, entryAfter, checks}
 use Rattle.board.specs.Board.{entryOf}
-use Rattle.board.specs.Inner.{refusalOf, FoundAs, Reaches, changeChecks, asked}
+use Rattle.board.specs.Inner.{refusalOf, FoundAs, Reaches, setChecks, changeChecks, asked}
 
 -- ---- close
 
@@ -64,37 +64,54 @@ module _ (p : Policy) (u s set : ℕ) (x : Session) where
       unfolding checks firstBroken
       open-open l = rw (lt-leb sessionNumbers s n, sym (h .registered) ∙ not-false (f .registered) r, ne-eqb (x .live) 0 l)
 
-      module _ (l : x .live ≡ 0) (t : Bool) (w : t ≡ within set (f .set)) where
-        pub open-allowed : t ≡ true → none ≡ firstBroken (checks p (opens u s set) (entryOf x))
-        unfolding checks firstBroken
-        open-allowed e =
-            rw (lt-leb sessionNumbers s n, sym (h .registered) ∙ not-false (f .registered) r, eq-eqb (x .live) 0 l, ← h .set, sym w ∙ e)
+      -- the session is free: the checks of the set decide
+      pub open-set : x .live ≡ 0 → (t o : Bool) → t ≡ within set (f .set) → o ≡ tooMany p set
+          → (y : Option ℕ) → y ≡ firstBroken (setChecks (not t) o) → y ≡ firstBroken (checks p (opens u s set) (entryOf x))
+      unfolding checks entryAfter firstBroken
+      open-set l t o w q y e =
+          e ∙ rw (lt-leb sessionNumbers s n, sym (h .registered) ∙ not-false (f .registered) r, eq-eqb (x .live) 0 l, ← h .set, ← w, ← q)
 
-        pub open-outside : t ≡ false → some 19 ≡ firstBroken (checks p (opens u s set) (entryOf x))
-        unfolding checks firstBroken
-        open-outside e =
-            rw (lt-leb sessionNumbers s n, sym (h .registered) ∙ not-false (f .registered) r, eq-eqb (x .live) 0 l, ← h .set, sym w ∙ e)
+-- ---- a set
 
--- ---- add and drop: the checks of close, then 19
+module _ (t o : Bool) where
+  pub set-outside : t ≡ false → some 19 ≡ firstBroken (setChecks (not t) o)
+  unfolding firstBroken
+  set-outside e = rw e
 
-module _ (p : Policy) (u s set : ℕ) (x : Session) (f : Found) (h : Reaches p u f) (y : Ruling)
+  pub set-over : t ≡ true → o ≡ true → some 23 ≡ firstBroken (setChecks (not t) o)
+  unfolding firstBroken
+  set-over e q = rw (e, q)
+
+  pub set-kept : t ≡ true → o ≡ false → none ≡ firstBroken (setChecks (not t) o)
+  unfolding firstBroken
+  set-kept e q = rw (e, q)
+
+-- ---- add and drop: the checks of close, then those of a set
+
+module _ (p : Policy) (u s set : ℕ) (o : Bool) (x : Session) (f : Found) (h : Reaches p u f) (y : Ruling)
     (hy : (p : Policy) → f .registered ≡ there (setOfNumber (p .users) u) → refusalOf y ≡ firstBroken (checks p (closes u s) (entryOf x))) where
-  change-is : firstBroken (changeChecks p u s set (entryOf x)) ≡ given (refusalOf y) (firstBroken (check 19 (outOfReach p u set) ∷ [])) some
+  change-is : firstBroken (changeChecks p u s set o (entryOf x)) ≡ given (refusalOf y) (firstBroken (setChecks (outOfReach p u set) o)) some
   change-is =
-      first-broken-append (checks p (closes u s) (entryOf x)) (check 19 (outOfReach p u set) ∷ [])
-      ∙ ap (λ (o : Option ℕ). given o (firstBroken (check 19 (outOfReach p u set) ∷ [])) some) (sym (hy p (h .registered)))
+      first-broken-append (checks p (closes u s) (entryOf x)) (setChecks (outOfReach p u set) o)
+      ∙ ap (λ (c : Option ℕ). given c (firstBroken (setChecks (outOfReach p u set) o)) some) (sym (hy p (h .registered)))
 
-  pub change-refused : (w : Refusal) → y ≡ Refused w → refusalOf y ≡ firstBroken (changeChecks p u s set (entryOf x))
+  pub change-refused : (w : Refusal) → y ≡ Refused w → refusalOf y ≡ firstBroken (changeChecks p u s set o (entryOf x))
   change-refused w e = rw e (sym (change-is ∙ rw e))
 
-  module _ (e : y ≡ Allowed) (t : Bool) (w : t ≡ within set (f .set)) where
-    pub change-allowed : t ≡ true → none ≡ firstBroken (changeChecks p u s set (entryOf x))
-    unfolding firstBroken
-    change-allowed q = sym (change-is ∙ rw (e, ← h .set, sym w ∙ q))
+  pub change-set : y ≡ Allowed → (t : Bool) → t ≡ within set (f .set)
+      → (z : Option ℕ) → z ≡ firstBroken (setChecks (not t) o) → z ≡ firstBroken (changeChecks p u s set o (entryOf x))
+  change-set e t w z q = q ∙ sym (change-is ∙ rw (e, ← h .set, ← w))
 
-    pub change-outside : t ≡ false → some 19 ≡ firstBroken (changeChecks p u s set (entryOf x))
-    unfolding firstBroken
-    change-outside q = sym (change-is ∙ rw (e, ← h .set, sym w ∙ q))
+-- where the session is closed, 17 comes before 23; where it is open, what it would hold is what it holds and the set
+pub add-is : (p : Policy) (u s set : ℕ) (x : Session) (o : Bool) → o ≡ tooMany p (union (x .held) set)
+    → firstBroken (changeChecks p u s set o (entryOf x)) ≡ firstBroken (checks p (adds u s set) (entryOf x))
+unfolding checks entryAfter firstBroken
+add-is p u s set x o q = go (eqb (x .live) 0)
+  where
+    go : (t : Bool) → let e : Option Entry = cond t none (some (record { user = x .user; held = x .held })) in
+        firstBroken (changeChecks p u s set o e) ≡ firstBroken (checks p (adds u s set) e)
+    go true = refl
+    go false = rw q
 
 -- ---- request
 

@@ -17,7 +17,7 @@ use Rattle.policy.specs.declared.value.PolicyValue.{PolicyValue}
 use Rattle.formula.specs.Truth.{Sets}
 use Rattle.labels.specs.Compile.{Buffers}
 use Rattle.labels.specs.declared.Counts.{Counts}
-use Rattle.board.specs.Machine.{Entry, Call, opens, adds, drops, closes, requests, sessionOf, reachOf, checks, entry, entryAfter, setsAsked, Out}
+use Rattle.board.specs.Machine.{Entry, Call, opens, adds, drops, closes, requests, sessionOf, reachOf, tooMany, checks, entry, entryAfter, setsAsked, Out}
 use Rattle.board.specs.declared.Session.{Session}
 use Rattle.board.specs.declared.Board.{Board}
 use Rattle.board.specs.declared.Answer.{Answer}
@@ -67,10 +67,12 @@ store b s e = record { sessions = set (b .sessions) s (sessionFor e) }
 unfoldable pub fresh : Board
 fresh = record { sessions = replicate sessionNumbers closed }
 
--- ---- 11: "or a board holds a session whose user is not registered or whose set is out of reach"
+-- ---- 11: "or a board holds a session whose user is not registered or whose set is out of reach", or which holds "too
+-- many values of a conflict": "a board that doesn't [keep to it] is bad under check 11"
 
 abbrev pub entryFits : Policy → Entry → Bool
-entryFits p e = there (setOfNumber (p .users) (e .user)) && within (e .held) (reachOf p (e .user))
+entryFits p e =
+    there (setOfNumber (p .users) (e .user)) && (within (e .held) (reachOf p (e .user)) && not (tooMany p (e .held)))
 
 abbrev pub sessionsFit : Policy → List Session → Bool
 sessionsFit p xs = all (λ x. given (entryOf x) true (entryFits p)) xs

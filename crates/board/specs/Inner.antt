@@ -1,23 +1,28 @@
 -- What the inner functions of the code answer, and what they ask of a policy value. Public contracts do without these.
 use Prim.Native.Nat.{ℕ, _≤_, _<_}
 use mathlib.Core.Path.{_≡_}
-use mathlib.Core.Bool.{false, cond, not}
+use mathlib.Core.Bool.{Bool, false, cond, not}
 use mathlib.Core.List.{List, [], _∷_, _++_}
 use mathlib.Core.Option.{Option, none, some}
+use lib.Bits.{bitAnd}
+use lib.Count.{ones}
 use lib.Dec.{ltb}
 use lib.ListN.{length, getD, set}
 use Rattle.basis.specs.Choice.{given, there, Result, gives, refuses, Check, check, firstBroken, unlessRefused}
+use Rattle.basis.specs.Lists.{any}
 use Rattle.seniority.specs.Inner.{Ordered, wordBits}
 use Rattle.policy.specs.Limits.{userNumbers}
 use Rattle.policy.specs.Policy.{Policy, total, sets, setOfNumber}
-use Rattle.policy.specs.Value.{entryPlaces, sideOf, entriesOf, policyOf, linePlaces}
+use Rattle.policy.specs.Value.{entryPlaces, sideOf, entriesOf, conflictsOf, policyOf, linePlaces}
 use Rattle.policy.specs.Answers.{numberOf, Reply, done, refused, decided}
 use Rattle.policy.specs.declared.value.Entry.{Entry}
 use Rattle.policy.specs.declared.value.SideValue.{SideValue}
 use Rattle.policy.specs.declared.value.Register.{Register}
+use Rattle.policy.specs.declared.value.Conflict.{Conflict}
+use Rattle.policy.specs.declared.value.Conflicts.{Conflicts}
 use Rattle.policy.specs.declared.value.PolicyValue.{PolicyValue}
 use Rattle.formula.specs.Truth.{Sets, at}
-use Rattle.board.specs.Machine.{Entry as SessionEntry, Call, closes, requests, sessionOf, reachOf, outOfReach, checks, setsAsked, Out}
+use Rattle.board.specs.Machine.{Entry as SessionEntry, Call, closes, requests, sessionOf, reachOf, outOfReach, tooMany, checks, setsAsked, Out}
 use Rattle.board.specs.Board.{entryAt, fits, Labels, pastEnd, grantsByLabels}
 use Rattle.board.specs.declared.Session.{Session}
 use Rattle.board.specs.declared.Board.{Board}
@@ -88,9 +93,21 @@ byteAt buffer place = cond (ltb place (length buffer)) (some (getD buffer place 
 unfoldable pub lookedUp : Labels → ℕ → Sets → Reply
 lookedUp l a s = cond (pastEnd l s) (refused 20) (decided (grantsByLabels l a s))
 
--- the checks that add and drop share: those of close, then 19
-abbrev pub changeChecks : Policy → ℕ → ℕ → ℕ → Option SessionEntry → List Check
-changeChecks p u s set e = checks p (closes u s) e ++ (check 19 (outOfReach p u set) ∷ [])
+-- the checks of a set: 19 of the one that a call names, then 23 of the one that its session would hold
+abbrev pub setChecks : (outside over : Bool) → List Check
+setChecks outside over = check 19 outside ∷ check 23 over ∷ []
+
+-- the checks of add, and those of drop where nothing is over: those of close, then those of a set
+abbrev pub changeChecks : Policy → ℕ → ℕ → ℕ → Bool → Option SessionEntry → List Check
+changeChecks p u s set over e = checks p (closes u s) e ++ setChecks (outOfReach p u set) over
+
+-- a set has too many values of some conflict: both have more in common than it allows
+unfoldable pub over : List Conflict → ℕ → Bool
+over xs set = any (λ x. ltb (x .most) (ones (bitAnd (x .set) set))) xs
+
+-- these conflicts judge as those of a policy do
+abbrev pub Judges : Policy → Conflicts → Type 0
+Judges p xs = (set : ℕ) → over (conflictsOf xs) set ≡ tooMany p set
 
 -- what a request comes to: the sets that it is decided on, or the lowest of 12 to 17
 unfoldable pub asked : Policy → ℕ → ℕ → ℕ → Option SessionEntry → Result Sets

@@ -1,17 +1,20 @@
 -- The plain machine, "fed the text and the calls with the arguments listed below, and nothing of the board, the lent
 -- buffers, NU or NO". Its session functions are those of source document 002, Tables 5 and 6.
 use Prim.Native.Nat.{ℕ}
-use mathlib.Core.Bool.{Bool, false, cond, not}
+use mathlib.Core.Bool.{Bool, false, cond, not, _&&_}
 use mathlib.Core.List.{List, [], _∷_}
 use mathlib.Core.Option.{Option, none, some}
-use lib.Dec.{eqb, leb}
+use lib.Dec.{eqb, leb, ltb}
 use Rattle.basis.specs.Choice.{given, there, Check, check, firstBroken}
-use Rattle.sets.specs.Set.{union, minus, within}
+use Rattle.basis.specs.Lists.{any}
+use Rattle.basis.specs.Numbers.{count}
+use Rattle.sets.specs.Set.{has, union, minus, within}
 use Rattle.seniority.specs.Seniority.{reach}
 use Rattle.policy.specs.Limits.{sessionNumbers}
 use Rattle.policy.specs.Policy.{Policy, blank, total, setOfNumber}
 use Rattle.policy.specs.Read.{Outcome, Accepted, Refused, readText}
 use Rattle.policy.specs.Answers.{Reply, done, refused, decided}
+use Rattle.policy.specs.declared.value.Conflict.{Conflict}
 use Rattle.formula.specs.Truth.{Sets, at, grants}
 use Rattle.formula.specs.Decide.{noAction}
 
@@ -54,7 +57,24 @@ reachOf p u = given (setOfNumber (p .users) u) 0 (reach (p .user .lines) (total 
 unfoldable pub objectSet : Policy → ℕ → ℕ
 objectSet p n = given (setOfNumber (p .objects) n) 0 (λ set. set)
 
--- ---- refusals 12 to 19, of a call and the entry of the session that it names
+-- ---- what becomes of the entry of a session
+
+abbrev pub entry : ℕ → ℕ → Entry
+entry u held = record { user = u; held = held }
+
+-- a call that is not refused: "the map gains (user, set)"; "the held set gains or loses these values"; "the entry goes";
+-- "the map is unchanged"
+unfoldable pub entryAfter : Call → Option Entry → Option Entry
+entryAfter (opens u s set) e = some (entry u set)
+entryAfter (adds u s set) e = given e none (λ x. some (entry (x .user) (union (x .held) set)))
+entryAfter (drops u s set) e = given e none (λ x. some (entry (x .user) (minus (x .held) set)))
+entryAfter (closes u s) e = none
+entryAfter (requests s a n) e = e
+
+abbrev pub heldIn : Option Entry → ℕ
+heldIn e = given e 0 (λ x. x .held)
+
+-- ---- refusals 12 to 19 and 23, of a call and the entry of the session that it names
 
 -- 13: "The session number is above 31."
 abbrev pub noSession : ℕ → Bool
@@ -76,21 +96,39 @@ ofAnother u e = given e false (λ x. not (eqb (x .user) u))
 abbrev pub outOfReach : Policy → ℕ → ℕ → Bool
 outOfReach p u set = not (within set (reachOf p u))
 
+-- how many "of the values in user set S" a set holds: as held, without juniors
+unfoldable pub together : Policy → ℕ → Conflict → ℕ
+together p set c = count (λ v. has (c .set) v && has set v) (total (p .user))
+
+-- "of the values in user set S .. a session may hold at most K": a set holds more of some conflict
+unfoldable pub tooMany : Policy → ℕ → Bool
+tooMany p set = any (λ c. ltb (c .most) (together p set c)) (p .conflicts)
+
+-- 23: "a session would hold too many values of a conflict", where the call that it is asked for were done
+abbrev pub wouldHoldTooMany : Policy → Call → Option Entry → Bool
+wouldHoldTooMany p c e = tooMany p (heldIn (entryAfter c e))
+
 -- 16: "Open: the session is open already"; 17: "Any other session call: it is not open". "A session is open while the
 -- map has its number"
 abbrev pub isOpen : Option Entry → Bool
 isOpen e = there e
 
--- each call's own list
+-- each call's own list, in the order of testing: 23 stands "after 19"
 unfoldable pub checks : Policy → Call → Option Entry → List Check
 checks p (opens u s set) e =
-    check 13 (noSession s) ∷ check 14 (noUser p u) ∷ check 16 (isOpen e) ∷ check 19 (outOfReach p u set) ∷ []
+    check 13 (noSession s)
+    ∷ check 14 (noUser p u)
+    ∷ check 16 (isOpen e)
+    ∷ check 19 (outOfReach p u set)
+    ∷ check 23 (wouldHoldTooMany p (opens u s set) e)
+    ∷ []
 checks p (adds u s set) e =
     check 13 (noSession s)
     ∷ check 14 (noUser p u)
     ∷ check 17 (not (isOpen e))
     ∷ check 18 (ofAnother u e)
     ∷ check 19 (outOfReach p u set)
+    ∷ check 23 (wouldHoldTooMany p (adds u s set) e)
     ∷ []
 checks p (drops u s set) e =
     check 13 (noSession s)
@@ -104,22 +142,7 @@ checks p (closes u s) e =
 checks p (requests s a n) e =
     check 12 (noAction p a) ∷ check 13 (noSession s) ∷ check 15 (noObject p n) ∷ check 17 (not (isOpen e)) ∷ []
 
--- ---- a call that is not refused
-
-abbrev pub entry : ℕ → ℕ → Entry
-entry u held = record { user = u; held = held }
-
--- what becomes of the session's entry: "the map gains (user, set)"; "the held set gains or loses these values"; "the
--- entry goes"; "the map is unchanged"
-unfoldable pub entryAfter : Call → Option Entry → Option Entry
-entryAfter (opens u s set) e = some (entry u set)
-entryAfter (adds u s set) e = given e none (λ x. some (entry (x .user) (union (x .held) set)))
-entryAfter (drops u s set) e = given e none (λ x. some (entry (x .user) (minus (x .held) set)))
-entryAfter (closes u s) e = none
-entryAfter (requests s a n) e = e
-
-abbrev pub heldIn : Option Entry → ℕ
-heldIn e = given e 0 (λ x. x .held)
+-- ---- the answer to a call that is not refused
 
 -- what a request is decided on: "the held set and the object's set"
 abbrev pub setsAsked : Policy → ℕ → Option Entry → Sets
@@ -141,7 +164,7 @@ pub record Out (S : Type 0) : Type 0 where
   pub reply : Reply
   pub state : S
 
--- "The machine refuses by 12 to 19, the lowest that applies first, and then keeps its map."
+-- "The machine refuses by 12 to 19, the lowest that applies first, and then keeps its map", and "by 23 too"
 unfoldable pub step : Policy → Call → Map → Out Map
 step p c m =
     given (firstBroken (checks p c (m (sessionOf c))))

@@ -8,6 +8,7 @@ ghost use Rattle.board.specs.Board.{Labels, labelsOf, callOf, replyOf, o
 mod asking;
 mod assigned;
 mod buffers;
+mod conflicts;
 mod entries;
 mod fit;
 mod juniors;
@@ -95,7 +96,9 @@ pub fn open(board: Board, policy: PolicyValue, user: u32, session: u32, set: u32
     let users = policy.users;
     let side = policy.user;
     let reach = reach::of(users, side, user);
-    let ruling = rulings::of_open(entry, reach, session, set);
+    let conflicts = policy.conflicts;
+    let over = conflicts::over(conflicts, set);
+    let ruling = rulings::of_open(entry, reach, over, session, set);
     let next = Session {
         live: 1,
         user: user,
@@ -116,8 +119,10 @@ pub fn add(board: Board, policy: PolicyValue, user: u32, session: u32, set: u32)
     let users = policy.users;
     let side = policy.user;
     let reach = reach::of(users, side, user);
-    let ruling = rulings::of_add(entry, reach, user, session, set);
     let held = sets::union(entry.held, set);
+    let conflicts = policy.conflicts;
+    let over = conflicts::over(conflicts, held);
+    let ruling = rulings::of_add(entry, reach, over, user, session, set);
     let next = Session {
         live: 1,
         user: entry.user,

@@ -17,7 +17,7 @@ abbrev threeValues : Side
 threeValues = record { widths = 3 ∷ []; lines = direct 1 0 ∷ direct 2 1 ∷ [] }
 
 abbrev policy : Policy
-policy = record { form = 1; user = threeValues; object = threeValues; users = []; objects = []; rules = []; pairs = [] }
+policy = record { form = 1; user = threeValues; object = threeValues; users = []; objects = []; conflicts = []; rules = []; pairs = [] }
 
 -- the truth of one word where both sets hold the same one value, given as its set
 abbrev both : Holding → ℕ → Bool

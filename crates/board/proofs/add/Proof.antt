@@ -1,9 +1,9 @@
 -- `board::add` meets its contract: check 11, then the ruling and the session's next entry settle the call.
-use mathlib.Core.Path.{_≡_, refl, _∙_}
+use mathlib.Core.Path.{_≡_, _∙_}
 use borrow.Author.Needs.{needs}
 use Rattle.board.specs.Machine.{adds}
 use Rattle.board.specs.Inner.{refusalOf, lower}
-use Rattle.board.proofs.Settled.{stopped, ready, change-ruled, settled-near, added}
+use Rattle.board.proofs.Settled.{stopped, ready, conflicts-ready, add-ruled, settled-near, added}
 use Rattle.board.proofs.add.Statement.{statement}
 use Rattle.board.proofs.add.Tie as tie
 
@@ -22,30 +22,33 @@ at-requires c κs = search needs
 of-requires : tie.Need-of-requires
 of-requires c κs = search ready
 
-of-add-requires : tie.Need-of-add-requires
-of-add-requires c κs = search needs
-
 union-requires : tie.Need-union-requires
 union-requires c κs = search needs
 
+over-requires : tie.Need-over-requires
+over-requires c κs = search conflicts-ready
+
+of-add-requires : tie.Need-of-add-requires
+of-add-requires c κs = search needs
+
 -- the ruling is of the call's checks
-ruled : (c : tie.After-of-add) → (let a = c .before .before .before .before .before .before .before .before .args in refusalOf (c .of-add .result) ≡ lower (a .policy) (adds (a .user) (a .session) (a .set)) (a .board))
+ruled : (c : tie.After-of-add) → (let a = c .before .before .before .before .before .before .before .before .before .before .before .args in refusalOf (c .of-add .result) ≡ lower (a .policy) (adds (a .user) (a .session) (a .set)) (a .board))
 ruled c =
-    let f = c .before .before .before .before .before .before .before in let a = f .before .args in let x = c .before .before .before .before .at in let r = c .before .of in
-    change-ruled (a .policy) (a .board) (f .fits2 .result) (f .fits2 .ensures) (c .before .before .before .before .before .before .if1 .left)
+    let f = c .before .before .before .before .before .before .before .before .before .before in let a = f .before .args in let x = c .before .before .before .before .before .before .before .at in let r = c .before .before .before .before .of in let h = c .before .before .before .union in let o = c .before .over in
+    add-ruled (a .policy) (a .board) (f .fits2 .result) (f .fits2 .ensures) (c .before .before .before .before .before .before .before .before .before .if1 .left)
     (a .user) (a .session) (x .result) (x .ensures) (c .of-add .result) (r .result) (r .ensures)
-    (adds (a .user) (a .session) (a .set)) refl (c .of-add .ensures)
+    (a .set) (h .result) (h .ensures) (o .result) (o .ensures) (c .of-add .ensures)
 
 settle-requires : tie.Need-settle-requires
 settle-requires c κs =
-    let a = c .before .before .before .before .before .before .before .before .before .args in
-    settled-near (a .policy) (adds (a .user) (a .session) (a .set)) (a .board) _ (ruled (c .before))
+    let a = c .before .before .before .before .before .before .before .before .before .before .before .args in
+    settled-near (a .policy) (adds (a .user) (a .session) (a .set)) (a .board) _ (ruled c)
 
 returns-2 : tie.Need-returns-2
 returns-2 c l =
-    let a = c .before .before .before .before .before .before .before .before .before .before .args in let x = c .before .before .before .before .before .before .at in let h = c .before .union in
+    let a = c .before .before .before .before .before .before .before .before .before .before .before .before .args in let x = c .before .before .before .before .before .before .before .before .at in let h = c .before .before .before .before .union in
     c .settle .ensures
-    ∙ added l (a .policy) (a .board) (a .user) (a .session) _ (a .set) (x .result) (x .ensures) (h .result) (ruled (c .before .before)) (h .ensures)
+    ∙ added l (a .policy) (a .board) (a .user) (a .session) _ (a .set) (x .result) (x .ensures) (h .result) (ruled (c .before)) (h .ensures)
 
 pub add-spec : {M : Type 1} → statement M
 add-spec =
@@ -56,7 +59,8 @@ add-spec =
     returns
     at-requires
     of-requires
-    of-add-requires
     union-requires
+    over-requires
+    of-add-requires
     settle-requires
     returns-2)

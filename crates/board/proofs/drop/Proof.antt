@@ -1,9 +1,9 @@
 -- `board::drop` meets its contract: check 11, then the ruling and the session's next entry settle the call.
-use mathlib.Core.Path.{_≡_, refl, _∙_}
+use mathlib.Core.Path.{_≡_, _∙_}
 use borrow.Author.Needs.{needs}
 use Rattle.board.specs.Machine.{drops}
 use Rattle.board.specs.Inner.{refusalOf, lower}
-use Rattle.board.proofs.Settled.{stopped, ready, change-ruled, settled-near, dropped}
+use Rattle.board.proofs.Settled.{stopped, ready, drop-ruled, settled-near, dropped}
 use Rattle.board.proofs.drop.Statement.{statement}
 use Rattle.board.proofs.drop.Tie as tie
 
@@ -32,9 +32,8 @@ minus-requires c κs = search needs
 ruled : (c : tie.After-of-drop) → (let a = c .before .before .before .before .before .before .before .before .args in refusalOf (c .of-drop .result) ≡ lower (a .policy) (drops (a .user) (a .session) (a .set)) (a .board))
 ruled c =
     let f = c .before .before .before .before .before .before .before in let a = f .before .args in let x = c .before .before .before .before .at in let r = c .before .of in
-    change-ruled (a .policy) (a .board) (f .fits2 .result) (f .fits2 .ensures) (c .before .before .before .before .before .before .if1 .left)
-    (a .user) (a .session) (x .result) (x .ensures) (c .of-drop .result) (r .result) (r .ensures)
-    (drops (a .user) (a .session) (a .set)) refl (c .of-drop .ensures)
+    drop-ruled (a .policy) (a .board) (f .fits2 .result) (f .fits2 .ensures) (c .before .before .before .before .before .before .if1 .left)
+    (a .user) (a .session) (x .result) (x .ensures) (c .of-drop .result) (r .result) (r .ensures) (a .set) (c .of-drop .ensures)
 
 settle-requires : tie.Need-settle-requires
 settle-requires c κs =

@@ -2,6 +2,7 @@
 use mathlib.Core.Path.{sym, _∙_}
 use borrow.Author.Needs.{needs}
 use Rattle.board.proofs.Fitting.{fits-entries, fits-invalid}
+use Rattle.board.proofs.Judging.{conflicts-within}
 use Rattle.board.proofs.Valid.{reachable}
 use Rattle.board.proofs.fit.fits.Statement.{statement}
 use Rattle.board.proofs.fit.fits.Tie as tie
@@ -11,12 +12,14 @@ check-requires c κs = search needs
 
 sessions-fit-requires : tie.Need-sessions-fit-requires
 sessions-fit-requires c κs =
-    let k = c .before .before .before in
-    reachable (k .before .before .args .policy) (sym (k .before .check .ensures) ∙ k .if1 .taken)
+    let k = c .before .before .before .before in
+    let v = k .before .before .args .policy in
+    let e = sym (k .before .check .ensures) ∙ k .if1 .taken in
+    (reachable v e, conflicts-within v e)
 
 returns : tie.Need-returns
 returns c =
-    let k = c .before .before .before .before in let a = k .before .before .args in
+    let k = c .before .before .before .before .before in let a = k .before .before .args in
     fits-entries (a .policy) (a .board) (sym (k .before .check .ensures) ∙ k .if1 .taken) (c .sessions-fit .result) (c .sessions-fit .ensures)
 
 returns-2 : tie.Need-returns-2

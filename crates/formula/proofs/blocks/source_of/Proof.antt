@@ -38,7 +38,7 @@ total-requires c κs = search needs
 
 -- a policy with these sides, and nothing else
 abbrev bare : SideValue → SideValue → Policy
-bare user object = record { form = 0; user = sideOf user; object = sideOf object; users = []; objects = []; rules = []; pairs = [] }
+bare user object = record { form = 0; user = sideOf user; object = sideOf object; users = []; objects = []; conflicts = []; rules = []; pairs = [] }
 
 object-total : (c : tie.After-total Inv-loop μ-loop) → c .total .result ≡ total (sideOf (c .before .before .before .args .object))
 object-total c =

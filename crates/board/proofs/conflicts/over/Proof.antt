@@ -1,0 +1,69 @@
+-- `board::conflicts::over` meets its contract: no conflict before place i is exceeded.
+use Prim.Native.Nat.{_≤_, _-_}
+use mathlib.Core.Path.{_≡_, refl, sym, _∙_}
+use native.Mathlib.Omega.{arith}
+use lib.ListN.{length, take, drop}
+use borrow.Author.Needs.{needs}
+use Rattle.basis.proofs.Lists.{long}
+use Rattle.policy.specs.Value.{conflictPlaces, conflictsOf}
+use Rattle.board.specs.Inner.{over}
+use Rattle.board.proofs.Judging.{over-here, over-later, over-none}
+use Rattle.board.proofs.conflicts.over.Statement.{statement}
+use Rattle.board.proofs.conflicts.over.Tie as tie
+
+abbrev Inv-loop : tie.InvT-loop
+Inv-loop set entries count i₀ i = (i ≤ count) × (over (take count entries) set ≡ over (drop i (take count entries)) set)
+
+abbrev μ-loop : tie.MeasureT-loop
+μ-loop set entries count i₀ i = count - i
+
+size : (c : tie.Start Inv-loop μ-loop) → length (c .args .conflicts .entries) ≡ conflictPlaces
+size c = search (needs, long)
+
+fits : (c : tie.Start Inv-loop μ-loop) → c .args .conflicts .count ≤ length (c .args .conflicts .entries)
+fits c = omega (arith, size c, c .pre)
+
+loop-holds : tie.Need-loop-holds Inv-loop μ-loop
+loop-holds c = (omega arith, refl)
+
+mul-x : tie.Need-mul-x Inv-loop μ-loop
+mul-x c = omega (arith, c .before .before .before .pre)
+
+array-copy-out-x : tie.Need-array-copy-out-x Inv-loop μ-loop
+array-copy-out-x c = omega (arith, c .before .before .before .pre)
+
+returns : tie.Need-returns Inv-loop μ-loop
+unfolding conflictsOf
+returns c =
+    let l = c .before .before .before .before .before in
+    sym (l .loop .inv .1 ∙ over-here _ _ _ _ (c .before .before .before .before .loop-test .taken) (fits (l .before .before)) (c .if1 .taken))
+
+add-i : tie.Need-add-i Inv-loop μ-loop
+add-i c = search needs
+
+loop-less : tie.Need-loop-less Inv-loop μ-loop
+loop-less c = search needs
+
+loop-again : tie.Need-loop-again Inv-loop μ-loop
+loop-again c =
+    let l = c .before .before .before .before .before in
+    (omega arith, l .loop .inv .1 ∙ over-later _ _ _ _ (c .before .before .before .before .loop-test .taken) (fits (l .before .before)) (c .if1 .left))
+
+returns-2 : tie.Need-returns-2 Inv-loop μ-loop
+unfolding conflictsOf
+returns-2 c = sym (c .before .loop .inv .1 ∙ over-none _ _ _ _ (c .loop-test .left))
+
+pub over-spec : {M : Type 1} → statement M
+over-spec =
+    tie.close
+    (tie.spec
+    Inv-loop
+    μ-loop
+    loop-holds
+    mul-x
+    array-copy-out-x
+    returns
+    add-i
+    loop-less
+    loop-again
+    returns-2)

@@ -1,0 +1,24 @@
+// Sets against the conflicts of a policy.
+ghost use mathlib.Core.Path.{_≡_};
+ghost use Prim.Native.Nat.{_≤_};
+ghost use Rattle.policy.specs.Value.{conflictPlaces, conflictsOf};
+ghost use Rattle.board.specs.Inner.{over};
+use policy::value::Conflicts;
+
+// Whether a set has too many values of some conflict. Values count as they are held: no junior is looked for.
+pub fn over(conflicts: Conflicts, set: u32) -> bool
+    requires { ⌜ conflicts .count ≤ conflictPlaces ⌝ }
+    ensures { λ r. ⌜ r ≡ over (conflictsOf conflicts) set ⌝ }
+{
+    let entries = conflicts.entries;
+    let count = conflicts.count;
+    let mut i = 0;
+    while i < count {
+        let x = entries[i];
+        if x.most < u32::count_ones(x.set & set) {
+            return true;
+        }
+        i += 1;
+    }
+    false
+}
