@@ -69,12 +69,12 @@ abbrev pub fitting : Policy → Option Entry → Bool
 fitting p e = given e true (entryFits p)
 
 -- its user is registered, and its set in reach and within every conflict
-record Fitting (p : Policy) (x : Entry) : Type 0 where
-  registered : there (setOfNumber (p .users) (x .user)) ≡ true
-  reached : within (x .held) (reachOf p (x .user)) ≡ true
-  few : tooMany p (x .held) ≡ false
+pub record Fitting (p : Policy) (x : Entry) : Type 0 where
+  pub registered : there (setOfNumber (p .users) (x .user)) ≡ true
+  pub reached : within (x .held) (reachOf p (x .user)) ≡ true
+  pub few : tooMany p (x .held) ≡ false
 
-fitting-parts : (p : Policy) (x : Entry) → entryFits p x ≡ true → Fitting p x
+pub fitting-parts : (p : Policy) (x : Entry) → entryFits p x ≡ true → Fitting p x
 fitting-parts p x h =
     let t = and-right (there (setOfNumber (p .users) (x .user))) _ h in
     record {

@@ -10,7 +10,7 @@ use lib.Bits.{bitAnd, and-le-l}
 use lib.Count.{ones}
 use lib.Dec.{ltb}
 use lib.ListN.{length, getD, take, drop}
-use borrow.Author.Tests.{lt-ltb, le-ltb, ltb-true}
+use borrow.Author.Tests.{lt-ltb, le-ltb, ltb-true, ltb-false}
 use Rattle.basis.specs.Lists.{any}
 use Rattle.basis.proofs.Bools.{and-left, and-right, and-both, fails, never}
 use Rattle.basis.proofs.Counting.{count-same, count-under}
@@ -107,3 +107,11 @@ module _ (p : Policy) (a b : ℕ) where
       let q = any-at g xs e in
       let l = lt-of-lt-of-le (ltb-true (q .0 .most) (together p (minus a b) (q .0)) (q .2)) (fewer (q .0)) in
       never (any f xs) (any-of f xs (q .0) (q .1) (lt-ltb (q .0 .most) (together p a (q .0)) l)) h)
+
+-- ---- a set within every conflict
+
+pub few-each : (p : Policy) (set : ℕ) → tooMany p set ≡ false → (c : Conflict) → List·Memᴰ c (p .conflicts) → together p set c ≤ c .most
+unfolding tooMany
+few-each p set h c m =
+    let f : Conflict → Bool = λ c. ltb (c .most) (together p set c) in
+    ltb-false (c .most) (together p set c) (fails (f c) (λ e. never (any f (p .conflicts)) (any-of f (p .conflicts) c m e) h))

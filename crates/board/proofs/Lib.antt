@@ -4,9 +4,9 @@ pub mod Refusals
 pub mod Agreement
 pub mod OneRequest
 pub mod Valid
+pub mod Judging
 mod Look
 mod Users
-mod Judging
 mod ByNumber
 mod Ways
 mod Fitting

@@ -1,4 +1,4 @@
--- Demand 2: what decides, what is alike, sessions within reach, and texts both ways.
+-- Demand 2: what decides, what is alike, sessions within reach and conflicts, and texts both ways.
 use Prim.Native.Nat.{ℕ, _≤_}
 use mathlib.Core.Path.{_≡_, refl, ap, _∙_}
 use mathlib.Core.Bool.{Bool, true, false, cond, false≢true}
@@ -11,7 +11,7 @@ use lib.ListN.{length, drop}
 use lib.Seq.{take-append-seam}
 use Rattle.basis.specs.Choice.{given, there, firstBroken}
 use Rattle.basis.specs.Lists.{over}
-use Rattle.basis.proofs.Bools.{and-left, and-right, never}
+use Rattle.basis.proofs.Bools.{never}
 use Rattle.policy.specs.Policy.{Policy, setOfNumber}
 use Rattle.policy.specs.Read.{Accepted, readText}
 use Rattle.policy.specs.Text.{textOf}
@@ -29,7 +29,8 @@ use Rattle.labels.proofs.Compiling.{likeUsers-iff, userLabel-iff, objectLabel-i
 use Rattle.labels.proofs.Separation.{apart-unlike}
 use Rattle.labels.proofs.Told.{not-refused}
 use Rattle.board.specs.Machine.{Call, Entry, Map, Out, sessionOf, checks, entryAfter, reply, step, put, empty, run, machine}
-use Rattle.board.proofs.Agreement.{fitting, kept}
+use Rattle.board.proofs.Agreement.{fitting, fitting-parts, kept}
+use Rattle.board.proofs.Judging.{few-each}
 use Rattle.claims.specs.Demand2.{Told, Allowed, WrittenBack, Claim, WriteClaim, CheckClaim}
 use Rattle.claims.proofs.Deciding.{decides, equal-sets}
 
@@ -76,8 +77,9 @@ allowed : (t : List ℕ) (p : Policy) → readText t ≡ Accepted p → (calls :
 allowed t p e calls =
     let fits : (k : ℕ) (x : Entry) → machine t calls .state k ≡ some x → fitting p (some x) ≡ true = λ k x q. rw q at (machine-fitting t p e calls k) in
     record {
-      registered = λ k x q. some-there (setOfNumber (p .users) (x .user)) (and-left _ _ (fits k x q));
-      in-reach = λ k x q. and-right (there (setOfNumber (p .users) (x .user))) _ (fits k x q);
+      registered = λ k x q. some-there (setOfNumber (p .users) (x .user)) (fitting-parts p x (fits k x q) .registered);
+      in-reach = λ k x q. fitting-parts p x (fits k x q) .reached;
+      few-together = λ k x q. few-each p (x .held) (fitting-parts p x (fits k x q) .few);
     }
 
 -- ---- alike as Apart tells it

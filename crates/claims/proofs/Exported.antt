@@ -44,7 +44,7 @@ use Rattle.claims.proofs.Demand3.{demand3}
 
 -- ---- reading
 
--- refusals of reading are 1 to 10 and 21
+-- refusals of reading are 1 to 10, 21 and 22
 number-of : (t : List ℕ) (n line : ℕ) → Because t (Refused n line) → OfReading n
 number-of t n line (inl w) = inl (omega (arith, w .number), omega (arith, w .number))
 number-of t n line (inr (inl w)) = ⊎-elim (λ h. inl (omega (arith, h .0), omega (arith, h .1))) inr (w .number)
@@ -52,7 +52,7 @@ number-of t n line (inr (inr w)) = inl (omega (arith, w .number), omega (arith, 
 
 -- none of them is 0
 not-zero : (n : ℕ) → OfReading n → n ≡ 0 → ⊥
-not-zero n w e = ⊎-elim (λ h. omega (arith, h .0, e)) (λ h. omega (arith, h, e)) w
+not-zero n w e = ⊎-elim (λ h. omega (arith, h .0, e)) (λ h. omega (arith, h .0, e)) w
 
 module _ (t : List ℕ) where
   refused-number : (n line : ℕ) → readText t ≡ Refused n line → OfReading n

@@ -6,8 +6,8 @@ use mathlib.Core.List.{List, [], _∷_, _++_}
 use mathlib.Core.Logic.{_⊎_, inl, inr, ⊎-elim}
 use mathlib.Core.Option.{Option, none, some}
 use native.Mathlib.Omega.{arith}
-use borrow.Author.Tests.{ltb-true, ltb-false, leb-true, eqb-true}
-use lib.Dec.{eqb, leb, ltb}
+use borrow.Author.Tests.{ltb-true, ltb-false, leb-true}
+use lib.Dec.{leb, ltb}
 use lib.ListN.{length}
 use Rattle.basis.specs.Choice.{given, Check}
 use Rattle.basis.specs.Lists.{all}
@@ -27,17 +27,18 @@ use Rattle.claims.proofs.Answers.{met, met-all}
 
 -- the numbers of a line's checks
 abbrev ofLine : Check → Bool
-ofLine c = (leb 2 (c .number) && leb (c .number) 9) || eqb (c .number) 21
+ofLine c = (leb 2 (c .number) && leb (c .number) 9) || (leb 21 (c .number) && leb (c .number) 22)
 
 numbers : (before : Option Kind) (p : Policy) (ended : Bool) (k : Named) (fs : List (List ℕ)) → all ofLine (checksFor before p ended k fs) ≡ true
 unfolding all checksFor checksOf
 numbers before p ended Unknown fs = refl
 numbers before p ended (Is k) fs = refl
 
-line-number : (s : State) (l : TextLine) (n : ℕ) → Met (lineChecks s l) n → ((2 ≤ n) × (n ≤ 9)) ⊎ (n ≡ 21)
+line-number : (s : State) (l : TextLine) (n : ℕ) → Met (lineChecks s l) n → ((2 ≤ n) × (n ≤ 9)) ⊎ ((21 ≤ n) × (n ≤ 22))
 line-number s l n w =
-    ⊎-elim (λ h. inl (leb-true 2 n (and-left _ _ h), leb-true n 9 (and-right (leb 2 n) _ h))) (λ h. inr (eqb-true n 21 h))
-    (or-cases (leb 2 n && leb n 9) (eqb n 21) (met-all ofLine (lineChecks s l) n (numbers _ _ _ (kindOf (l .bytes)) _) w))
+    ⊎-elim (λ h. inl (leb-true 2 n (and-left _ _ h), leb-true n 9 (and-right (leb 2 n) _ h)))
+    (λ h. inr (leb-true 21 n (and-left _ _ h), leb-true n 22 (and-right (leb 21 n) _ h)))
+    (or-cases (leb 2 n && leb n 9) (leb 21 n && leb n 22) (met-all ofLine (lineChecks s l) n (numbers _ _ _ (kindOf (l .bytes)) _) w))
 
 -- ---- the lines from a state on, of which the first is line m
 

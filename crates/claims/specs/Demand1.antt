@@ -1,7 +1,7 @@
 -- Demand 1: "every text, number and buffer handed to a call gets its result or one numbered refusal; every call ends; a
 -- refusal changes neither sessions nor any lent buffer." That every call ends and gives just one answer is what a
 -- proved function is; the rest is here, call by call, on the definitions that the contracts equate the calls with, for
--- good and bad input. Each call's numbers are document 01's list for it.
+-- good and bad input. Each call's numbers are document 01's list for it, with document 02's.
 use Prim.Native.Nat.{ℕ}
 use mathlib.Core.Path.{_≡_}
 use mathlib.Core.Bool.{true, false}
@@ -43,10 +43,10 @@ ApartRefuses Alike n = ⊥
 ApartRefuses (Apart x) n = ⊥
 ApartRefuses (ApartRefused r) n = numberOf r ≡ n
 
--- the refusals of the session calls: 11, those of 12 to 19 that concern the call, and 20 for a request's buffers
+-- the refusals of the session calls: 11, those of 12 to 19 and 23 that concern the call, and 20 for a request's buffers
 abbrev pub refusalsOf : Call → List ℕ
-refusalsOf (opens u s set) = 11 ∷ 13 ∷ 14 ∷ 16 ∷ 19 ∷ []
-refusalsOf (adds u s set) = 11 ∷ 13 ∷ 14 ∷ 17 ∷ 18 ∷ 19 ∷ []
+refusalsOf (opens u s set) = 11 ∷ 13 ∷ 14 ∷ 16 ∷ 19 ∷ 23 ∷ []
+refusalsOf (adds u s set) = 11 ∷ 13 ∷ 14 ∷ 17 ∷ 18 ∷ 19 ∷ 23 ∷ []
 refusalsOf (drops u s set) = 11 ∷ 13 ∷ 14 ∷ 17 ∷ 18 ∷ 19 ∷ []
 refusalsOf (closes u s) = 11 ∷ 13 ∷ 14 ∷ 17 ∷ 18 ∷ []
 refusalsOf (requests s a n) = 11 ∷ 12 ∷ 13 ∷ 15 ∷ 17 ∷ 20 ∷ []
@@ -88,7 +88,7 @@ pub record Calls (v : PolicyValue) : Type 0 where
       (λ n. (answerCount numbers buffer ≡ refuses n) × (answerBuffer v l numbers buffer ≡ buffer) × (boardAfterRun v l numbers buffer ≡ fresh))
 
 pub record Demand1 : Type 0 where
-  -- reading is refused by 1 to 10 and 21, with the line
+  -- reading is refused by 1 to 10, 21 and 22, with the line
   pub read : (t : List ℕ) → Because t (readText t)
   -- "A refused read yields no policy": check 11 refuses the value that stands beside a refusal
   pub no-policy : (t : List ℕ) (n line : ℕ) → readText t ≡ Refused n line → valid (valueIn (readText t)) ≡ false

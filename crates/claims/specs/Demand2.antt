@@ -1,7 +1,7 @@
 -- Demand 2: "a policy means what the corrected Biswas–Sandhu–Krishnan model says: formulas decide by the sets held, a
 -- tuple grants only on equal sets, alike sets are those no formula parts, sessions hold what the LaBAC rules allow.
 -- Writing and reading back gives the same policy; an accepted text is written back unchanged." By document 02 pairs
--- decide and part sets as formulas do.
+-- decide and part sets as formulas do, and sessions keep to conflicts.
 use Prim.Native.Nat.{ℕ, _≤_, _<_}
 use mathlib.Core.Path.{_≡_}
 use mathlib.Core.Bool.{true}
@@ -22,6 +22,7 @@ use Rattle.policy.specs.Value.{valueOf, policyOf}
 use Rattle.policy.specs.Valid.{Yielded, valid}
 use Rattle.policy.specs.Write.{write, writeBuffer}
 use Rattle.policy.specs.Answers.{granted, denied}
+use Rattle.policy.specs.declared.value.Conflict.{Conflict}
 use Rattle.policy.specs.declared.value.Pair.{Pair}
 use Rattle.policy.specs.declared.value.PolicyValue.{PolicyValue}
 use Rattle.policy.specs.declared.refusal.Refusal.{Refusal}
@@ -33,7 +34,7 @@ use Rattle.labels.specs.Apart.{Separates, Tells}
 use Rattle.labels.specs.declared.Apartness.{Apartness}
 use Rattle.labels.specs.declared.Apartness.the-variants.{Alike, Apart, Refused}
 use Rattle.labels.specs.declared.Witness.{Witness}
-use Rattle.board.specs.Machine.{Call, Entry, machine, reachOf}
+use Rattle.board.specs.Machine.{Call, Entry, machine, reachOf, together}
 
 -- sets of the policy's sides
 abbrev pub OfSides : Policy → Sets → Type 0
@@ -93,12 +94,14 @@ pub record AlikeSets (p : Policy) : Type 0 where
   pub objects : (o q : ℕ) → o < sets (p .object) → q < sets (p .object) → (objectLabel p o ≡ objectLabel p q) ↔ NonePartsObjects p o q
   pub told : (u w : ℕ) → u < sets (p .user) → w < sets (p .user) → (r : Apartness) → Tells (valueOf p) u w r → Told p u w r
 
--- ---- "sessions hold what the LaBAC rules allow"
+-- ---- "sessions hold what the LaBAC rules allow", and conflicts
 
--- after any list of calls, an open session's user is registered and holds only values in reach
+-- after any list of calls, an open session's user is registered and holds only values in reach, and "of the values in
+-- user set S .. at most K" for every conflict
 pub record Allowed (t : List ℕ) (p : Policy) (calls : List Call) : Type 0 where
   pub registered : (k : ℕ) (e : Entry) → machine t calls .state k ≡ some e → (s : ℕ) × (setOfNumber (p .users) (e .user) ≡ some s)
   pub in-reach : (k : ℕ) (e : Entry) → machine t calls .state k ≡ some e → within (e .held) (reachOf p (e .user)) ≡ true
+  pub few-together : (k : ℕ) (e : Entry) → machine t calls .state k ≡ some e → (c : Conflict) → List·Memᴰ c (p .conflicts) → together p (e .held) c ≤ c .most
 
 -- ---- texts both ways
 

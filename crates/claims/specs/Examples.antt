@@ -1,26 +1,28 @@
 -- The worked examples of document 01 ("One text through the lister", "Edges", "Plausible and false") and examples of
--- document 02's pairs as one table: what the definitions say, beside what the documents say, both as text.
+-- document 02's pairs and conflicts as one table: what the definitions say, beside what the documents say, both as text.
 use Prim.Native.Nat.{ℕ, _/_, _%_}
 use Prim.Native.String.{String}
 use mathlib.Core.Bool.{Bool}
 use mathlib.Core.List.{List, [], _∷_, _++_, map}
+use mathlib.Core.Option.{some}
 use lib.Dec.{eqb}
 use Rattle.basis.specs.Bytes.{byte, bytes}
 use Rattle.basis.specs.Lists.{same}
 use Rattle.basis.specs.Numbers.{upTo}
 use Rattle.text.specs.Number.{decimal}
 use Rattle.text.specs.Parts.{join, comma, textOf as lines}
-use Rattle.policy.specs.Policy.{Policy, pair}
+use Rattle.policy.specs.Policy.{Policy, conflict, pair}
 use Rattle.policy.specs.Read.{Outcome, Accepted, Refused, readText}
-use Rattle.policy.specs.Text.{pairLines, lineText, textOf}
+use Rattle.policy.specs.Text.{conflictLines, pairLines, lineText, textOf}
 use Rattle.policy.specs.Value.{valueOf}
 use Rattle.policy.specs.Answers.{Reply, done, granted, denied, refused}
 use Rattle.formula.specs.Truth.{at}
 use Rattle.tuples.specs.Tuples.{tuples, decideByTuples}
 use Rattle.labels.specs.Compile.{lent, NU, NO, userResult, objectResult, tableResult}
 use Rattle.report.specs.Report.{report}
-use Rattle.board.specs.Machine.{Call, opens, adds, drops, requests, run, machine, policyIn}
-use Rattle.board.specs.Board.{boardStep, fresh}
+use Rattle.board.specs.Machine.{Call, opens, adds, drops, closes, requests, entry, run, machine, policyIn}
+use Rattle.board.specs.Board.{Labels, store, boardStep, fresh}
+use Rattle.board.specs.declared.Board.{Board}
 use Rattle.claims.specs.Demand3.{withCounts}
 
 -- ---- what the definitions say, as text
@@ -48,11 +50,14 @@ byMachine text calls = replies (machine (bytes text) calls .replies)
 abbrev pub policyIs : String → Policy
 policyIs text = policyIn (readText (bytes text))
 
+abbrev pub labelsFor : Policy → Labels
+labelsFor p = withCounts p (lent (userResult p) (objectResult p) (tableResult p))
+
+abbrev pub onBoardFrom : Board → String → List Call → List ℕ
+onBoardFrom b text calls = let p = policyIs text in replies (run (boardStep (valueOf p) (labelsFor p)) calls b .replies)
+
 abbrev pub onBoard : String → List Call → List ℕ
-onBoard text calls =
-    let p = policyIs text in
-    let l = withCounts p (lent (userResult p) (objectResult p) (tableResult p)) in
-    replies (run (boardStep (valueOf p) l) calls fresh .replies)
+onBoard text calls = onBoardFrom fresh text calls
 
 -- ---- the table
 
@@ -168,6 +173,57 @@ pairExamples =
     ∷ example (textOf p) seniorPairs
     ∷ []
 
+-- employee 0, manager 1 and director 2, each senior to the one before; a director, who may not be manager and director
+-- in one session (source document 002, Table 9, Example 2); value 3 is for nobody to hold, and of value 4 alone one is
+-- allowed
+abbrev pub constrained : String
+constrained = "policy,1\nuattr,3\nuattr,2\noattr,1\nusen,1,0\nusen,2,1\nuser,0,28\nobject,0,1\nconflict,6,1\nconflict,8,0\nconflict,16,1\nrule,0,u0\nend\n"
+
+-- both at once, director and then manager; an employee besides, what is held already; manager in place of director; a
+-- second session; out of reach and too many
+abbrev pub constrainedDay : List Call
+constrainedDay =
+    opens 0 0 6
+    ∷ opens 0 0 4
+    ∷ adds 0 0 2
+    ∷ adds 0 0 1
+    ∷ adds 0 0 4
+    ∷ drops 0 0 4
+    ∷ adds 0 0 2
+    ∷ opens 0 1 4
+    ∷ adds 0 1 34
+    ∷ opens 0 2 8
+    ∷ opens 0 2 16
+    ∷ requests 0 0 0
+    ∷ []
+
+-- a text up to its n-th conflict line
+abbrev pub manyConflicts : ℕ → List ℕ
+manyConflicts n = bytes "policy,1\nuattr,5\noattr,1\n" ++ lines (map lineText (conflictLines (map (λ i. conflict i 1) (upTo (λ i. i) n))))
+
+abbrev pub conflictText : String → List ℕ
+conflictText ls = bytes "policy,1\nuattr,2\noattr,1\n" ++ (bytes ls ++ bytes "end\n")
+
+-- conflicts: "of the values in user set S .. a session may hold at most K", and a board on which one does not; then 6, 7,
+-- 3 and, after 7, 22
+abbrev pub conflictExamples : List Example
+conflictExamples =
+    example (byMachine constrained constrainedDay) "refused,23 done refused,23 done done done done done refused,19 refused,23 done granted"
+    ∷ example (onBoard constrained constrainedDay) "refused,23 done refused,23 done done done done done refused,19 refused,23 done granted"
+    ∷ example (onBoardFrom (store fresh 3 (some (entry 0 6))) constrained (closes 0 3 ∷ opens 0 0 4 ∷ [])) "refused,11 refused,11"
+    ∷ example (onBoardFrom (store fresh 3 (some (entry 0 4))) constrained (drops 0 3 4 ∷ closes 0 3 ∷ [])) "done done"
+    ∷ example (outcome (readText (conflictText "conflict,0,0\nconflict,3,7\n"))) "accepted"
+    ∷ example (outcome (readText (conflictText "conflict,4,1\n"))) "refused,6,3"
+    ∷ example (outcome (readText (conflictText "conflict,3,8\n"))) "refused,6,3"
+    ∷ example (outcome (readText (conflictText "conflict,3,1\nconflict,3,2\n"))) "refused,7,4"
+    ∷ example (outcome (readText (conflictText "conflict,3,1\nobject,0,1\n"))) "refused,3,4"
+    ∷ example (outcome (readText (conflictText "rule,0,t\nconflict,3,1\n"))) "refused,3,4"
+    ∷ example (outcome (readText (manyConflicts 16 ++ bytes "end\n"))) "accepted"
+    ∷ example (outcome (readText (manyConflicts 17 ++ bytes "end\n"))) "refused,22,19"
+    ∷ example (outcome (readText (manyConflicts 16 ++ bytes "conflict,15,1\nend\n"))) "refused,7,19"
+    ∷ example (textOf (policyIs constrained)) constrained
+    ∷ []
+
 -- what the lister writes for the sample text, for one in which a rule and a pair overlap and an action has a pair
 -- alone, and for one that is refused
 abbrev pub listerExamples : List Example
@@ -180,7 +236,7 @@ listerExamples =
     ∷ []
 
 abbrev pub table : List Example
-table = compiledExamples ++ (sessionExamples ++ (edgeExamples ++ (falseExamples ++ (pairExamples ++ listerExamples))))
+table = compiledExamples ++ (sessionExamples ++ (edgeExamples ++ (falseExamples ++ (pairExamples ++ (conflictExamples ++ listerExamples)))))
 
 abbrev pub holds : Example → Bool
 holds e = same eqb (e .found) (e .expected)

@@ -40,7 +40,7 @@ use Rattle.claims.specs.Demand1.{refusalsOf}
 
 -- the numbers by which reading refuses
 abbrev pub OfReading : ℕ → Type 0
-OfReading n = ((1 ≤ n) × (n ≤ 10)) ⊎ (n ≡ 21)
+OfReading n = ((1 ≤ n) × (n ≤ 10)) ⊎ ((21 ≤ n) × (n ≤ 22))
 
 -- the text of a card, read
 abbrev pub card : List ℕ → PackedReading
@@ -50,7 +50,7 @@ pub record Read (t : List ℕ) : Type 0 where
   -- refusal 0 is an accepted text, whose policy value the packed policy stands for
   pub accepted : (card t .refusal ≡ 0) ↔ ((p : Policy) × (readText t ≡ Accepted p))
   pub value : (p : Policy) → readText t ≡ Accepted p → unpackedPolicy (card t .policy) ≡ valueOf p
-  -- else it is one of 1 to 10 or 21 with its line, beside a policy that check 11 refuses
+  -- else it is one of 1 to 10, 21 or 22 with its line, beside a policy that check 11 refuses
   pub refusal : (n line : ℕ) → readText t ≡ Refused n line → (card t .refusal ≡ n) × (card t .line ≡ line) × OfReading n
   pub no-policy : (n line : ℕ) → readText t ≡ Refused n line → valid (unpackedPolicy (card t .policy)) ≡ false
 

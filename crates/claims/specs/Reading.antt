@@ -1,5 +1,5 @@
 -- Why a text is accepted or refused: "The first faulty line decides", and "The reader accepts every text that breaks
--- none of 1 to 10", to which document 02 adds 21.
+-- none of 1 to 10", to which document 02 adds 21 and 22.
 use Prim.Native.Nat.{ℕ, _≤_, _<_}
 use mathlib.Core.Path.{_≡_}
 use mathlib.Core.Bool.{Bool, true, false, not, _&&_}
@@ -34,7 +34,7 @@ pub record TooLong (t : List ℕ) (n line : ℕ) : Type 0 where
   pub first : line ≡ 0
   pub long : textBytes < length t
 
--- 2 to 9 and 21: the first faulty line, and the first number in the order of testing whose condition it meets
+-- 2 to 9, 21 and 22: the first faulty line, and the first number in the order of testing whose condition it meets
 pub record Faulty (t : List ℕ) (n line : ℕ) : Type 0 where
   pub short : length t ≤ textBytes
   pub before : List TextLine
@@ -44,7 +44,7 @@ pub record Faulty (t : List ℕ) (n line : ℕ) : Type 0 where
   pub place : length before ≡ line
   pub sound : passes start before ≡ true
   pub met : Met (lineChecks (afterLines start before) at) n
-  pub number : ((2 ≤ n) × (n ≤ 9)) ⊎ (n ≡ 21)
+  pub number : ((2 ≤ n) × (n ≤ 9)) ⊎ ((21 ≤ n) × (n ≤ 22))
 
 -- 10: "The text ends without an end line", with "the count of lines"
 pub record Endless (t : List ℕ) (n line : ℕ) : Type 0 where
