@@ -160,6 +160,7 @@ module _ (t : Word → Bool) (fails : t missing ≡ false) where
         object = e i .object;
         users = e i .users;
         objects = e i .objects;
+        conflicts = e i .conflicts;
         rules = record { count = e i .rules .count; entries = r i };
         pairs = e i .pairs;
       }

@@ -96,6 +96,7 @@ packedPolicy v =
       object = v .object;
       users = v .users;
       objects = v .objects;
+      conflicts = v .conflicts;
       rules = packedRules (rulesOf (v .rules));
       pairs = v .pairs;
     }
@@ -116,6 +117,7 @@ unpackedPolicy p =
       object = p .object;
       users = p .users;
       objects = p .objects;
+      conflicts = p .conflicts;
       rules = unpackedRules (p .rules);
       pairs = p .pairs;
     }

@@ -70,6 +70,7 @@ pub fn pack(from: PolicyValue) -> PackedPolicy
     let object = from.object;
     let users = from.users;
     let objects = from.objects;
+    let conflicts = from.conflicts;
     let pairs = from.pairs;
     let values = from.rules;
     let packed = rules(values);
@@ -79,6 +80,7 @@ pub fn pack(from: PolicyValue) -> PackedPolicy
         object,
         users,
         objects,
+        conflicts,
         rules: packed,
         pairs,
     }

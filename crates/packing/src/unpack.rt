@@ -111,6 +111,7 @@ pub fn unpack(from: PackedPolicy) -> PolicyValue
     let object = from.object;
     let users = from.users;
     let objects = from.objects;
+    let conflicts = from.conflicts;
     let pairs = from.pairs;
     let packed = from.rules;
     let values = rules(packed);
@@ -120,6 +121,7 @@ pub fn unpack(from: PackedPolicy) -> PolicyValue
         object,
         users,
         objects,
+        conflicts,
         rules: values,
         pairs,
     }

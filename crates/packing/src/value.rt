@@ -1,4 +1,5 @@
 // A policy value as it crosses to C and Rust: an enum cannot cross, so each word goes as its number.
+use policy::value::Conflicts;
 use policy::value::Pairs;
 use policy::value::RULE_PLACES;
 use policy::value::Register;
@@ -28,6 +29,7 @@ pub struct PackedPolicy {
     pub object: SideValue,
     pub users: Register,
     pub objects: Register,
+    pub conflicts: Conflicts,
     pub rules: PackedRules,
     pub pairs: Pairs,
 }

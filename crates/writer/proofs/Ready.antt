@@ -13,7 +13,7 @@ use Rattle.policy.specs.Limits.{textBytes}
 use Rattle.policy.specs.Policy.{Side, Rule, Policy}
 use Rattle.policy.specs.Text.{textOf}
 use Rattle.policy.specs.Valid.{valid}
-use Rattle.policy.specs.Value.{wordPlaces, rulePlaces, slot, noRule, sideValue, register, ruleValue, rulesValue, pairsValue, valueOf, policyOf}
+use Rattle.policy.specs.Value.{wordPlaces, rulePlaces, slot, noRule, sideValue, register, conflictsValue, ruleValue, rulesValue, pairsValue, valueOf, policyOf}
 use Rattle.policy.specs.declared.value.PolicyValue.{PolicyValue}
 use Rattle.policy.proofs.Parts.{RuleParts, Parts, parts, whole}
 use Rattle.policy.proofs.Bounds.{WithinSide, rule-bounds, rule-digits, parts-within}
@@ -44,7 +44,7 @@ module _ (p : Policy) (t : Parts p) where
       }
 
   value-writable : Writable (valueOf p)
-  unfolding valueOf register pairsValue
+  unfolding valueOf register conflictsValue pairsValue
   value-writable =
       let w = parts-within p t in
       record {
@@ -52,6 +52,7 @@ module _ (p : Policy) (t : Parts p) where
         object = side-within (p .object) (w .object);
         users = record { entries = w .users };
         objects = record { entries = w .objects };
+        conflicts = record { entries = w .conflicts };
         rules = rules-within (w .rules);
         pairs = record { entries = w .pairs };
       }

@@ -8,19 +8,20 @@ use Rattle.text.specs.Number.{decimal}
 use Rattle.text.specs.Parts.{comma, join, textOf as linesText}
 use Rattle.text.specs.Kind.{wordOf, layoutOf}
 use Rattle.text.specs.declared.kind.Kind.{Kind}
-use Rattle.text.specs.declared.kind.Kind.the-variants.{Policy as PolicyKind, Uattr, Oattr, Usen, Osen, User, Object, Rule as RuleKind, Pair as PairKind, End}
+use Rattle.text.specs.declared.kind.Kind.the-variants.{Policy as PolicyKind, Uattr, Oattr, Usen, Osen, User, Object, Conflict as ConflictKind, Rule as RuleKind, Pair as PairKind, End}
 use Rattle.text.specs.declared.kind.Layout.the-variants.{Bare, One, Two, Three}
 use Rattle.words.specs.Word.{written}
 use Rattle.policy.specs.Line.{Line, noNumbers, oneNumber, twoNumbers, threeNumbers, plain, ruleLine}
 use Rattle.policy.specs.Policy.{Rule}
 use Rattle.policy.specs.Text.{linesOf, laterFields, lineText, textOf}
-use Rattle.policy.specs.Value.{sideOf, entriesOf, ruleOf, rulesOf, pairsOf, policyOf}
+use Rattle.policy.specs.Value.{sideOf, entriesOf, conflictsOf, ruleOf, rulesOf, pairsOf, policyOf}
 use Rattle.policy.specs.declared.value.PolicyValue.{PolicyValue}
 use Rattle.policy.specs.declared.value.Entry.{Entry}
+use Rattle.policy.specs.declared.value.Conflict.{Conflict}
 use Rattle.policy.specs.declared.value.Pair.{Pair}
 use Rattle.policy.specs.declared.value.RuleValue.{RuleValue}
 use Rattle.policy.specs.declared.value.Slot.{Slot}
-use Rattle.writer.specs.Inner.Put.{each, feed, field, wordFields, bareLine, oneLine, twoLine, threeLine, formulaLine, directLine, entryLine, pairLine}
+use Rattle.writer.specs.Inner.Put.{each, feed, field, wordFields, bareLine, oneLine, twoLine, threeLine, formulaLine, directLine, entryLine, conflictLine, pairLine}
 use Rattle.writer.specs.Inner.Put as Put
 use Rattle.writer.specs.Inner.Whole.{sidesText, listsText}
 
@@ -100,10 +101,10 @@ said-end = bare End refl
 -- ---- all lists
 
 abbrev pub valueText : PolicyValue → List ℕ
-valueText v = sidesText (v .form) (v .user) (v .object) ++ listsText (v .users) (v .objects) (v .rules) (v .pairs)
+valueText v = sidesText (v .form) (v .user) (v .object) ++ listsText (v .users) (v .objects) (v .conflicts) (v .rules) (v .pairs)
 
 pub text-is : (v : PolicyValue) → textOf (policyOf v) ≡ valueText v
-unfolding textOf linesOf policyOf sideOf entriesOf rulesOf pairsOf
+unfolding textOf linesOf policyOf sideOf entriesOf conflictsOf rulesOf pairsOf
 text-is v =
     rw (
       said-next,
@@ -114,6 +115,7 @@ text-is v =
       said-list (λ (l : Direct). plain Osen (twoNumbers (l .senior) (l .junior))) (directLine (wordOf Osen)) (λ l. two Osen (l .senior) (l .junior) refl),
       said-list (λ (e : Entry). plain User (twoNumbers (e .number) (e .set))) (entryLine (wordOf User)) (λ e. two User (e .number) (e .set) refl),
       said-list (λ (e : Entry). plain Object (twoNumbers (e .number) (e .set))) (entryLine (wordOf Object)) (λ e. two Object (e .number) (e .set) refl),
+      said-list (λ (x : Conflict). plain ConflictKind (twoNumbers (x .set) (x .most))) (conflictLine (wordOf ConflictKind)) (λ x. two ConflictKind (x .set) (x .most) refl),
       said-rules,
       said-list (λ (x : Pair). plain PairKind (threeNumbers (x .action) (x .user) (x .object))) (pairLine (wordOf PairKind)) (λ x. three PairKind (x .action) (x .user) (x .object) refl),
       said-end,

@@ -4,9 +4,11 @@ ghost use mathlib.Core.Bool.{true};
 ghost use Prim.Native.Nat.{_≤_};
 ghost use lib.ListN.{take};
 ghost use Rattle.basis.specs.Lists.{all};
-ghost use Rattle.policy.specs.Value.{widthPlaces, entryPlaces, rulePlaces, pairPlaces, linePlaces};
-ghost use Rattle.writer.specs.Inner.Put.{Room, Put, each, bareLine, oneLine, directLine, entryLine, ruleLine, pairLine, ruleWritable};
+ghost use Rattle.policy.specs.Value.{widthPlaces, entryPlaces, conflictPlaces, rulePlaces, pairPlaces, linePlaces};
+ghost use Rattle.writer.specs.Inner.Put.{Room, Put, each, bareLine, oneLine, directLine, entryLine, conflictLine, ruleLine, pairLine, ruleWritable};
 use crate::line;
+use policy::value::CONFLICT_PLACES;
+use policy::value::Conflict;
 use policy::value::ENTRY_PLACES;
 use policy::value::Entry;
 use policy::value::LINE_PLACES;
@@ -76,6 +78,28 @@ pub fn put_entries(
     while i < n {
         let entry = entries[i];
         let m = line::put_two(word, entry.number, entry.set, &mut buf[at..]);
+        at += m;
+        i += 1;
+    }
+    at
+}
+
+// The first n conflicts.
+pub fn put_conflicts(
+    word: &[u8],
+    conflicts: [Conflict; CONFLICT_PLACES],
+    n: usize,
+    buf: &mut [u8],
+    start: usize,
+) -> usize
+    requires { ⌜ (n ≤ conflictPlaces) × Room (each (conflictLine (now word)) (take n conflicts)) start (now buf) ⌝ }
+    ensures { λ r. ⌜ Put (each (conflictLine (now (word .entry))) (take n conflicts)) start (now (buf .entry)) (now (buf .exit)) r ⌝ }
+{
+    let mut at = start;
+    let mut i = 0;
+    while i < n {
+        let conflict = conflicts[i];
+        let m = line::put_two(word, conflict.set, conflict.most, &mut buf[at..]);
         at += m;
         i += 1;
     }

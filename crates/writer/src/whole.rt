@@ -7,10 +7,11 @@ ghost use Rattle.policy.specs.Limits.{textBytes};
 ghost use Rattle.policy.specs.Text.{textOf};
 ghost use Rattle.policy.specs.Value.{policyOf};
 ghost use Rattle.writer.specs.Inner.Put.{Room, Put};
-ghost use Rattle.writer.specs.Inner.Whole.{SideWithin, RegisterWithin, RulesWithin, PairsWithin, Writable, sidesText, listsText};
+ghost use Rattle.writer.specs.Inner.Whole.{SideWithin, RegisterWithin, ConflictsWithin, RulesWithin, PairsWithin, Writable, sidesText, listsText};
 use crate::line;
 use crate::lines;
 use policy::limits::TEXT_BYTES;
+use policy::value::Conflicts;
 use policy::value::Pairs;
 use policy::value::PolicyValue;
 use policy::value::Register;
@@ -34,24 +35,27 @@ fn put_sides(form: u32, user: SideValue, object: SideValue, buf: &mut [u8]) -> u
     lines::put_directs(&kind::OSEN, object_directs, object.lines, buf, at)
 }
 
-// The registers, the rules and the pairs, from the user lines to the end line.
+// The registers, the conflicts, the rules and the pairs, from the user lines to the end line.
 fn put_lists(
     users: Register,
     objects: Register,
+    conflicts: Conflicts,
     rules: Rules,
     pairs: Pairs,
     buf: &mut [u8],
     start: usize,
 ) -> usize
-    requires { ⌜ RegisterWithin users × RegisterWithin objects × RulesWithin rules × PairsWithin pairs × Room (listsText users objects rules pairs) start (now buf) ⌝ }
-    ensures { λ r. ⌜ Put (listsText users objects rules pairs) start (now (buf .entry)) (now (buf .exit)) r ⌝ }
+    requires { ⌜ RegisterWithin users × RegisterWithin objects × ConflictsWithin conflicts × RulesWithin rules × PairsWithin pairs × Room (listsText users objects conflicts rules pairs) start (now buf) ⌝ }
+    ensures { λ r. ⌜ Put (listsText users objects conflicts rules pairs) start (now (buf .entry)) (now (buf .exit)) r ⌝ }
 {
     let user_entries = users.entries;
     let object_entries = objects.entries;
+    let conflict_entries = conflicts.entries;
     let rule_entries = rules.entries;
     let pair_entries = pairs.entries;
     let mut at = lines::put_entries(&kind::USER, user_entries, users.count, buf, start);
     at = lines::put_entries(&kind::OBJECT, object_entries, objects.count, buf, at);
+    at = lines::put_conflicts(&kind::CONFLICT, conflict_entries, conflicts.count, buf, at);
     at = lines::put_rules(&kind::RULE, rule_entries, rules.count, buf, at);
     at = lines::put_pairs(&kind::PAIR, pair_entries, pairs.count, buf, at);
     lines::put_bare(&kind::END, buf, at)
@@ -66,10 +70,11 @@ pub fn put(v: PolicyValue, buf: &mut [u8]) -> usize
     let object = v.object;
     let users = v.users;
     let objects = v.objects;
+    let conflicts = v.conflicts;
     let rules = v.rules;
     let pairs = v.pairs;
     let at = put_sides(v.form, user, object, buf);
-    put_lists(users, objects, rules, pairs, buf, at)
+    put_lists(users, objects, conflicts, rules, pairs, buf, at)
 }
 
 // The length of the text of v, found by putting it into a buffer of the greatest length.

@@ -13,6 +13,7 @@ use Rattle.words.specs.Word.{written}
 use Rattle.words.specs.Inner.{inDigits}
 use Rattle.policy.specs.Value.{wordPlaces}
 use Rattle.policy.specs.declared.value.Entry.{Entry}
+use Rattle.policy.specs.declared.value.Conflict.{Conflict}
 use Rattle.policy.specs.declared.value.Pair.{Pair}
 use Rattle.policy.specs.declared.value.RuleValue.{RuleValue}
 use Rattle.policy.specs.declared.value.Slot.{Slot}
@@ -69,12 +70,15 @@ threeLine word a b c = word ++ (numberField a ++ (numberField b ++ (numberField 
 unfoldable pub formulaLine : List ℕ → ℕ → List Slot → List ℕ
 formulaLine word a ws = word ++ (numberField a ++ (wordFields ws ++ feed))
 
--- the lines of a seniority, of a user or an object, of a pair, and of a rule
+-- the lines of a seniority, of a user or an object, of a conflict, of a pair, and of a rule
 abbrev pub directLine : List ℕ → Direct → List ℕ
 directLine word l = twoLine word (l .senior) (l .junior)
 
 abbrev pub entryLine : List ℕ → Entry → List ℕ
 entryLine word e = twoLine word (e .number) (e .set)
+
+abbrev pub conflictLine : List ℕ → Conflict → List ℕ
+conflictLine word x = twoLine word (x .set) (x .most)
 
 abbrev pub pairLine : List ℕ → Pair → List ℕ
 pairLine word x = threeLine word (x .action) (x .user) (x .object)

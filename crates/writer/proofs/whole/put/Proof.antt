@@ -1,4 +1,4 @@
--- `writer::whole::put` meets its contract: the registers, the rules and the pairs stand after the sides.
+-- `writer::whole::put` meets its contract: the registers, the conflicts, the rules and the pairs stand after the sides.
 use Prim.Native.Nat.{ℕ}
 use mathlib.Core.List.{List}
 use Rattle.policy.specs.Text.{textOf}
@@ -19,10 +19,10 @@ module _ (v : PolicyValue) {b : List ℕ} where
   whole p = rw (text-is v) p
 
 put-sides-requires : tie.Need-put-sides-requires
-put-sides-requires c κs = (c .before .before .before .before .before .before .before .before .pre .0 .user, c .before .before .before .before .before .before .before .before .pre .0 .object, room-first _ _ (room _ (c .before .before .before .before .before .before .before .before .pre)))
+put-sides-requires c κs = (c .before .before .before .before .before .before .before .before .before .pre .0 .user, c .before .before .before .before .before .before .before .before .before .pre .0 .object, room-first _ _ (room _ (c .before .before .before .before .before .before .before .before .before .pre)))
 
 put-lists-requires : tie.Need-put-lists-requires
-put-lists-requires c κs = (c .before .before .before .before .before .before .before .before .before .before .before .before .pre .0 .users, c .before .before .before .before .before .before .before .before .before .before .before .before .pre .0 .objects, c .before .before .before .before .before .before .before .before .before .before .before .before .pre .0 .rules, c .before .before .before .before .before .before .before .before .before .before .before .before .pre .0 .pairs, room-next (room _ (c .before .before .before .before .before .before .before .before .before .before .before .before .pre)) (c .before .before .before .put-sides .ensures))
+put-lists-requires c κs = (c .before .before .before .before .before .before .before .before .before .before .before .before .before .pre .0 .users, c .before .before .before .before .before .before .before .before .before .before .before .before .before .pre .0 .objects, c .before .before .before .before .before .before .before .before .before .before .before .before .before .pre .0 .conflicts, c .before .before .before .before .before .before .before .before .before .before .before .before .before .pre .0 .rules, c .before .before .before .before .before .before .before .before .before .before .before .before .before .pre .0 .pairs, room-next (room _ (c .before .before .before .before .before .before .before .before .before .before .before .before .before .pre)) (c .before .before .before .put-sides .ensures))
 
 returns : tie.Need-returns
 returns c = whole _ (put-next (c .before .before .before .before .before .before .put-sides .ensures) (c .before .before .put-lists .ensures))
