@@ -43,6 +43,14 @@ pub struct SideValue {
     pub seniority: [Direct; LINE_PLACES],
 }
 
+impl SideValue {
+    /// The sum of all widths, whatever they are.
+    pub fn values(&self) -> u32 {
+        let widths = self.widths.iter();
+        widths.fold(0, |sum, &width| sum.wrapping_add(width))
+    }
+}
+
 #[repr(C)]
 #[derive(Debug, Clone, Copy, Default, PartialEq, Eq)]
 pub struct Entry {
