@@ -17,10 +17,13 @@ fn reach(policy: &Policy, user: u32) -> Option<u32> {
     set_of(&policy.users, user).map(|assigned| with_juniors(&policy.user, assigned))
 }
 
-/// Whether a session that holds the set keeps to every conflict.
+/// Whether a session that holds the set keeps to every conflict. All are looked at, so
+/// that the compiler can count for several at once.
 fn within_conflicts(policy: &Policy, held: u32) -> bool {
-    let mut conflicts = policy.conflicts().iter();
-    conflicts.all(|conflict| (held & conflict.set).count_ones() <= conflict.most)
+    let conflicts = policy.conflicts().iter();
+    conflicts.fold(true, |within, conflict| {
+        within & ((held & conflict.set).count_ones() <= conflict.most)
+    })
 }
 
 /// Check 11 on policy and board.
