@@ -1,5 +1,5 @@
 /*
- * A screen's morning: the hall's card is read, its policy compiled, and a member of staff opens a session, works and
+ * A screen's day: the hall's card is read, its policy compiled, and a member of staff opens a session, works and
  * closes it. At noon the card gains a pair, and in the evening a conflict.
  *
  * usage: example FILE, where FILE is a policy text such as examples/front-desk.txt.
