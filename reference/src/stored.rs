@@ -2,6 +2,7 @@
 //! with the requirement's answers, made cases from one seed without pairs and
 //! conflicts and with them, and lines that are wrong on purpose.
 
+pub(crate) mod conflicts;
 mod pairs;
 
 use crate::case_file::{answered, case_of};
@@ -176,6 +177,7 @@ pub(crate) fn example_cases() -> Vec<(String, String)> {
     }
     cases.extend(pairs::example_cases());
     cases.extend(greatest_sets());
+    cases.extend(conflicts::example_cases());
     cases
 }
 
