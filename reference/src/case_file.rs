@@ -43,9 +43,10 @@
 //! refusal, 11 to 20. A call in a list is four numbers: 0 open, 1 add or 2 drop
 //! with user, session and set; 3 close with user, session and 0; 4 request with
 //! session, action and object. There an answer is 0 denied, 1 granted, 2 done,
-//! or the refusal, 11 to 20 or 23. Buffers are blank before a call: byte 170, entry 65535. A
-//! refused call leaves its buffers as they were, and one that is done leaves
-//! what lies past its result. Where a call is refused, its count is 0.
+//! or the refusal, 11 to 20 or 23. Buffers are blank before a call: byte 170,
+//! entry 65535. A refused call leaves its buffers as they were, and one that is
+//! done leaves what lies past its result. Where a call is refused, its count is
+//! 0.
 
 use crate::cases::{self, Rng};
 use crate::formula::decide;
