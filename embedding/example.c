@@ -1,6 +1,6 @@
 /*
- * A screen's morning: the hall's card is read, its policy compiled, and a member of staff opens a session, works and
- * closes it. At noon the card gains a pair.
+ * A screen's day: the hall's card is read, its policy compiled, and a member of staff opens a session, works and
+ * closes it. At noon the card gains a pair, and in the evening a conflict.
  *
  * usage: example FILE, where FILE is a policy text such as examples/front-desk.txt.
  */
@@ -99,6 +99,21 @@ static void gain_pair(size_t length) {
     took("close 1 5", helvemoik_close(board, policy, 1, 5));
 }
 
+/* `conflict,6,1`: a session holds the editors' value or the moderators', not both; juniors are not counted. */
+static void gain_conflict(size_t length) {
+    policy.conflicts.entries[policy.conflicts.count++] = (struct helvemoik_conflict){ 6, 1 };
+    write_card(length);
+    compile();
+    board = helvemoik_fresh();
+    took("open 2 5 6", helvemoik_open(board, policy, 2, 5, 6));
+    took("open 2 5 2", helvemoik_open(board, policy, 2, 5, 2));
+    took("add 2 5 4", helvemoik_add(board, policy, 2, 5, 4));
+    took("drop 2 5 2", helvemoik_drop(board, policy, 2, 5, 2));
+    took("add 2 5 4", helvemoik_add(board, policy, 2, 5, 4));
+    request(5, 2, 1);
+    took("close 2 5", helvemoik_close(board, policy, 2, 5));
+}
+
 int main(int argc, char **argv) {
     size_t length = argc > 1 ? load(argv[1]) : 0;
     struct helvemoik_reading reading = helvemoik_read(card, length);
@@ -133,6 +148,7 @@ int main(int argc, char **argv) {
     took("close 2 5", helvemoik_close(board, policy, 2, 5));
     request(5, 0, 0);
     gain_pair(length);
+    gain_conflict(length);
 
     /* A word that no policy has: check 11 refuses the policy. */
     policy.rules.entries[0].words[0] = 9 * 65536;

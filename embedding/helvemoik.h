@@ -26,14 +26,16 @@ extern "C" {
 
 /* The limits of documents 01 and 02. */
 enum {
-    HELVEMOIK_TEXT_BYTES = 8192,  /* the longest text that is read, and room for any text that is written */
-    HELVEMOIK_MOST_VALUES = 7,    /* values of a side */
+    HELVEMOIK_TEXT_BYTES = 8192,   /* the longest text that is read, and room for any text that is written */
+    HELVEMOIK_MOST_VALUES = 7,     /* values of a side */
     HELVEMOIK_MOST_ACTIONS = 8,
-    HELVEMOIK_MOST_WORDS = 32,    /* words of a formula */
-    HELVEMOIK_MOST_PAIRS = 64,    /* pair lines */
+    HELVEMOIK_MOST_WORDS = 32,     /* words of a formula */
+    HELVEMOIK_MOST_CONFLICTS = 16, /* conflict lines */
+    HELVEMOIK_MOST_TOGETHER = 7,   /* the greatest K of a conflict line */
+    HELVEMOIK_MOST_PAIRS = 64,     /* pair lines */
     HELVEMOIK_USER_NUMBERS = 32,
     HELVEMOIK_OBJECT_NUMBERS = 64,
-    HELVEMOIK_SESSIONS = 32       /* session numbers */
+    HELVEMOIK_SESSIONS = 32        /* session numbers */
 };
 
 /* What follows from them. */
@@ -45,6 +47,7 @@ enum {
     HELVEMOIK_ENTRY_PLACES = HELVEMOIK_OBJECT_NUMBERS,
     HELVEMOIK_WORD_PLACES = HELVEMOIK_MOST_WORDS,
     HELVEMOIK_RULE_PLACES = HELVEMOIK_MOST_ACTIONS,
+    HELVEMOIK_CONFLICT_PLACES = HELVEMOIK_MOST_CONFLICTS,
     HELVEMOIK_PAIR_PLACES = HELVEMOIK_MOST_PAIRS,
     /* room for the labels of a side, for a table, and for the tuples of an action */
     HELVEMOIK_MOST_LABELS = 1 << HELVEMOIK_MOST_VALUES,
@@ -75,7 +78,9 @@ enum {
     HELVEMOIK_SESSION_OF_ANOTHER = 18,
     HELVEMOIK_SET_OUT_OF_REACH = 19,
     HELVEMOIK_BUFFER_TOO_SHORT = 20,
-    HELVEMOIK_TOO_MANY_PAIRS = 21
+    HELVEMOIK_TOO_MANY_PAIRS = 21,
+    HELVEMOIK_TOO_MANY_CONFLICTS = 22,
+    HELVEMOIK_TOO_MANY_HELD = 23
 };
 
 /* The answers of a decision and of a session call that are no refusal. */
@@ -118,6 +123,17 @@ struct helvemoik_register {
     struct helvemoik_entry entries[HELVEMOIK_ENTRY_PLACES];
 };
 
+/* `conflict,S,K`: a user set, and how many of its values a session may hold at most, counted without their juniors. */
+struct helvemoik_conflict {
+    uint32_t set;
+    uint32_t most;
+};
+
+struct helvemoik_conflicts {
+    size_t count;
+    struct helvemoik_conflict entries[HELVEMOIK_CONFLICT_PLACES];
+};
+
 /*
  * `rule,A,w,w,..`. A word is kind * 65536 + first * 256 + second, where the kind of t is 0, f 1, n 2, a 3, r 4, u 5,
  * o 6, d 7, q 8; first is the value or the user attribute, second the object attribute, each 0 where the word has none.
@@ -152,13 +168,18 @@ struct helvemoik_policy {
     struct helvemoik_side object;
     struct helvemoik_register users;
     struct helvemoik_register objects;
+    struct helvemoik_conflicts conflicts;
     struct helvemoik_rules rules;
     struct helvemoik_pairs pairs;
 };
 
 /* ---- the board: an entry for each session number; while the session is open, its user and the set it holds */
 
-/* live 0: the session is closed, and user and held count for nothing. Any other number: it is open; calls store 1. */
+/*
+ * live 0: the session is closed, and user and held count for nothing. Any other number: it is open; calls store 1.
+ * Check 11 refuses a board with an open session whose user is not registered, whose set is out of the user's reach, or
+ * that holds more values of some conflict's set than that conflict allows.
+ */
 struct helvemoik_session {
     uint32_t live;
     uint32_t user;
@@ -211,14 +232,14 @@ struct helvemoik_step {
 };
 
 /* The library is for x86-64. A compiler that lays out otherwise what a call takes or gives refuses this line. */
-typedef char helvemoik_layout[sizeof(struct helvemoik_policy) == 3416 && sizeof(struct helvemoik_board) == 384
-                              && sizeof(struct helvemoik_reading) == 3432 && sizeof(struct helvemoik_counted) == 16
+typedef char helvemoik_layout[sizeof(struct helvemoik_policy) == 3552 && sizeof(struct helvemoik_board) == 384
+                              && sizeof(struct helvemoik_reading) == 3568 && sizeof(struct helvemoik_counted) == 16
                               && sizeof(struct helvemoik_counts) == 12 && sizeof(struct helvemoik_separation) == 12
                               && sizeof(struct helvemoik_step) == 388 ? 1 : -1];
 
 /* ---- calls on a policy */
 
-/* The policy of a text, or the refusal (1 to 10, or 21, which is tested between 7 and 8) and its line. */
+/* The policy of a text, or the refusal (1 to 10, or 21 or 22, which are tested between 7 and 8) and its line. */
 struct helvemoik_reading helvemoik_read(const uint8_t *text, size_t text_length);
 
 /* The text of a policy, at the buffer's start; what lies past it stays. Refusals 11, 20, which leave the buffer. */
@@ -259,11 +280,11 @@ struct helvemoik_separation helvemoik_apart(struct helvemoik_policy policy, uint
 /* A board that holds no session. */
 struct helvemoik_board helvemoik_fresh(void);
 
-/* Opens a session of the user that holds the set. Refusals 11, 13, 14, 16, 19. */
+/* Opens a session of the user that holds the set. Refusals 11, 13, 14, 16, 19, 23. */
 struct helvemoik_step helvemoik_open(struct helvemoik_board board, struct helvemoik_policy policy,
                                      uint32_t user, uint32_t session, uint32_t set);
 
-/* The session's held set gains these values. Refusals 11, 13, 14, 17, 18, 19. */
+/* The session's held set gains these values. Refusals 11, 13, 14, 17, 18, 19, 23 (by the set held then). */
 struct helvemoik_step helvemoik_add(struct helvemoik_board board, struct helvemoik_policy policy,
                                     uint32_t user, uint32_t session, uint32_t set);
 

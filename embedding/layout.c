@@ -49,6 +49,14 @@ static void register_numbers(struct numbers *n, const struct helvemoik_register 
     }
 }
 
+static void conflicts_numbers(struct numbers *n, const struct helvemoik_conflicts *conflicts) {
+    NUMBER(conflicts->count);
+    for (size_t i = 0; i < HELVEMOIK_CONFLICT_PLACES; i++) {
+        NUMBER(conflicts->entries[i].set);
+        NUMBER(conflicts->entries[i].most);
+    }
+}
+
 static void rules_numbers(struct numbers *n, const struct helvemoik_rules *rules) {
     NUMBER(rules->count);
     for (size_t i = 0; i < HELVEMOIK_RULE_PLACES; i++) {
@@ -74,6 +82,7 @@ static void policy_numbers(struct numbers *n, const struct helvemoik_policy *pol
     side_numbers(n, &policy->object);
     register_numbers(n, &policy->users);
     register_numbers(n, &policy->objects);
+    conflicts_numbers(n, &policy->conflicts);
     rules_numbers(n, &policy->rules);
     pairs_numbers(n, &policy->pairs);
 }
@@ -163,6 +172,13 @@ static void put_register(struct text *text, const char *kind, const struct helve
         put(text, "%s,%u,%u\n", kind, (unsigned)list->entries[i].number, (unsigned)list->entries[i].set);
 }
 
+static void put_conflicts(struct text *text, const struct helvemoik_conflicts *conflicts) {
+    for (size_t i = 0; i < within(conflicts->count, HELVEMOIK_CONFLICT_PLACES); i++) {
+        const struct helvemoik_conflict *conflict = &conflicts->entries[i];
+        put(text, "conflict,%u,%u\n", (unsigned)conflict->set, (unsigned)conflict->most);
+    }
+}
+
 /* The kinds of words in the order of their numbers. */
 enum { T, F, N, A, R, U, O, D, Q, KINDS };
 static const char kinds[KINDS + 1] = "tfnaruodq";
@@ -202,6 +218,7 @@ static void put_policy(struct text *text, const struct helvemoik_policy *policy)
     put_seniority(text, "osen", &policy->object);
     put_register(text, "user", &policy->users);
     put_register(text, "object", &policy->objects);
+    put_conflicts(text, &policy->conflicts);
     put_rules(text, &policy->rules);
     put_pairs(text, &policy->pairs);
     put(text, "end\n");
@@ -257,6 +274,19 @@ static void enter(struct helvemoik_register *list, uint32_t count, uint32_t last
     list->count = count;
 }
 
+static void conflict(struct helvemoik_conflicts *conflicts, uint32_t set, uint32_t most) {
+    struct helvemoik_conflict *c = &conflicts->entries[conflicts->count++];
+    c->set = set;
+    c->most = most;
+}
+
+/* All places, in even steps up to the set of all values. */
+static void all_conflicts(struct helvemoik_conflicts *conflicts) {
+    const uint32_t step = (1 << HELVEMOIK_MOST_VALUES) / HELVEMOIK_CONFLICT_PLACES;
+    for (uint32_t i = 0; i < HELVEMOIK_CONFLICT_PLACES; i++)
+        conflict(conflicts, i * step + step - 1, (i * 3 + 5) % (HELVEMOIK_MOST_TOGETHER + 1));
+}
+
 static uint32_t word(uint32_t kind, uint32_t first, uint32_t second) {
     return kind * 65536 + first * 256 + second;
 }
@@ -291,7 +321,7 @@ static void all_pairs(struct helvemoik_pairs *pairs) {
     }
 }
 
-/* All places of one side's seniorities and the other's widths, of users, objects, rules, words and pairs. */
+/* All places of one side's seniorities and the other's widths, of users, objects, conflicts, rules, words and pairs. */
 static void full(struct helvemoik_policy *policy, struct helvemoik_side *one, struct helvemoik_side *other) {
     const uint32_t leaves[] = { word(U, 6, 0), word(O, 0, 0), word(T, 0, 0), word(U, 1, 0), word(O, 5, 0),
                                 word(F, 0, 0), word(U, 3, 0), word(O, 4, 0) };
@@ -300,6 +330,7 @@ static void full(struct helvemoik_policy *policy, struct helvemoik_side *one, st
     singles(other);
     enter(&policy->users, HELVEMOIK_USER_NUMBERS, HELVEMOIK_USER_NUMBERS - 1, 1 << HELVEMOIK_MOST_VALUES);
     enter(&policy->objects, HELVEMOIK_ENTRY_PLACES, HELVEMOIK_ENTRY_PLACES - 1, 1 << HELVEMOIK_MOST_VALUES);
+    all_conflicts(&policy->conflicts);
     for (uint32_t a = 0; a < HELVEMOIK_RULE_PLACES; a++)
         rule(&policy->rules, a, leaves, sizeof leaves / sizeof *leaves, HELVEMOIK_WORD_PLACES / 2 - a);
     all_pairs(&policy->pairs);
@@ -313,6 +344,8 @@ static void few(struct helvemoik_policy *policy) {
     some(&policy->object, "23", "10324243");
     enter(&policy->users, 3, HELVEMOIK_USER_NUMBERS - 1, 1 << 6);
     enter(&policy->objects, 5, HELVEMOIK_OBJECT_NUMBERS - 1, 1 << 5);
+    conflict(&policy->conflicts, 9, 2);
+    conflict(&policy->conflicts, 40, 1);
     rule(&policy->rules, 1, leaves, sizeof leaves / sizeof *leaves, 7);
     rule(&policy->rules, 4, leaves, sizeof leaves / sizeof *leaves, 3);
     rule(&policy->rules, 6, leaves, sizeof leaves / sizeof *leaves, 1);
@@ -414,7 +447,7 @@ static void hold_answers_written(const struct helvemoik_policy *policy) {
 
 /* ---- the board */
 
-/* The users of the policy of few, and for each a set in reach. */
+/* The users of the policy of few, and for each a set in reach and within the conflicts. */
 static const struct { uint32_t user, held; } staff[] = { { 11, 2 }, { 21, 8 }, { 31, 12 } };
 enum { STAFF = sizeof staff / sizeof *staff };
 

@@ -50,20 +50,30 @@ static void hold_words(void) {
     expect(refusal_of(bytes) == HELVEMOIK_WRONG_FIELD_COUNT, "words", HELVEMOIK_MOST_WORDS + 1);
 }
 
-/* A text of so many pairs. */
-static void put_pairs(char *bytes, size_t room, int count) {
-    int n = snprintf(bytes, room, "policy,1\nuattr,5\noattr,5\n");
-    for (int i = 0; i < count; i++)
-        n += snprintf(bytes + n, room - (size_t)n, "pair,%d,%d,%d\n", i / 25, i / 5 % 5, i % 5);
-    snprintf(bytes + n, room - (size_t)n, "end\n");
+/* Puts a line of a kind, which rises with its number. */
+typedef int put_line(char *bytes, size_t room, int number);
+
+static int put_conflict(char *bytes, size_t room, int number) {
+    return snprintf(bytes, room, "conflict,%d,0\n", number);
 }
 
-static void hold_pairs(void) {
+static int put_pair(char *bytes, size_t room, int number) {
+    return snprintf(bytes, room, "pair,%d,%d,%d\n", number / 25, number / 5 % 5, number % 5);
+}
+
+/* The refusal of a text of so many of these lines. */
+static uint32_t refusal_of_lines(put_line *put, int count) {
     char bytes[1024];
-    put_pairs(bytes, sizeof bytes, HELVEMOIK_MOST_PAIRS);
-    expect(refusal_of(bytes) == 0, "pairs", HELVEMOIK_MOST_PAIRS);
-    put_pairs(bytes, sizeof bytes, HELVEMOIK_MOST_PAIRS + 1);
-    expect(refusal_of(bytes) == HELVEMOIK_TOO_MANY_PAIRS, "pairs", HELVEMOIK_MOST_PAIRS + 1);
+    int n = snprintf(bytes, sizeof bytes, "policy,1\nuattr,5\noattr,5\n");
+    for (int i = 0; i < count; i++)
+        n += put(bytes + n, sizeof bytes - (size_t)n, i);
+    snprintf(bytes + n, sizeof bytes - (size_t)n, "end\n");
+    return refusal_of(bytes);
+}
+
+static void hold_lines(const char *what, put_line *put, int most, uint32_t refusal) {
+    expect(refusal_of_lines(put, most) == 0, what, (size_t)most);
+    expect(refusal_of_lines(put, most + 1) == refusal, what, (size_t)most + 1);
 }
 
 /* ---- limits of a result */
@@ -110,19 +120,21 @@ static void answers(uint32_t answer, uint32_t due) {
 
 static void hold_answers(void) {
     struct helvemoik_policy policy = policy_of(
-        "policy,1\nuattr,2\noattr,1\nuser,0,1\nuser,1,1\nobject,0,1\nrule,0,u0\nend\n");
+        "policy,1\nuattr,2\noattr,1\nuser,0,3\nuser,1,1\nobject,0,1\nconflict,3,1\nrule,0,u0\nend\n");
     struct helvemoik_policy invalid = policy;
     struct helvemoik_board none = helvemoik_fresh();
     struct helvemoik_step opened = helvemoik_open(none, policy, 0, HELVEMOIK_SESSIONS - 1, 1);
-    struct helvemoik_board one = opened.board;
+    struct helvemoik_board one = opened.board, over = one;
     const uint32_t last = HELVEMOIK_SESSIONS - 1;
     invalid.form = 0;
+    over.sessions[last].held = 3;
     answers(opened.answer, HELVEMOIK_DONE);
     answers(helvemoik_decide(policy, 0, 0, 0), HELVEMOIK_DENIED);
     answers(helvemoik_decide(policy, 0, 1, 0), HELVEMOIK_GRANTED);
     answers(helvemoik_apart(policy, 1, 3).answer, HELVEMOIK_ALIKE);
     answers(helvemoik_apart(policy, 0, 1).answer, HELVEMOIK_APART);
     answers(helvemoik_decide(invalid, 0, 0, 0), HELVEMOIK_INVALID_STATE);
+    answers(helvemoik_close(over, policy, 0, last).answer, HELVEMOIK_INVALID_STATE);
     answers(helvemoik_decide(policy, HELVEMOIK_MOST_ACTIONS - 1, 0, 0), HELVEMOIK_DENIED);
     answers(helvemoik_decide(policy, HELVEMOIK_MOST_ACTIONS, 0, 0), HELVEMOIK_UNKNOWN_ACTION);
     answers(helvemoik_open(none, policy, 0, HELVEMOIK_SESSIONS, 1).answer, HELVEMOIK_UNKNOWN_SESSION);
@@ -132,7 +144,9 @@ static void hold_answers(void) {
     answers(helvemoik_open(one, policy, 1, last, 1).answer, HELVEMOIK_SESSION_OPEN);
     answers(helvemoik_close(none, policy, 0, last).answer, HELVEMOIK_SESSION_NOT_OPEN);
     answers(helvemoik_close(one, policy, 1, last).answer, HELVEMOIK_SESSION_OF_ANOTHER);
-    answers(helvemoik_open(none, policy, 0, 0, 2).answer, HELVEMOIK_SET_OUT_OF_REACH);
+    answers(helvemoik_open(none, policy, 1, 0, 2).answer, HELVEMOIK_SET_OUT_OF_REACH);
+    answers(helvemoik_open(none, policy, 0, 0, 3).answer, HELVEMOIK_TOO_MANY_HELD);
+    answers(helvemoik_add(one, policy, 0, last, 2).answer, HELVEMOIK_TOO_MANY_HELD);
     answers(helvemoik_request(one, policy, 1, 1, users, 0, objects, 0, table, 0, last, 0, 0).answer,
             HELVEMOIK_BUFFER_TOO_SHORT);
 }
@@ -143,12 +157,14 @@ int main(void) {
     hold_greatest("policy,1\nuattr,1\noattr,%d\nend\n", HELVEMOIK_MOST_VALUES);
     hold_greatest("policy,1\nuattr,1\noattr,1\nuser,%d,0\nend\n", HELVEMOIK_USER_NUMBERS - 1);
     hold_greatest("policy,1\nuattr,1\noattr,1\nobject,%d,0\nend\n", HELVEMOIK_OBJECT_NUMBERS - 1);
+    hold_greatest("policy,1\nuattr,1\noattr,1\nconflict,0,%d\nend\n", HELVEMOIK_MOST_TOGETHER);
     hold_greatest("policy,1\nuattr,1\noattr,1\nrule,%d,t\nend\n", HELVEMOIK_MOST_ACTIONS - 1);
     hold_greatest("policy,1\nuattr,1\noattr,1\npair,%d,0,0\nend\n", HELVEMOIK_MOST_ACTIONS - 1);
     hold_greatest("policy,1\nuattr,7\noattr,1\npair,0,%d,0\nend\n", HELVEMOIK_MOST_VALUES - 1);
     hold_greatest("policy,1\nuattr,1\noattr,7\npair,0,0,%d\nend\n", HELVEMOIK_MOST_VALUES - 1);
     hold_words();
-    hold_pairs();
+    hold_lines("conflicts", put_conflict, HELVEMOIK_MOST_CONFLICTS, HELVEMOIK_TOO_MANY_CONFLICTS);
+    hold_lines("pairs", put_pair, HELVEMOIK_MOST_PAIRS, HELVEMOIK_TOO_MANY_PAIRS);
     hold_results();
     hold_reading_refusals();
     hold_answers();

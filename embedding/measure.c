@@ -87,6 +87,8 @@ int main(int argc, char **argv) {
     SIZE(side);
     SIZE(entry);
     SIZE(register);
+    SIZE(conflict);
+    SIZE(conflicts);
     SIZE(rule);
     SIZE(rules);
     SIZE(pair);

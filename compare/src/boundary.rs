@@ -5,6 +5,8 @@ pub const TEXT_BYTES: usize = 8192;
 pub const MOST_VALUES: usize = 7;
 pub const MOST_ACTIONS: usize = 8;
 pub const MOST_WORDS: usize = 32;
+pub const MOST_CONFLICTS: usize = 16;
+pub const MOST_TOGETHER: usize = 7;
 pub const MOST_PAIRS: usize = 64;
 pub const OBJECT_NUMBERS: usize = 64;
 
@@ -17,6 +19,7 @@ pub const LINE_PLACES: usize = MOST_VALUES * (MOST_VALUES - 1) / 2;
 pub const ENTRY_PLACES: usize = OBJECT_NUMBERS;
 pub const WORD_PLACES: usize = MOST_WORDS;
 pub const RULE_PLACES: usize = MOST_ACTIONS;
+pub const CONFLICT_PLACES: usize = MOST_CONFLICTS;
 pub const PAIR_PLACES: usize = MOST_PAIRS;
 
 /// Room for the labels of a side, and for a table.
@@ -40,6 +43,14 @@ pub struct SideValue {
     pub seniority: [Direct; LINE_PLACES],
 }
 
+impl SideValue {
+    /// The sum of all widths, whatever they are.
+    pub fn values(&self) -> u32 {
+        let widths = self.widths.iter();
+        widths.fold(0, |sum, &width| sum.wrapping_add(width))
+    }
+}
+
 #[repr(C)]
 #[derive(Debug, Clone, Copy, Default, PartialEq, Eq)]
 pub struct Entry {
@@ -61,6 +72,21 @@ impl Default for Register {
             entries: [Entry::default(); ENTRY_PLACES],
         }
     }
+}
+
+/// A conflict line: a user set, and how many of its values a session may hold at most.
+#[repr(C)]
+#[derive(Debug, Clone, Copy, Default, PartialEq, Eq)]
+pub struct Conflict {
+    pub set: u32,
+    pub most: u32,
+}
+
+#[repr(C)]
+#[derive(Debug, Clone, Copy, Default, PartialEq, Eq)]
+pub struct Conflicts {
+    pub count: usize,
+    pub entries: [Conflict; CONFLICT_PLACES],
 }
 
 /// A rule; each word is kind × 65536 + first × 256 + second.
@@ -113,6 +139,7 @@ pub struct PackedPolicy {
     pub object: SideValue,
     pub users: Register,
     pub objects: Register,
+    pub conflicts: Conflicts,
     pub rules: PackedRules,
     pub pairs: Pairs,
 }

@@ -1,10 +1,13 @@
 //! Policy values and boards with something wrong in them, and odd numbers.
 
+mod boards;
+
+pub use boards::{board, damaged_board};
+
 use crate::boundary::*;
 use crate::value::packed_word;
 use reference::cases::Rng;
-use reference::formula::reach;
-use reference::policy::{Policy, Word};
+use reference::policy::Word;
 
 /// A number at or around the limits, or far past them.
 pub fn odd(rng: &mut Rng) -> u32 {
@@ -79,15 +82,16 @@ fn change_form(rng: &mut Rng, value: &mut PackedPolicy) {
 /// One of the counts of a value.
 fn count_of<'a>(rng: &mut Rng, value: &'a mut PackedPolicy) -> &'a mut usize {
     let rule = rule_place(rng, value);
-    match rng.below(9) {
+    match rng.below(10) {
         0 => &mut value.user.attributes,
         1 => &mut value.object.attributes,
         2 => &mut value.user.lines,
         3 => &mut value.object.lines,
         4 => &mut value.users.count,
         5 => &mut value.objects.count,
-        6 => &mut value.rules.count,
-        7 => &mut value.pairs.count,
+        6 => &mut value.conflicts.count,
+        7 => &mut value.rules.count,
+        8 => &mut value.pairs.count,
         _ => &mut value.rules.entries[rule].count,
     }
 }
@@ -135,12 +139,13 @@ fn leave_over(rng: &mut Rng, value: &mut PackedPolicy) {
         true => (&mut value.user, &mut value.users),
         false => (&mut value.object, &mut value.objects),
     };
-    match rng.below(7) {
+    match rng.below(8) {
         0 => side.widths[place_behind(rng, side.attributes, WIDTH_PLACES)] = number,
         1 => *line_number(rng, &mut side.seniority, side.lines, place_behind) = number,
         2 => *entry_number(rng, &mut register.entries, register.count, place_behind) = number,
-        3 => *pair_number(rng, &mut value.pairs, place_behind) = number,
-        4 => {
+        3 => *conflict_number(rng, &mut value.conflicts, place_behind) = number,
+        4 => *pair_number(rng, &mut value.pairs, place_behind) = number,
+        5 => {
             let rule = rule_place(rng, value);
             let rule = &mut value.rules.entries[rule];
             rule.words[place_behind(rng, rule.count, WORD_PLACES)] = number << 16;
@@ -185,6 +190,14 @@ fn entry_number<'a>(
     }
 }
 
+fn conflict_number<'a>(rng: &mut Rng, conflicts: &'a mut Conflicts, place: Place) -> &'a mut u32 {
+    let conflict = &mut conflicts.entries[place(rng, conflicts.count, CONFLICT_PLACES)];
+    match rng.chance(1, 2) {
+        true => &mut conflict.set,
+        false => &mut conflict.most,
+    }
+}
+
 fn pair_number<'a>(rng: &mut Rng, pairs: &'a mut Pairs, place: Place) -> &'a mut u32 {
     let pair = &mut pairs.entries[place(rng, pairs.count, PAIR_PLACES)];
     match rng.below(3) {
@@ -212,11 +225,12 @@ fn number_of<'a>(rng: &mut Rng, value: &'a mut PackedPolicy) -> &'a mut u32 {
         true => (&mut value.user, &mut value.users),
         false => (&mut value.object, &mut value.objects),
     };
-    match rng.below(5) {
+    match rng.below(6) {
         0 => &mut side.widths[place(rng, side.attributes, WIDTH_PLACES)],
         1 => line_number(rng, &mut side.seniority, side.lines, place),
         2 => entry_number(rng, &mut register.entries, register.count, place),
-        3 => pair_number(rng, &mut value.pairs, place),
+        3 => conflict_number(rng, &mut value.conflicts, place),
+        4 => pair_number(rng, &mut value.pairs, place),
         _ => &mut value.rules.entries[rule].action,
     }
 }
@@ -263,11 +277,12 @@ fn break_order(rng: &mut Rng, value: &mut PackedPolicy) {
         true => (&mut value.user, &mut value.users),
         false => (&mut value.object, &mut value.objects),
     };
-    match rng.below(5) {
+    match rng.below(6) {
         0 => disorder(rng, &mut side.widths, side.attributes),
         1 => disorder(rng, &mut side.seniority, side.lines),
         2 => disorder(rng, &mut register.entries, register.count),
-        3 => disorder(rng, &mut value.pairs.entries, value.pairs.count),
+        3 => disorder(rng, &mut value.conflicts.entries, value.conflicts.count),
+        4 => disorder(rng, &mut value.pairs.entries, value.pairs.count),
         _ => disorder(rng, &mut value.rules.entries, value.rules.count),
     }
 }
@@ -289,7 +304,7 @@ fn widen(rng: &mut Rng, value: &mut PackedPolicy) {
         true => (&mut value.user, &mut value.users),
         false => (&mut value.object, &mut value.objects),
     };
-    match rng.below(5) {
+    match rng.below(6) {
         0 => append(&mut side.widths, &mut side.attributes, one),
         1 => {
             let line = Direct {
@@ -306,6 +321,11 @@ fn widen(rng: &mut Rng, value: &mut PackedPolicy) {
             append(&mut register.entries, &mut register.count, entry);
         }
         3 => {
+            let conflict = late_conflict(rng, &value.user);
+            let Conflicts { count, entries } = &mut value.conflicts;
+            append(entries, count, conflict);
+        }
+        4 => {
             let pair = Pair {
                 action: 7 - rng.below(2),
                 user: one,
@@ -325,6 +345,15 @@ fn widen(rng: &mut Rng, value: &mut PackedPolicy) {
     }
 }
 
+/// A conflict of the greatest set that a side has, or of the number past it.
+fn late_conflict(rng: &mut Rng, side: &SideValue) -> Conflict {
+    let sets = 1u32 << (side.values() % u32::BITS);
+    Conflict {
+        set: sets - u32::from(rng.chance(2, 3)),
+        most: rng.below(9),
+    }
+}
+
 fn append<T>(entries: &mut [T], count: &mut usize, entry: T) {
     if let Some(place) = entries.get_mut(*count) {
         *place = entry;
@@ -337,57 +366,4 @@ fn flip_bit(rng: &mut Rng, value: &mut PackedPolicy) {
         true => *count_of(rng, value) ^= 1 << rng.below(usize::BITS),
         false => *number_of(rng, value) ^= 1 << rng.below(u32::BITS),
     }
-}
-
-/// A number by which a session is open: the one that calls store, or another.
-fn live(rng: &mut Rng) -> u32 {
-    rng.pick(&[1, 1, 1, 2, 256, 1 << 31, u32::MAX])
-}
-
-/// A board of any sessions that are in order, open by any number, and numbers left in closed entries.
-pub fn board(rng: &mut Rng, policy: &Policy) -> Board {
-    let mut board = Board::default();
-    let most = rng.pick(&[0, 1, 3, 8]);
-    for entry in &mut board.sessions {
-        if rng.chance(1, 4) {
-            // What a closed entry holds counts for nothing.
-            (entry.user, entry.held) = (odd(rng), odd(rng));
-        }
-        if rng.below(8) < most && !policy.users.is_empty() {
-            let (user, assigned) = rng.pick(&policy.users);
-            let held = rng.below(policy.user_sets()) & reach(policy, assigned);
-            *entry = Session {
-                live: live(rng),
-                user,
-                held,
-            };
-        }
-    }
-    board
-}
-
-/// The board with one session more that may be of nobody or hold what it must not.
-pub fn damaged_board(rng: &mut Rng, policy: &Policy, board: &Board) -> Board {
-    let mut damaged = *board;
-    let users: Vec<u32> = policy.users.iter().map(|user| user.0).collect();
-    let user = match rng.below(4) {
-        0 => odd(rng),
-        1 => rng.below(33),
-        _ if users.is_empty() => rng.below(32),
-        _ => rng.pick(&users),
-    };
-    let within = reach(policy, policy.assigned(user).unwrap_or(0));
-    let held = match rng.below(5) {
-        0 => odd(rng),
-        1 => within | policy.user_sets(),
-        2 => rng.below(policy.user_sets()),
-        3 => within | 1 << rng.below(32),
-        _ => within,
-    };
-    damaged.sessions[rng.index(SESSIONS)] = Session {
-        live: live(rng),
-        user,
-        held,
-    };
-    damaged
 }

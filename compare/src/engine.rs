@@ -144,7 +144,8 @@ extern "C" {
     ) -> PackedStep;
 }
 
-// Each call is safe: the types are the header's, a slice gives a pointer that is good for its length, and no call keeps one.
+// Each call is safe: the types are the header's, a slice gives a pointer that is good for its length, and no call keeps
+// one.
 impl Engine for Archive {
     fn read(&self, text: &[u8]) -> PackedReading {
         unsafe { helvemoik_read(text.as_ptr(), text.len()) }

@@ -10,7 +10,7 @@ use reference::machine::Call;
 use std::hint::black_box;
 
 /// The names of the jobs, in the order in which both lists below have them.
-pub const NAMES: [&str; 14] = [
+pub const NAMES: [&str; 18] = [
     "read",
     "read, refused by 5 in line 0",
     "read, refused by 6 in line 0",
@@ -24,6 +24,10 @@ pub const NAMES: [&str; 14] = [
     "apart",
     "open",
     "request",
+    "add, 32 open",
+    "drop, 32 open",
+    "close and open, 32 open",
+    "request, 32 open",
     "a thousand calls",
 ];
 
@@ -31,6 +35,13 @@ pub const NAMES: [&str; 14] = [
 pub fn of_engine<'a, E: Engine>(engine: &'a E, sample: &'a Sample) -> [Job<'a>; NAMES.len()] {
     let (packed, board, set) = (&sample.packed, &sample.board, sample.all_values());
     let labels = sample.labels();
+    let on_full = |k: usize| {
+        let calls = &sample.on_full[k];
+        job(move || {
+            let board = *black_box(&sample.full);
+            list_by_engine(engine, board, black_box(packed), &labels, calls)
+        })
+    };
     let mut text = [0; TEXT_BYTES];
     let mut tuples = [0; MOST_TABLE];
     let mut users = [0; MOST_LABELS];
@@ -51,7 +62,14 @@ pub fn of_engine<'a, E: Engine>(engine: &'a E, sample: &'a Sample) -> [Job<'a>; 
         job(move || engine.apart(black_box(packed), set, set)),
         job(move || engine.open(black_box(board), black_box(packed), 0, LAST, 0)),
         job(move || engine.request(black_box(board), black_box(packed), &labels, 0, 0, 0)),
-        job(move || list_by_engine(engine, black_box(packed), &labels, &sample.calls)),
+        on_full(0),
+        on_full(1),
+        on_full(2),
+        on_full(3),
+        job(move || {
+            let board = engine.fresh();
+            list_by_engine(engine, board, black_box(packed), &labels, &sample.calls)
+        }),
     ]
 }
 
@@ -59,6 +77,13 @@ pub fn of_engine<'a, E: Engine>(engine: &'a E, sample: &'a Sample) -> [Job<'a>; 
 pub fn by_reference(sample: &Sample) -> [Job<'_>; NAMES.len()] {
     let (policy, board, set) = (&sample.policy, &sample.board, sample.all_values());
     let labels = sample.labels();
+    let on_full = |k: usize| {
+        let calls = &sample.on_full[k];
+        job(move || {
+            let board = *black_box(&sample.full);
+            list_by_reference(board, black_box(policy), &labels, calls)
+        })
+    };
     let mut text = [0; TEXT_BYTES];
     let mut tuples = [0; MOST_TABLE];
     let mut users = [0; MOST_LABELS];
@@ -84,21 +109,25 @@ pub fn by_reference(sample: &Sample) -> [Job<'_>; NAMES.len()] {
             (answer, board)
         }),
         job(move || plain::board::request(black_box(board), black_box(policy), &labels, 0, 0, 0)),
-        job(move || list_by_reference(black_box(policy), &labels, &sample.calls)),
+        on_full(0),
+        on_full(1),
+        on_full(2),
+        on_full(3),
+        job(move || list_by_reference(Board::default(), black_box(policy), &labels, &sample.calls)),
     ]
 }
 
 /// The session of a sample's board that is not open.
 const LAST: u32 = SESSIONS as u32 - 1;
 
-/// The sum of the answers of a list of calls, and the board after it.
+/// The sum of the answers of a list of calls from a board on, and the board after it.
 fn list_by_engine<E: Engine>(
     engine: &E,
+    mut board: Board,
     policy: &PackedPolicy,
     labels: &Labels,
     calls: &[Call],
 ) -> (u32, Board) {
-    let mut board = engine.fresh();
     let mut sum = 0;
     for call in calls {
         let step = match *call {
@@ -118,9 +147,13 @@ fn list_by_engine<E: Engine>(
     (sum, board)
 }
 
-fn list_by_reference(policy: &Policy, labels: &Labels, calls: &[Call]) -> (u32, Board) {
+fn list_by_reference(
+    mut board: Board,
+    policy: &Policy,
+    labels: &Labels,
+    calls: &[Call],
+) -> (u32, Board) {
     use plain::board::{add, close, drop, open, request};
-    let mut board = Board::default();
     let mut sum = 0;
     for call in calls {
         let b = &mut board;
@@ -192,14 +225,22 @@ mod tests {
         }
     }
 
+    /// All sides answer a list of calls from a board on alike.
+    fn answered_alike(sample: &Sample, board: Board, calls: &[Call]) {
+        let (packed, labels) = (&sample.packed, &sample.labels());
+        let due = list_by_reference(board, &sample.policy, labels, calls);
+        assert_eq!(list_by_engine(&Archive, board, packed, labels, calls), due);
+        assert_eq!(list_by_engine(&Plain, board, packed, labels, calls), due);
+    }
+
     #[test]
-    fn all_sides_answer_a_list_alike() {
+    fn all_sides_answer_every_list_alike() {
         for size in SIZES {
             let sample = Sample::of(size);
-            let (labels, calls) = (&sample.labels(), &sample.calls);
-            let due = list_by_reference(&sample.policy, labels, calls);
-            assert_eq!(list_by_engine(&Archive, &sample.packed, labels, calls), due);
-            assert_eq!(list_by_engine(&Plain, &sample.packed, labels, calls), due);
+            answered_alike(&sample, Board::default(), &sample.calls);
+            for calls in &sample.on_full {
+                answered_alike(&sample, sample.full, calls);
+            }
         }
     }
 

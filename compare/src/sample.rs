@@ -18,6 +18,8 @@ pub struct Size {
     pub values: u32,
     pub users: u32,
     pub objects: u32,
+    /// Not more than there are user sets.
+    pub conflicts: u32,
     pub rules: u32,
     /// Of each rule; an even number.
     pub words: u32,
@@ -29,6 +31,7 @@ const SMALL: Size = Size {
     values: 2,
     users: 2,
     objects: 4,
+    conflicts: 0,
     rules: 2,
     words: 4,
     pairs: 0,
@@ -38,6 +41,7 @@ const MIDDLE: Size = Size {
     values: 4,
     users: 8,
     objects: 16,
+    conflicts: 0,
     rules: 4,
     words: 16,
     pairs: 0,
@@ -47,14 +51,15 @@ const LARGE: Size = Size {
     values: 7,
     users: 32,
     objects: 64,
+    conflicts: 0,
     rules: 8,
     words: 32,
     pairs: 0,
 };
 
-/// From a small policy to one at every limit but that of pairs; then each once
-/// more with as many pairs as there can be.
-pub const SIZES: [Size; 6] = [
+/// From a small policy to one at every limit but those of pairs and conflicts; then
+/// each once more with as many pairs as there can be, and with as many conflicts.
+pub const SIZES: [Size; 9] = [
     SMALL,
     MIDDLE,
     LARGE,
@@ -64,15 +69,29 @@ pub const SIZES: [Size; 6] = [
         ..MIDDLE
     },
     Size { pairs: 64, ..LARGE },
+    Size {
+        conflicts: 4,
+        ..SMALL
+    },
+    Size {
+        conflicts: 16,
+        ..MIDDLE
+    },
+    Size {
+        conflicts: 16,
+        ..LARGE
+    },
 ];
 
 impl Display for Size {
     fn fmt(&self, f: &mut fmt::Formatter<'_>) -> fmt::Result {
         write!(f, "{0} + {0}", self.values)?;
-        match self.pairs {
-            0 => Ok(()),
-            pairs => write!(f, ", {pairs} pairs"),
+        for (count, kind) in [(self.pairs, "pairs"), (self.conflicts, "conflicts")] {
+            if count > 0 {
+                write!(f, ", {count} {kind}")?;
+            }
         }
+        Ok(())
     }
 }
 
@@ -91,6 +110,10 @@ pub struct Sample {
     pub policy: Policy,
     /// All sessions are open but the last.
     pub board: Board,
+    /// All sessions are open.
+    pub full: Board,
+    /// A call or two on that board, none of them refused.
+    pub on_full: [Vec<Call>; 4],
     /// A thousand calls from a fresh board, none of them refused.
     pub calls: Vec<Call>,
     compiled: Compiled,
@@ -135,7 +158,9 @@ impl Sample {
             text,
             packed,
             policy,
-            board: board(size, &policy),
+            board: board(size, &policy, SESSIONS - 1),
+            full: board(size, &policy, SESSIONS),
+            on_full: on_full(size, &policy),
             calls: calls(size, &policy),
             compiled: Compiled::of(&packed),
         }
@@ -176,15 +201,34 @@ fn text(size: Size) -> String {
         }
     }
     for user in 0..size.users {
-        text += &format!("user,{user},{}\n", (37 * user + 5) % (1 << values));
+        text += &format!("user,{user},{}\n", assigned(size, user));
     }
     for object in 0..size.objects {
         text += &format!("object,{object},{}\n", (29 * object + 3) % (1 << values));
     }
+    text += &conflicts(size);
     for rule in 0..size.rules {
         text += &format!("rule,{rule},{}\n", formula(size, rule));
     }
     text + &pairs(size) + "end\n"
+}
+
+/// The set that a user is assigned.
+fn assigned(size: Size, user: u32) -> u32 {
+    (37 * user + 5) % (1 << size.values)
+}
+
+/// The conflict lines, in even steps up to the set of all values. Each allows as much
+/// as some user is assigned, so that nothing is refused and less would be too little.
+fn conflicts(size: Size) -> String {
+    let step = (1 << size.values) / size.conflicts.max(1);
+    let sets = (1..=size.conflicts).map(|k| k * step - 1);
+    sets.map(|set| {
+        let held = |user| (assigned(size, user) & set).count_ones();
+        let most = (0..size.users).map(held).max().unwrap_or(0);
+        format!("conflict,{set},{most}\n")
+    })
+    .collect()
 }
 
 /// The pair lines, equally many of each action. Their user values are senior and
@@ -234,13 +278,35 @@ fn owner(size: Size, policy: &Policy, session: u32) -> (u32, u32) {
     (user, policy.users.entries[user as usize].set)
 }
 
-fn board(size: Size, policy: &Policy) -> Board {
+/// A board on which so many sessions are open.
+fn board(size: Size, policy: &Policy, open: usize) -> Board {
     let mut board = Board::default();
-    for session in 0..SESSIONS - 1 {
+    for session in 0..open {
         let (user, held) = owner(size, policy, session as u32);
         board.sessions[session] = Session::open(user, held);
     }
     board
+}
+
+/// Adding, dropping, closing and opening again, and a request, all of session 0 with
+/// its user's assigned set.
+fn on_full(size: Size, policy: &Policy) -> [Vec<Call>; 4] {
+    let session = 0;
+    let (user, set) = owner(size, policy, session);
+    let request = Call::Request {
+        session,
+        action: 0,
+        object: 0,
+    };
+    [
+        vec![Call::Add { user, session, set }],
+        vec![Call::Drop { user, session, set }],
+        vec![
+            Call::Close { user, session },
+            Call::Open { user, session, set },
+        ],
+        vec![request],
+    ]
 }
 
 /// All sessions are opened and then used, nearly half of the calls requests;
@@ -274,13 +340,32 @@ fn calls(size: Size, policy: &Policy) -> Vec<Call> {
 #[cfg(test)]
 mod tests {
     use super::*;
-    use reference::machine::{run, Answer};
+    use crate::value::sessions;
+    use reference::machine::{run, step, Answer};
 
     #[test]
-    fn samples_have_the_pairs_of_their_size() {
+    fn samples_have_the_lines_of_their_size() {
         for size in SIZES {
             let sample = Sample::of(size);
             assert_eq!(sample.policy.pairs().len(), size.pairs as usize);
+            assert_eq!(sample.policy.conflicts().len(), size.conflicts as usize);
+        }
+    }
+
+    #[test]
+    fn no_call_on_the_full_board_is_refused() {
+        for size in SIZES {
+            let sample = Sample::of(size);
+            let policy = reference::text::read(&sample.text).expect("accepted");
+            for calls in &sample.on_full {
+                let mut map = sessions(&sample.full);
+                assert_eq!(map.len(), SESSIONS);
+                for call in calls {
+                    let (after, answer) = step(&policy, &map, call);
+                    assert!(!matches!(answer, Answer::Refused(_)), "{call:?}");
+                    map = after;
+                }
+            }
         }
     }
 

@@ -14,6 +14,7 @@ pub fn packed(policy: &Policy) -> PackedPolicy {
         object: side(&policy.object_widths, &policy.object_seniority),
         users: register(&policy.users),
         objects: register(&policy.objects),
+        conflicts: conflicts(&policy.conflicts),
         rules: rules(&policy.rules),
         pairs: pairs(&policy.pairs),
     }
@@ -32,15 +33,29 @@ fn side(widths: &[u32], lines: &[(u32, u32)]) -> SideValue {
     side
 }
 
-fn register(entries: &[(u32, u32)]) -> Register {
-    let mut register = Register {
-        count: entries.len(),
-        ..Register::default()
-    };
-    for (entry, &(number, set)) in register.entries.iter_mut().zip(entries) {
-        *entry = Entry { number, set };
+/// Fills an array from its start; how many places that takes.
+fn stored<T>(places: &mut [T], entries: impl ExactSizeIterator<Item = T>) -> usize {
+    let count = entries.len();
+    for (place, entry) in places.iter_mut().zip(entries) {
+        *place = entry;
     }
-    register
+    count
+}
+
+fn register(entries: &[(u32, u32)]) -> Register {
+    let mut value = Register::default();
+    let entries = entries.iter().map(|&(number, set)| Entry { number, set });
+    value.count = stored(&mut value.entries, entries);
+    value
+}
+
+fn conflicts(conflicts: &[policy::Conflict]) -> Conflicts {
+    let mut value = Conflicts::default();
+    let entries = conflicts
+        .iter()
+        .map(|&policy::Conflict { set, most }| Conflict { set, most });
+    value.count = stored(&mut value.entries, entries);
+    value
 }
 
 fn rules(rules: &[Rule]) -> PackedRules {
@@ -59,17 +74,13 @@ fn rules(rules: &[Rule]) -> PackedRules {
 }
 
 fn pairs(pairs: &[policy::Pair]) -> Pairs {
-    let mut value = Pairs {
-        count: pairs.len(),
-        ..Pairs::default()
-    };
-    for (entry, from) in value.entries.iter_mut().zip(pairs) {
-        *entry = Pair {
-            action: from.action,
-            user: from.user,
-            object: from.object,
-        };
-    }
+    let mut value = Pairs::default();
+    let entries = pairs.iter().map(|from| Pair {
+        action: from.action,
+        user: from.user,
+        object: from.object,
+    });
+    value.count = stored(&mut value.entries, entries);
     value
 }
 
@@ -115,6 +126,7 @@ pub fn yielded(value: &PackedPolicy) -> Option<Policy> {
 
 /// The lists up to the counts; none where a count is past its array or a word is none.
 fn lists(value: &PackedPolicy) -> Option<Policy> {
+    let conflicts = value.conflicts.entries.get(..value.conflicts.count)?;
     let rules = value.rules.entries.get(..value.rules.count)?;
     let pairs = value.pairs.entries.get(..value.pairs.count)?;
     Some(Policy {
@@ -124,6 +136,7 @@ fn lists(value: &PackedPolicy) -> Option<Policy> {
         object_seniority: lines(&value.object)?,
         users: entries(&value.users)?,
         objects: entries(&value.objects)?,
+        conflicts: conflicts.iter().map(conflict).collect(),
         rules: rules.iter().map(rule).collect::<Option<_>>()?,
         pairs: pairs.iter().map(pair).collect(),
     })
@@ -147,6 +160,10 @@ fn entries(register: &Register) -> Option<Vec<(u32, u32)>> {
             .map(|entry| (entry.number, entry.set))
             .collect(),
     )
+}
+
+fn conflict(&Conflict { set, most }: &Conflict) -> policy::Conflict {
+    policy::Conflict { set, most }
 }
 
 fn rule(rule: &PackedRule) -> Option<Rule> {
@@ -186,7 +203,7 @@ mod tests {
     }
 
     const TEXT: &str = "policy,1\nuattr,2\noattr,1\nusen,1,0\nuser,0,2\nobject,0,1\n\
-        rule,0,u0,o0,a\nrule,3,u1,n\npair,0,1,0\npair,5,0,0\nend\n";
+        conflict,2,0\nconflict,3,1\nrule,0,u0,o0,a\nrule,3,u1,n\npair,0,1,0\npair,5,0,0\nend\n";
 
     #[test]
     fn a_read_value_is_yielded() {
@@ -201,6 +218,9 @@ mod tests {
             object: 0,
         };
         assert_eq!(value.pairs.entries[1..3], [second, Pair::default()]);
+        let second = Conflict { set: 3, most: 1 };
+        let after = Conflict::default();
+        assert_eq!(value.conflicts.entries[1..3], [second, after]);
         assert_eq!(yielded(&value), read(TEXT.as_bytes()).ok());
     }
 
@@ -213,11 +233,17 @@ mod tests {
         let mut leftover = value(TEXT);
         leftover.pairs.entries[PAIR_PLACES - 1].object = 1;
         assert_eq!(yielded(&leftover), None);
+        let mut leftover = value(TEXT);
+        leftover.conflicts.entries[CONFLICT_PLACES - 1].most = 1;
+        assert_eq!(yielded(&leftover), None);
         let mut count = value(TEXT);
         count.users.count = usize::MAX;
         assert_eq!(yielded(&count), None);
         let mut count = value(TEXT);
         count.pairs.count = PAIR_PLACES + 1;
+        assert_eq!(yielded(&count), None);
+        let mut count = value(TEXT);
+        count.conflicts.count = CONFLICT_PLACES + 1;
         assert_eq!(yielded(&count), None);
     }
 

@@ -4,13 +4,16 @@ use helvemoik_compare::comparison::{compare, Coverage, Plan};
 use helvemoik_compare::engine::{Archive, Engine};
 use helvemoik_compare::plain::Plain;
 
-/// The answers of reading, refusals 1 to 10 and 21 among them.
-const READINGS: [u32; 12] = [0, 1, 2, 3, 4, 5, 6, 7, 8, 9, 10, 21];
+/// The answers of reading, refusals 1 to 10, 21 and 22 among them.
+const READINGS: [u32; 13] = [0, 1, 2, 3, 4, 5, 6, 7, 8, 9, 10, 21, 22];
 
 /// The kinds of calls that go by what is granted, and so by pairs too.
 const BY_PAIRS: [&str; 5] = ["apart", "compile", "decide", "list", "request"];
 
-/// The answers of each kind of call: 0 and above as the header has them, 11 to 20 refused.
+/// The kinds of calls on a board, which check 11 may refuse for a conflict alone.
+const BY_CONFLICTS: [&str; 5] = ["add", "close", "drop", "open", "request"];
+
+/// The answers of each kind of call: 0 and above as the header has them, 11 and above refused.
 const ANSWERS: [(&str, &[u32]); 13] = [
     ("valid", &[0, 1]),
     ("write", &[0, 11, 20]),
@@ -20,8 +23,8 @@ const ANSWERS: [(&str, &[u32]); 13] = [
     ("compile", &[0, 11, 20]),
     ("apart", &[0, 1, 11, 19]),
     ("fresh", &[0]),
-    ("open", &[2, 11, 13, 14, 16, 19]),
-    ("add", &[2, 11, 13, 14, 17, 18, 19]),
+    ("open", &[2, 11, 13, 14, 16, 19, 23]),
+    ("add", &[2, 11, 13, 14, 17, 18, 19, 23]),
     ("drop", &[2, 11, 13, 14, 17, 18, 19]),
     ("close", &[2, 11, 13, 14, 17, 18]),
     ("request", &[0, 1, 11, 12, 13, 15, 17, 20]),
@@ -33,6 +36,7 @@ fn covered(engine: &dyn Engine, plan: Plan) -> Coverage {
     assert!(coverage.texts() >= plan.texts && coverage.calls() >= plan.calls);
     assert_eq!(coverage.readings(), READINGS);
     assert_eq!(coverage.by_pairs(), BY_PAIRS);
+    assert_eq!(coverage.by_conflicts(), BY_CONFLICTS);
     for (kind, answers) in ANSWERS {
         assert_eq!(coverage.answers(kind), answers, "{kind}");
     }

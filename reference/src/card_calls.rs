@@ -208,12 +208,14 @@ fn done(result: Result<(), Refusal>) -> Answer {
     result.map_or_else(Answer::Refused, |()| Answer::Done)
 }
 
-/// Check 11 of a board: each session's user is registered, and its set in reach.
+/// Check 11 of a board: each session's user is registered, and its set in reach
+/// and within every conflict.
 fn sound(policy: &Policy, sessions: &Sessions) -> bool {
     sessions.values().all(|&(user, held)| {
         policy
             .assigned(user)
             .is_some_and(|assigned| held & !reach(policy, assigned) == 0)
+            && policy.may_hold(held)
     })
 }
 
@@ -234,6 +236,25 @@ mod tests {
         ];
         let card = "a.txt".to_string();
         assert_eq!(file, Some(CallFile { card, calls }));
+    }
+
+    #[test]
+    fn a_board_over_a_conflict_gets_11_until_it_is_another() {
+        let card = b"policy,1\nuattr,2\noattr,1\nuser,0,3\nconflict,3,1\nend\n";
+        let board = |held| CardCall::Board {
+            session: 4,
+            user: 0,
+            held,
+        };
+        let open = CardCall::Session(Call::Open {
+            user: 0,
+            session: 0,
+            set: 1,
+        });
+        let mut player = Player::new(card);
+        let answers = [board(3), open, board(2), open].map(|call| player.answer(call));
+        let done = Answer::Done;
+        assert_eq!(answers, [done, Answer::Refused(11), done, done]);
     }
 
     #[test]

@@ -43,9 +43,10 @@
 //! refusal, 11 to 20. A call in a list is four numbers: 0 open, 1 add or 2 drop
 //! with user, session and set; 3 close with user, session and 0; 4 request with
 //! session, action and object. There an answer is 0 denied, 1 granted, 2 done,
-//! or the refusal. Buffers are blank before a call: byte 170, entry 65535. A
-//! refused call leaves its buffers as they were, and one that is done leaves
-//! what lies past its result. Where a call is refused, its count is 0.
+//! or the refusal, 11 to 20 or 23. Buffers are blank before a call: byte 170,
+//! entry 65535. A refused call leaves its buffers as they were, and one that is
+//! done leaves what lies past its result. Where a call is refused, its count is
+//! 0.
 
 use crate::cases::{self, Rng};
 use crate::formula::decide;
@@ -114,6 +115,24 @@ fn line(out: &mut String, line: String) {
 pub fn case_of(case: u64, text: &[u8], lines: &str) -> Vec<u8> {
     let head = format!("C,{case},{}\n", text.len());
     [head.as_bytes(), text, b"\n", lines.as_bytes()].concat()
+}
+
+/// The lines of a case file that follow its texts.
+pub fn lines(file: &[u8]) -> Vec<String> {
+    let mut lines = Vec::new();
+    let mut rest = file;
+    while let Some(end) = rest.iter().position(|&byte| byte == b'\n') {
+        let line = String::from_utf8_lossy(&rest[..end]).into_owned();
+        rest = &rest[end + 1..];
+        match line
+            .strip_prefix("C,")
+            .and_then(|begun| begun.split_once(','))
+        {
+            Some((_, length)) => rest = &rest[length.parse::<usize>().expect("a length") + 1..],
+            None => lines.push(line),
+        }
+    }
+    lines
 }
 
 /// Numbers as fields.

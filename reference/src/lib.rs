@@ -2,7 +2,7 @@
 //! possible: the answers to compare another implementation with.
 //!
 //! Everything here is a pure function over plain vectors. Refusals are the
-//! numbers 1 to 21 of the requirement.
+//! numbers 1 to 23 of the requirement and its changes.
 
 #![forbid(unsafe_code)]
 

@@ -1,4 +1,4 @@
-//! The plain machine of sessions, with refusals 12 to 19.
+//! The plain machine of sessions, with refusals 12 to 19 and 23.
 
 use crate::formula::{reach, Formulas};
 use crate::policy::{Policy, Refusal, Set, ACTIONS};
@@ -71,6 +71,15 @@ impl Call {
         }
     }
 
+    /// What the session would hold after a call that gives it values.
+    fn would_hold(&self, held: Set) -> Option<Set> {
+        match *self {
+            Call::Open { set, .. } => Some(set),
+            Call::Add { set, .. } => Some(held | set),
+            _ => None,
+        }
+    }
+
     fn is_open(&self) -> bool {
         matches!(self, Call::Open { .. })
     }
@@ -87,6 +96,7 @@ fn refusals(policy: &Policy, sessions: &Sessions, call: &Call) -> Vec<Refusal> {
     let another = entry.is_some_and(|entry| call.user().is_some_and(|user| user != entry.0));
     // Reach lies among the user values, so a value the side lacks is out of it.
     let within = reach(policy, assigned.unwrap_or(0));
+    let would_hold = call.would_hold(entry.map_or(0, |entry| entry.1));
     let conditions = [
         (12, action.is_some_and(|action| action >= ACTIONS)),
         (13, call.session() > 31),
@@ -99,6 +109,7 @@ fn refusals(policy: &Policy, sessions: &Sessions, call: &Call) -> Vec<Refusal> {
         (17, !call.is_open() && entry.is_none()),
         (18, !call.is_open() && another),
         (19, call.set().is_some_and(|set| set & !within != 0)),
+        (23, would_hold.is_some_and(|set| !policy.may_hold(set))),
     ];
     conditions
         .iter()
@@ -178,12 +189,13 @@ mod tests {
         }
     }
 
-    fn answers(calls: &[Call]) -> Vec<Answer> {
-        run(&read(TEXT).expect("accepted"), calls).0
+    fn last(calls: &[Call]) -> Answer {
+        last_on(TEXT, calls)
     }
 
-    fn last(calls: &[Call]) -> Answer {
-        *answers(calls).last().expect("an answer")
+    fn last_on(text: &[u8], calls: &[Call]) -> Answer {
+        let (answers, _) = run(&read(text).expect("accepted"), calls);
+        *answers.last().expect("an answer")
     }
 
     #[test]
@@ -267,6 +279,43 @@ mod tests {
             assert_eq!(last(&[opened, call(0, 2, 8)]), Answer::Refused(19));
             assert_eq!(last(&[opened, call(0, 2, 1)]), Answer::Done);
         }
+    }
+
+    /// User value 2 is senior to 1 and 1 to 0; at most one of 0 and 1, none of 3.
+    const CONFLICTS: &[u8] = b"policy,1\nuattr,3\nuattr,2\noattr,1\nusen,1,0\nusen,2,1\n\
+        user,0,12\nuser,1,3\nobject,0,0\nconflict,3,1\nconflict,8,0\nend\n";
+
+    #[test]
+    fn open_refuses_by_23_after_19() {
+        let refused = |user, set| last_on(CONFLICTS, &[open(user, 0, set)]);
+        // Too much of the first conflict, of the second, and out of reach too.
+        assert_eq!(refused(0, 3), Answer::Refused(23));
+        assert_eq!(refused(0, 8), Answer::Refused(23));
+        assert_eq!(refused(0, 19), Answer::Refused(19));
+        assert_eq!(refused(1, 12), Answer::Refused(19));
+        // The juniors of 2 are not held with it.
+        assert_eq!(refused(0, 4), Answer::Done);
+        assert_eq!(refused(0, 6), Answer::Done);
+    }
+
+    #[test]
+    fn add_counts_what_is_held_after_it_and_drop_never_refuses() {
+        let drop = |set| Call::Drop {
+            user: 0,
+            session: 0,
+            set,
+        };
+        let opened = open(0, 0, 1);
+        let after = |calls: &[Call]| last_on(CONFLICTS, &[&[opened], calls].concat());
+        assert_eq!(after(&[add(0, 0, 2)]), Answer::Refused(23));
+        assert_eq!(after(&[add(0, 0, 1)]), Answer::Done);
+        assert_eq!(after(&[add(0, 0, 4), drop(11)]), Answer::Done);
+        assert_eq!(after(&[drop(1), add(0, 0, 2)]), Answer::Done);
+        assert_eq!(after(&[open(0, 1, 2)]), Answer::Done);
+        assert_eq!(after(&[add(1, 0, 2)]), Answer::Refused(18));
+        assert_eq!(after(&[add(1, 1, 3)]), Answer::Refused(17));
+        assert_eq!(after(&[add(0, 0, 18)]), Answer::Refused(19));
+        assert_eq!(after(&[open(0, 0, 3)]), Answer::Refused(16));
     }
 
     #[test]

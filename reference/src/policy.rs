@@ -3,7 +3,7 @@
 /// A set of values: the sum of 2^k over the values k in it.
 pub type Set = u32;
 
-/// The number of a refusal, 1 to 21.
+/// The number of a refusal, 1 to 23.
 pub type Refusal = u32;
 
 /// Actions are numbered 0 to 7.
@@ -34,6 +34,13 @@ pub struct Rule {
     pub words: Vec<Word>,
 }
 
+/// Of the values in a user set, a session may hold at most so many.
+#[derive(Debug, Clone, Copy, PartialEq, Eq)]
+pub struct Conflict {
+    pub set: Set,
+    pub most: u32,
+}
+
 /// Grants an action to a user value on an object value.
 #[derive(Debug, Clone, Copy, PartialEq, Eq, PartialOrd, Ord)]
 pub struct Pair {
@@ -53,6 +60,7 @@ pub struct Policy {
     pub users: Vec<(u32, Set)>,
     /// Number and set.
     pub objects: Vec<(u32, Set)>,
+    pub conflicts: Vec<Conflict>,
     pub rules: Vec<Rule>,
     pub pairs: Vec<Pair>,
 }
@@ -86,6 +94,14 @@ impl Policy {
     /// The set of an object, if the object is registered.
     pub fn object_set(&self, object: u32) -> Option<Set> {
         find(&self.objects, object)
+    }
+
+    /// Whether a session may hold a set: not too many values of any conflict. The
+    /// values held count, and not their juniors.
+    pub fn may_hold(&self, held: Set) -> bool {
+        self.conflicts
+            .iter()
+            .all(|conflict| (held & conflict.set).count_ones() <= conflict.most)
     }
 
     /// The formula of an action; that of one without a rule is false.
@@ -126,6 +142,24 @@ mod tests {
         let attributes: Vec<_> = (0..7).map(|v| attribute_of(&widths, v)).collect();
         let expected = [Some(0), Some(0), Some(1), Some(2), Some(2), Some(2), None];
         assert_eq!(attributes, expected);
+    }
+
+    #[test]
+    fn every_conflict_counts_the_values_held() {
+        let conflicts = [(0, 0), (0b00011, 1), (0b01110, 2), (0b10000, 0)]
+            .map(|(set, most)| Conflict { set, most })
+            .to_vec();
+        let policy = Policy {
+            conflicts,
+            ..Policy::default()
+        };
+        for held in [0, 0b00001, 0b00110, 0b01101] {
+            assert!(policy.may_hold(held), "{held}");
+        }
+        for held in [0b00011, 0b01110, 0b01111, 0b10000] {
+            assert!(!policy.may_hold(held), "{held}");
+        }
+        assert!(Policy::default().may_hold(0b11111));
     }
 
     #[test]

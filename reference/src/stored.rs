@@ -1,12 +1,15 @@
 //! The case files that are stored with the product: the requirement's examples
 //! with the requirement's answers, made cases from one seed without pairs and
-//! with them, and lines that are wrong on purpose.
+//! conflicts and with them, and lines that are wrong on purpose.
 
+pub(crate) mod conflicts;
 mod pairs;
 
-use crate::case_file::{answered, case_of, made};
-use crate::cases::{text, text_without_pairs, Rng};
-use crate::text::{read, MOST_PAIRS};
+use crate::case_file::{answered, case_of};
+use crate::cases::{text, text_without_conflicts, text_without_pairs, Rng};
+use crate::formula::reach;
+use crate::policy::Policy;
+use crate::text::{read, MOST_CONFLICTS, MOST_PAIRS};
 use crate::wrong;
 
 const SEED: u64 = 3;
@@ -71,22 +74,33 @@ const EDGES: [(&str, &str, &str); 16] = [
 ];
 
 /// The files by their numbers: the examples, the made cases without pairs, those
-/// with pairs, then the lines that are wrong on purpose.
+/// about pairs, the lines that are wrong on purpose, then the made cases about
+/// conflicts.
 pub fn files() -> Vec<Vec<u8>> {
     let mut files = vec![examples()];
     files.extend(without_pairs());
-    files.push(with_pairs());
+    files.push(about(text_without_conflicts, "pair", much_by_pairs));
     files.push(wrong::file());
+    files.push(about(text, "conflict", much_by_conflicts));
     files
+}
+
+/// The text of a case.
+type Making = fn(&mut Rng, u64) -> Vec<u8>;
+
+/// The text of a case and all its lines.
+fn made(text: Making, case: u64) -> (Vec<u8>, Vec<u8>) {
+    let mut rng = Rng::new(SEED, case);
+    let text = text(&mut rng, case);
+    let lines = answered(&mut rng, case, &text, u32::MAX);
+    (text, lines)
 }
 
 fn without_pairs() -> Vec<Vec<u8>> {
     let mut files = vec![Vec::new()];
     let mut large = 0;
     for case in 0..CASES {
-        let mut rng = Rng::new(SEED, case);
-        let text = text_without_pairs(&mut rng, case);
-        let lines = answered(&mut rng, case, &text, u32::MAX);
+        let (_, lines) = made(text_without_pairs, case);
         if lines.len() > SMALL && case != LABEL_PER_SET {
             if lines.len() > FILE || large + lines.len() > LARGE_SUM {
                 continue;
@@ -101,35 +115,40 @@ fn without_pairs() -> Vec<Vec<u8>> {
     files
 }
 
-/// The first small cases that say much of pairs, as many as fit into a file.
-fn with_pairs() -> Vec<u8> {
+/// The first small cases that say much of a kind of line, as many as fit into a
+/// file: refused at such a line, or accepted with much by it.
+fn about(text: Making, kind: &str, much: fn(&Policy) -> bool) -> Vec<u8> {
     let mut file = Vec::new();
     for case in 0..CASES {
-        let lines = made(SEED, case, u32::MAX);
-        let fits = lines.len() <= SMALL && file.len() + lines.len() <= FILE;
-        if fits && is_about_pairs(&text(&mut Rng::new(SEED, case), case)) {
+        let (text, lines) = made(text, case);
+        let wanted = match read(&text) {
+            Err(refused) => {
+                let mut lines = text.split(|&byte| byte == b'\n');
+                let line = lines.nth(refused.line).unwrap_or_default();
+                refused.refusal > 1 && line.starts_with(kind.as_bytes())
+            }
+            Ok(policy) => much(&policy),
+        };
+        if wanted && lines.len() <= SMALL && file.len() + lines.len() <= FILE {
             file.extend(lines);
         }
     }
     file
 }
 
-/// Refused at a pair line, or accepted with pairs and no rules, with as many
-/// pairs as there may be, or with pairs and seniority on both sides.
-fn is_about_pairs(text: &[u8]) -> bool {
-    match read(text) {
-        Err(refused) => {
-            let mut lines = text.split(|&byte| byte == b'\n');
-            let line = lines.nth(refused.line).unwrap_or_default();
-            refused.refusal > 1 && line.starts_with(b"pair")
-        }
-        Ok(policy) => {
-            let both_sides =
-                !policy.user_seniority.is_empty() && !policy.object_seniority.is_empty();
-            let most = policy.pairs.len() == MOST_PAIRS;
-            !policy.pairs.is_empty() && (policy.rules.is_empty() || most || both_sides)
-        }
-    }
+/// With pairs and no rules, with as many pairs as there may be, or with pairs and
+/// seniority on both sides.
+fn much_by_pairs(policy: &Policy) -> bool {
+    let both_sides = !policy.user_seniority.is_empty() && !policy.object_seniority.is_empty();
+    let most = policy.pairs.len() == MOST_PAIRS;
+    !policy.pairs.is_empty() && (policy.rules.is_empty() || most || both_sides)
+}
+
+/// With as many conflicts as there may be, or with a user who could hold too many
+/// values of one.
+fn much_by_conflicts(policy: &Policy) -> bool {
+    let too_many = |assigned| !policy.may_hold(reach(policy, assigned));
+    policy.conflicts.len() == MOST_CONFLICTS || policy.users.iter().any(|user| too_many(user.1))
 }
 
 fn examples() -> Vec<u8> {
@@ -158,6 +177,7 @@ pub(crate) fn example_cases() -> Vec<(String, String)> {
     }
     cases.extend(pairs::example_cases());
     cases.extend(greatest_sets());
+    cases.extend(conflicts::example_cases());
     cases
 }
 

@@ -1,16 +1,22 @@
-//! Reading a policy text, with refusals 1 to 10 and 21 and their lines, and
+//! Reading a policy text, with refusals 1 to 10, 21 and 22 and their lines, and
 //! writing.
 //!
 //! The checks of one line stand in the order of testing, which is that of their
-//! numbers but for 21, between 7 and 8. The first one met decides.
+//! numbers but for 21 and 22, between 7 and 8. The first one met decides.
 
-use crate::policy::{attribute_of, Pair, Policy, Refusal, Rule, Word, ACTIONS};
+use crate::policy::{attribute_of, Conflict, Pair, Policy, Refusal, Rule, Word, ACTIONS};
 
 /// A longer text gets refusal 1.
 pub const LONGEST_TEXT: usize = 8192;
 
 /// A pair line more gets refusal 21.
 pub const MOST_PAIRS: usize = 64;
+
+/// A conflict line more gets refusal 22.
+pub const MOST_CONFLICTS: usize = 16;
+
+/// The greatest number of values that a conflict may let a session hold.
+pub const MOST_TOGETHER: u32 = 7;
 
 /// The reader's refusal, with the line it is about.
 #[derive(Debug, Clone, Copy, PartialEq, Eq)]
@@ -29,12 +35,13 @@ enum Kind {
     ObjectSeniority,
     User,
     Object,
+    Conflict,
     Rule,
     Pair,
     End,
 }
 
-const KINDS: [(&str, Kind); 10] = [
+const KINDS: [(&str, Kind); 11] = [
     ("policy", Kind::Policy),
     ("uattr", Kind::UserAttribute),
     ("oattr", Kind::ObjectAttribute),
@@ -42,6 +49,7 @@ const KINDS: [(&str, Kind); 10] = [
     ("osen", Kind::ObjectSeniority),
     ("user", Kind::User),
     ("object", Kind::Object),
+    ("conflict", Kind::Conflict),
     ("rule", Kind::Rule),
     ("pair", Kind::Pair),
     ("end", Kind::End),
@@ -54,7 +62,7 @@ struct Entry {
     words: Vec<Word>,
 }
 
-/// The policy of a text that breaks none of 1 to 10 and 21.
+/// The policy of a text that breaks none of 1 to 10, 21 and 22.
 pub fn read(text: &[u8]) -> Result<Policy, Refused> {
     if text.len() > LONGEST_TEXT {
         return Err(Refused {
@@ -84,7 +92,7 @@ pub fn read(text: &[u8]) -> Result<Policy, Refused> {
     Ok(policy)
 }
 
-/// Checks 2 to 9 and 21 of one line, given the lines before it.
+/// Checks 2 to 9, 21 and 22 of one line, given the lines before it.
 fn read_line(policy: &Policy, before: Option<Kind>, line: &[u8]) -> Result<Entry, Refusal> {
     let line = line.strip_suffix(b"\n").ok_or(2u32)?;
     let fields: Vec<&[u8]> = line.split(|&byte| byte == b',').collect();
@@ -101,8 +109,8 @@ fn read_line(policy: &Policy, before: Option<Kind>, line: &[u8]) -> Result<Entry
     if !rises(policy, &entry) {
         return Err(7);
     }
-    if kind == Kind::Pair && policy.pairs.len() >= MOST_PAIRS {
-        return Err(21);
+    if let Some(refusal) = too_many(policy, kind) {
+        return Err(refusal);
     }
     if !entry.words.iter().all(|word| widths_equal(policy, word)) {
         return Err(8);
@@ -135,7 +143,11 @@ fn count_fits(kind: Kind, count: usize) -> bool {
     match kind {
         Kind::End => count == 1,
         Kind::Policy | Kind::UserAttribute | Kind::ObjectAttribute => count == 2,
-        Kind::UserSeniority | Kind::ObjectSeniority | Kind::User | Kind::Object => count == 3,
+        Kind::UserSeniority
+        | Kind::ObjectSeniority
+        | Kind::User
+        | Kind::Object
+        | Kind::Conflict => count == 3,
         Kind::Rule => (3..=34).contains(&count),
         Kind::Pair => count == 4,
     }
@@ -198,6 +210,7 @@ fn in_range(policy: &Policy, entry: &Entry) -> bool {
         Kind::ObjectSeniority => senior_stands(&policy.object_widths, numbers[0], numbers[1]),
         Kind::User => numbers[0] <= 31 && numbers[1] < policy.user_sets(),
         Kind::Object => numbers[0] <= 63 && numbers[1] < policy.object_sets(),
+        Kind::Conflict => numbers[0] < policy.user_sets() && numbers[1] <= MOST_TOGETHER,
         Kind::Rule => {
             numbers[0] < ACTIONS && entry.words.iter().all(|word| word_in_range(policy, word))
         }
@@ -240,6 +253,7 @@ fn rises(policy: &Policy, entry: &Entry) -> bool {
         Kind::ObjectSeniority => above(policy.object_seniority.last(), (numbers[0], numbers[1])),
         Kind::User => above(policy.users.last().map(|user| &user.0), numbers[0]),
         Kind::Object => above(policy.objects.last().map(|object| &object.0), numbers[0]),
+        Kind::Conflict => above(policy.conflicts.last().map(|last| &last.set), numbers[0]),
         Kind::Rule => above(policy.rules.last().map(|rule| &rule.action), numbers[0]),
         Kind::Pair => above(policy.pairs.last(), pair(numbers)),
         _ => true,
@@ -257,6 +271,15 @@ fn pair(numbers: &[u32]) -> Pair {
 
 fn above<T: Ord>(last: Option<&T>, next: T) -> bool {
     last.is_none_or(|last| next > *last)
+}
+
+/// The refusal of a line where there are as many of its kind as there may be.
+fn too_many(policy: &Policy, kind: Kind) -> Option<Refusal> {
+    match kind {
+        Kind::Conflict if policy.conflicts.len() >= MOST_CONFLICTS => Some(22),
+        Kind::Pair if policy.pairs.len() >= MOST_PAIRS => Some(21),
+        _ => None,
+    }
 }
 
 fn widths_equal(policy: &Policy, word: &Word) -> bool {
@@ -295,6 +318,10 @@ fn with(mut policy: Policy, entry: Entry) -> Policy {
         Kind::ObjectSeniority => policy.object_seniority.push((numbers[0], numbers[1])),
         Kind::User => policy.users.push((numbers[0], numbers[1])),
         Kind::Object => policy.objects.push((numbers[0], numbers[1])),
+        Kind::Conflict => policy.conflicts.push(Conflict {
+            set: numbers[0],
+            most: numbers[1],
+        }),
         Kind::Rule => policy.rules.push(Rule {
             action: numbers[0],
             words: entry.words,
@@ -323,6 +350,7 @@ pub fn write(policy: &Policy) -> Vec<u8> {
     lines.extend(two_numbers("osen", &policy.object_seniority));
     lines.extend(two_numbers("user", &policy.users));
     lines.extend(two_numbers("object", &policy.objects));
+    lines.extend(policy.conflicts.iter().map(conflict_line));
     lines.extend(policy.rules.iter().map(rule_line));
     lines.extend(policy.pairs.iter().map(pair_line));
     lines.push("end".to_string());
@@ -336,6 +364,10 @@ fn two_numbers<'a>(kind: &'a str, lines: &'a [(u32, u32)]) -> impl Iterator<Item
     lines
         .iter()
         .map(move |(first, second)| format!("{kind},{first},{second}"))
+}
+
+fn conflict_line(conflict: &Conflict) -> String {
+    format!("conflict,{},{}", conflict.set, conflict.most)
 }
 
 fn rule_line(rule: &Rule) -> String {
@@ -401,11 +433,15 @@ mod tests {
         let followers = [
             ("policy", "uattr"),
             ("uattr", "uattr oattr"),
-            ("oattr", "oattr usen osen user object rule pair end"),
-            ("usen", "usen osen user object rule pair end"),
-            ("osen", "osen user object rule pair end"),
-            ("user", "user object rule pair end"),
-            ("object", "object rule pair end"),
+            (
+                "oattr",
+                "oattr usen osen user object conflict rule pair end",
+            ),
+            ("usen", "usen osen user object conflict rule pair end"),
+            ("osen", "osen user object conflict rule pair end"),
+            ("user", "user object conflict rule pair end"),
+            ("object", "object conflict rule pair end"),
+            ("conflict", "conflict rule pair end"),
             ("rule", "rule pair end"),
             ("pair", "pair end"),
             ("end", ""),
@@ -440,6 +476,8 @@ mod tests {
             "usen,1,0,0",
             "user,0",
             "object,0",
+            "conflict,0",
+            "conflict,0,0,0",
             "rule",
             "rule,0",
             "pair,0,0",
@@ -455,6 +493,8 @@ mod tests {
         for field in ["", "01", "00", "123456", "-1", "+1", "a", " 1", "1 ", "1\r"] {
             assert_eq!(line(&format!("user,{field},0")), Some(5), "{field}");
             assert_eq!(line(&format!("user,0,{field}")), Some(5), "{field}");
+            assert_eq!(line(&format!("conflict,{field},0")), Some(5), "{field}");
+            assert_eq!(line(&format!("conflict,0,{field}")), Some(5), "{field}");
             assert_eq!(line(&format!("rule,{field},t")), Some(5), "{field}");
             assert_eq!(line(&format!("pair,{field},0,0")), Some(5), "{field}");
             assert_eq!(line(&format!("pair,0,{field},0")), Some(5), "{field}");
@@ -484,6 +524,8 @@ mod tests {
             "user,0,8",
             "object,64,0",
             "object,0,8",
+            "conflict,8,0",
+            "conflict,0,8",
             "rule,8,t",
             "pair,8,0,0",
             "pair,0,3,0",
@@ -504,6 +546,10 @@ mod tests {
         assert_eq!(refused(&format!("{HEAD}user,2,0\nuser,1,8\n")), (6, 6));
         assert_eq!(refused(&format!("{HEAD}object,2,0\nobject,2,1\n")), (7, 6));
         assert_eq!(refused(&format!("{HEAD}rule,2,t\nrule,2,d01\n")), (7, 6));
+        for next in ["2,0", "2,1", "1,7", "0,2"] {
+            let text = format!("{HEAD}conflict,2,1\nconflict,{next}\n");
+            assert_eq!(refused(&text), (7, 6), "{next}");
+        }
         for next in ["1,1,1", "1,1,0", "1,0,2", "0,2,2"] {
             let text = format!("{HEAD}pair,1,1,1\npair,{next}\n");
             assert_eq!(refused(&text), (7, 6), "{next}");
@@ -532,6 +578,31 @@ mod tests {
         assert_eq!(refused(&format!("{text}pair,7,6,7\n")), (6, 67));
         assert_eq!(refused(&format!("{text}pair,1,2,0\n")), (7, 67));
         assert_eq!(refused(&format!("{text}pair,7,6,6\n")), (21, 67));
+    }
+
+    /// A text with so many conflict lines.
+    fn with_conflicts(count: u32) -> String {
+        let conflicts = (0..count).map(|i| format!("conflict,{},{}\n", 2 * i, i % 8));
+        format!(
+            "policy,1\nuattr,7\noattr,7\n{}",
+            conflicts.collect::<String>()
+        )
+    }
+
+    #[test]
+    fn refusal_22_past_the_16th_conflict_after_7() {
+        let text = with_conflicts(16);
+        assert!(read(format!("{text}end\n").as_bytes()).is_ok());
+        assert_eq!(refused(&with_conflicts(17)), (22, 19));
+        assert_eq!(refused(&format!("{text}conflict,31,0")), (2, 19));
+        assert_eq!(refused(&format!("{text}object,0,0\n")), (3, 19));
+        assert_eq!(refused(&format!("{text}conflict,31\n")), (4, 19));
+        assert_eq!(refused(&format!("{text}conflict,31,00\n")), (5, 19));
+        assert_eq!(refused(&format!("{text}conflict,31,8\n")), (6, 19));
+        assert_eq!(refused(&format!("{text}conflict,128,7\n")), (6, 19));
+        assert_eq!(refused(&format!("{text}conflict,30,7\n")), (7, 19));
+        assert_eq!(refused(&format!("{text}conflict,31,7\n")), (22, 19));
+        assert_eq!(refused(&format!("{text}rule,0,t\npair,0,0\n")), (4, 20));
     }
 
     #[test]
@@ -565,7 +636,7 @@ mod tests {
     fn an_accepted_text_is_written_again() {
         let text = format!(
             "{HEAD}usen,1,0\nosen,1,0\nuser,0,7\nuser,31,0\nobject,63,5\n\
-             rule,0,t,f,u0,o2,d00,q11,n,a,r,a,r,a\nrule,7,f\npair,0,0,2\npair,7,2,0\nend\n"
+             conflict,0,0\nconflict,5,7\nconflict,7,1\nrule,0,t,f,u0,o2,d00,q11,n,a,r,a,r,a\nrule,7,f\npair,0,0,2\npair,7,2,0\nend\n"
         );
         let policy = read(text.as_bytes()).expect("accepted");
         assert_eq!(write(&policy), text.as_bytes());

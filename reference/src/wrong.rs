@@ -6,7 +6,7 @@
 //! made from.
 
 use crate::case_file::{case_of, WITHOUT_POLICY};
-use crate::stored::{ANSWERS, TEXT};
+use crate::stored::{conflicts, ANSWERS, TEXT};
 
 /// Behind the tag of a line that is wrong on purpose.
 pub const MARK: char = '!';
@@ -51,9 +51,10 @@ pub fn file() -> Vec<u8> {
 }
 
 /// Texts, each with right lines.
-fn right_cases() -> [(String, String); 4] {
+fn right_cases() -> [(String, String); 6] {
     let without_policy = WITHOUT_POLICY.join("\n");
     let labels = ",0".repeat(128);
+    let (in_conflict, list) = conflicts::first_list();
     [
         (TEXT.to_string(), format!("{ANSWERS}{MORE}")),
         (String::new(), "R,10,0\n".to_string()),
@@ -66,6 +67,11 @@ fn right_cases() -> [(String, String); 4] {
             format!(
                 "Y\nu,0,1,128,128,1{labels}\no,0,1,128,128,1{labels}\nT,0,16384,0,16384,0,16383\n"
             ),
+        ),
+        (in_conflict, format!("Y\n{list}")),
+        (
+            format!("{}conflict,31,0\nend\n", conflicts::with_16()),
+            "R,22,19\nV,11\n".to_string(),
         ),
     ]
 }

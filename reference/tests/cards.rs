@@ -65,7 +65,7 @@ fn every_card_outside_refused_is_accepted_and_has_calls() {
     }
 }
 
-/// Refusals 1 to 10 and 21 by texts, 11 to 20 by calls; each file gets the number in its name.
+/// Refusals 1 to 10, 21 and 22 by texts, 11 to 20 and 23 by calls; each file gets the number in its name.
 #[test]
 fn every_refusal_has_a_file() {
     let mut found: Vec<u32> = Vec::new();
@@ -89,13 +89,13 @@ fn every_refusal_has_a_file() {
     }
     found.sort();
     found.dedup();
-    assert!(found.into_iter().eq(1..=21));
+    assert!(found.into_iter().eq(1..=23));
 }
 
 /// The shortest text of each refusal gets it no more when any stretch is cut out.
 #[test]
 fn the_smallest_texts_cannot_be_cut() {
-    for refusal in (1..=10).chain([21]) {
+    for refusal in (1..=10).chain([21, 22]) {
         let smallest = files("txt")
             .into_iter()
             .filter(|path| refused(path) && number(path) == Some(refusal))

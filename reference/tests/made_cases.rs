@@ -1,17 +1,17 @@
 //! What the made cases cover, and what must hold of every one of them.
 
-use reference::cases::{calls, text, text_without_pairs, Rng};
+use reference::cases::{calls, text, text_without_conflicts, text_without_pairs, Rng};
 use reference::formula::{decide, holds, is_senior, Formulas};
 use reference::labels::{apart, compile, grants, grants_alike};
-use reference::machine::{run, Answer};
-use reference::policy::{Pair, Policy, ACTIONS};
-use reference::text::{read, write, MOST_PAIRS};
+use reference::machine::{run, step, Answer, Call, Sessions};
+use reference::policy::{Conflict, Pair, Policy, Set, ACTIONS};
+use reference::text::{read, write, MOST_CONFLICTS, MOST_PAIRS, MOST_TOGETHER};
 use reference::tuples::{stored, tuples};
 use std::collections::BTreeSet;
 
 const SEED: u64 = 20;
 const CASES: u64 = 2000;
-/// Each refusal of the reader comes up among the first so many.
+/// Each refusal comes up among the first so many.
 const THOUSAND: u64 = 1000;
 
 fn made(case: u64) -> (Rng, Vec<u8>) {
@@ -63,54 +63,81 @@ fn every_refusal_of_the_reader_comes_up() {
         .map(|r| r.refusal)
         .collect();
     assert!(
-        refusals.iter().copied().eq((1..=10).chain([21])),
+        refusals.iter().copied().eq((1..=10).chain([21, 22])),
         "{refusals:?}"
     );
 }
 
-/// The line that a text is refused at, with the refusal and the pairs before it.
-fn refused_at(text: &[u8]) -> Option<(u32, String, usize)> {
+/// The line that a text is refused at, with the refusal and how many lines of a
+/// kind stand before it.
+fn refused_at(text: &[u8], kind: &str) -> Option<(u32, String, usize)> {
     let refused = read(text).err()?;
-    let mut lines = text.split(|&byte| byte == b'\n');
+    let text = String::from_utf8_lossy(text);
+    let mut lines = text.split('\n');
     let before = lines.by_ref().take(refused.line);
-    let pairs = before.filter(|line| line.starts_with(b"pair,")).count();
-    let line = String::from_utf8_lossy(lines.next()?).into_owned();
-    Some((refused.refusal, line, pairs))
+    let count = before.filter(|line| begins(line, kind)).count();
+    Some((refused.refusal, lines.next()?.to_string(), count))
 }
 
+fn begins(line: &str, kind: &str) -> bool {
+    line.split(',').next() == Some(kind)
+}
+
+/// Of each kind with a limit: before it and past it, and another kind behind it.
 #[test]
-fn every_refusal_of_a_pair_line_comes_up() {
-    let found: Vec<_> = (0..CASES)
-        .filter_map(|case| refused_at(&made(case).1))
-        .collect();
-    let comes = |refusal, past| {
-        found.iter().any(|(found, line, pairs)| {
-            *found == refusal && line.starts_with("pair") && (*pairs == MOST_PAIRS) == past
-        })
-    };
-    for refusal in 3..=7 {
-        assert!(comes(refusal, false) && comes(refusal, true), "{refusal}");
+fn every_refusal_of_a_line_past_a_limit_comes_up() {
+    for (kind, most, past_it, earlier) in [
+        ("pair", MOST_PAIRS, 21, "rule"),
+        ("conflict", MOST_CONFLICTS, 22, "object"),
+    ] {
+        let found: Vec<_> = (0..4 * CASES)
+            .filter_map(|case| refused_at(&made(case).1, kind))
+            .collect();
+        let comes = |refusal, past| {
+            found.iter().any(|(found, line, count)| {
+                *found == refusal && line.starts_with(kind) && (*count == most) == past
+            })
+        };
+        for refusal in 3..=7 {
+            assert!(
+                comes(refusal, false) && comes(refusal, true),
+                "{kind} {refusal}"
+            );
+        }
+        assert!(comes(past_it, true) && !comes(past_it, false));
+        assert!(found
+            .iter()
+            .any(|(refusal, line, count)| *refusal == 3 && begins(line, earlier) && *count > 0));
     }
-    assert!(comes(21, true) && !comes(21, false));
-    // A rule behind pairs.
-    assert!(found.iter().any(|(refusal, line, pairs)| {
-        *refusal == 3 && line.starts_with("rule,") && *pairs > 0
-    }));
 }
 
 #[test]
-fn a_text_that_gets_no_pairs_is_as_it_is_without_them() {
-    let mut same = 0;
+fn a_text_that_gets_no_conflicts_or_pairs_is_as_it_is_without_them() {
+    let without_kind = |text: &str, kind| {
+        let lines = text.split_inclusive('\n');
+        lines.filter(|line| !begins(line, kind)).collect::<String>()
+    };
+    let mut same = [0, 0];
     for case in (0..200).step_by(2) {
         let with = String::from_utf8(made(case).1).expect("a text");
-        let without = text_without_pairs(&mut Rng::new(SEED, case), case);
-        let lines = with
-            .split_inclusive('\n')
-            .filter(|line| !line.starts_with("pair,"));
-        assert_eq!(lines.collect::<String>().as_bytes(), without, "{case}");
-        same += u32::from(with.as_bytes() == without);
+        let one = without_kind(&with, "conflict");
+        let none = without_kind(&one, "pair");
+        let rng = || Rng::new(SEED, case);
+        assert_eq!(
+            one.as_bytes(),
+            text_without_conflicts(&mut rng(), case),
+            "{case}"
+        );
+        assert_eq!(
+            none.as_bytes(),
+            text_without_pairs(&mut rng(), case),
+            "{case}"
+        );
+        same[0] += u32::from(with == one);
+        same[1] += u32::from(one == none);
     }
-    assert!(same > 10 && same < 50, "{same}");
+    assert!((30..70).contains(&same[0]), "{same:?}");
+    assert!((10..50).contains(&same[1]), "{same:?}");
 }
 
 #[test]
@@ -127,6 +154,7 @@ fn texts_at_every_limit_come_up() {
             && policy.rules.len() == 8
             && policy.rules.iter().all(|rule| rule.words.len() == 32)
             && policy.pairs.len() == MOST_PAIRS
+            && policy.conflicts.len() == MOST_CONFLICTS
     });
     assert!(full);
 }
@@ -144,7 +172,7 @@ fn a_label_for_every_set_comes_up() {
 fn every_answer_of_the_machine_comes_up() {
     let mut refusals = BTreeSet::new();
     let mut plain = [false; 3];
-    for (mut rng, policy) in accepted(CASES) {
+    for (mut rng, policy) in accepted(THOUSAND) {
         let calls = calls(&mut rng, &policy, 40, u32::MAX);
         for answer in run(&policy, &calls).0 {
             match answer {
@@ -155,7 +183,8 @@ fn every_answer_of_the_machine_comes_up() {
             }
         }
     }
-    assert!(refusals.iter().copied().eq(12..=19), "{refusals:?}");
+    let all = (12..=19).chain([23]);
+    assert!(refusals.iter().copied().eq(all), "{refusals:?}");
     assert_eq!(plain, [true; 3]);
 }
 
@@ -349,6 +378,128 @@ fn texts_with_pairs_of_every_number_come_up() {
     assert!(
         accepted(THOUSAND).any(|(_, policy)| policy.rules.is_empty() && !policy.pairs.is_empty())
     );
+}
+
+/// A policy with conflicts and a list of calls on it.
+fn with_conflicts() -> impl Iterator<Item = (Policy, Vec<Call>)> {
+    let found = accepted(THOUSAND).filter(|(_, policy)| !policy.conflicts.is_empty());
+    found.map(|(mut rng, policy)| {
+        let calls = calls(&mut rng, &policy, 40, u32::MAX);
+        (policy, calls)
+    })
+}
+
+/// The same policy with other conflicts.
+fn changed(policy: &Policy, conflicts: Vec<Conflict>) -> Policy {
+    Policy {
+        conflicts,
+        ..policy.clone()
+    }
+}
+
+/// Whether a set has more values of some conflict than that lets a session hold,
+/// by looking at each value.
+fn over(policy: &Policy, set: Set) -> bool {
+    policy.conflicts.iter().any(|conflict| {
+        let values = 0..policy.user_values();
+        let held = values.filter(|&v| holds(set, v) && holds(conflict.set, v));
+        held.count() > conflict.most as usize
+    })
+}
+
+#[test]
+fn an_open_session_keeps_to_every_conflict_and_only_open_and_add_get_23() {
+    let mut found = [0; 4];
+    for (policy, calls) in with_conflicts() {
+        let mut sessions = Sessions::new();
+        for call in &calls {
+            let (after, answer) = step(&policy, &sessions, call);
+            let asked = match *call {
+                Call::Open { set, .. } => Some((0, set)),
+                Call::Add { session, set, .. } => {
+                    Some((2, set | sessions.get(&session).map_or(0, |entry| entry.1)))
+                }
+                _ => None,
+            };
+            let refused = answer == Answer::Refused(23);
+            if let Some((place, held)) = asked.filter(|_| refused || answer == Answer::Done) {
+                assert_eq!(refused, over(&policy, held), "{call:?}");
+                found[place + usize::from(refused)] += 1;
+            }
+            assert!(asked.is_some() || !refused, "{call:?}");
+            assert!(after.values().all(|entry| !over(&policy, entry.1)));
+            sessions = after;
+        }
+    }
+    // Opened, refused, added, refused: each of them often.
+    assert!(found.iter().all(|&count| count > 40), "{found:?}");
+}
+
+#[test]
+fn without_conflicts_calls_are_answered_alike_up_to_the_first_23() {
+    let (mut refused, mut alike) = (0, 0);
+    for (policy, calls) in with_conflicts() {
+        let plain = changed(&policy, Vec::new());
+        let (answers, plain_answers) = (run(&policy, &calls).0, run(&plain, &calls).0);
+        assert!(!plain_answers.contains(&Answer::Refused(23)));
+        match answers.iter().position(|&a| a == Answer::Refused(23)) {
+            Some(first) => {
+                assert_eq!(answers[..first], plain_answers[..first]);
+                refused += 1;
+            }
+            None => {
+                assert_eq!(answers, plain_answers);
+                alike += 1;
+            }
+        }
+    }
+    assert!(refused > 50 && alike > 50, "{refused} {alike}");
+}
+
+/// A conflict of no values, or one that allows all of its values, says nothing.
+#[test]
+fn conflicts_that_forbid_nothing_refuse_nothing() {
+    for (policy, calls) in with_conflicts() {
+        let plain = run(&changed(&policy, Vec::new()), &calls);
+        let sets = policy.conflicts.iter().map(|conflict| conflict.set);
+        let all = sets.clone().map(|set| Conflict {
+            set,
+            most: MOST_TOGETHER,
+        });
+        let just = sets.map(|set| Conflict {
+            set,
+            most: set.count_ones(),
+        });
+        let none = vec![Conflict { set: 0, most: 0 }];
+        for conflicts in [all.collect(), just.collect(), none] {
+            assert_eq!(run(&changed(&policy, conflicts), &calls), plain);
+        }
+    }
+}
+
+#[test]
+fn conflicts_grant_and_deny_nothing() {
+    for (policy, _) in with_conflicts().take(100) {
+        let plain = changed(&policy, Vec::new());
+        assert_eq!(compile(&policy), compile(&plain));
+    }
+}
+
+#[test]
+fn conflicts_of_every_number_and_size_come_up() {
+    let all: Vec<Policy> = accepted(CASES).map(|(_, policy)| policy).collect();
+    let counts: BTreeSet<usize> = all.iter().map(|policy| policy.conflicts.len()).collect();
+    let some = [0, 1, 2, 3, 4, 8, MOST_CONFLICTS];
+    assert!(some.iter().all(|count| counts.contains(count)));
+    let conflicts: Vec<&Conflict> = all.iter().flat_map(|policy| &policy.conflicts).collect();
+    for most in 0..=MOST_TOGETHER {
+        let count = conflicts.iter().filter(|c| c.most == most).count();
+        assert!(count > if most < 3 { 200 } else { 20 }, "{most}: {count}");
+    }
+    for size in 0..=7 {
+        let count = conflicts.iter().filter(|c| c.set.count_ones() == size);
+        assert!(count.count() > 10, "{size}");
+    }
 }
 
 /// Holdings follow chains once and for all; this asks the chains each time.

@@ -1,5 +1,6 @@
 //! What the stored case files cover, and that they are the ones made here.
 
+use reference::wrong::MARK;
 use std::collections::BTreeSet;
 use std::path::Path;
 use std::sync::OnceLock;
@@ -8,6 +9,44 @@ use std::sync::OnceLock;
 fn files() -> &'static [Vec<u8>] {
     static FILES: OnceLock<Vec<Vec<u8>>> = OnceLock::new();
     FILES.get_or_init(reference::stored::files)
+}
+
+/// What `vectors` counts, by the tags of lines, in the order of its output.
+const COUNTED: [(&str, &str); 10] = [
+    ("texts refused alike", "R"),
+    ("texts accepted alike", "Y"),
+    ("checks of what was read alike", "V"),
+    ("writings alike", "W"),
+    ("label buffers and tables alike", "uog"),
+    ("listings alike", "T"),
+    ("decisions by policy alike", "F"),
+    ("decisions by tuples alike", "B"),
+    ("answers of Apart alike", "PD"),
+    ("lists of calls alike", "S"),
+];
+
+#[test]
+fn the_output_of_vectors_is_what_is_due() {
+    let path = Path::new(env!("CARGO_MANIFEST_DIR")).join("../crates/vectors/stdout");
+    let stored = std::fs::read_to_string(path).expect("a file");
+    let lines: Vec<String> = files()
+        .iter()
+        .flat_map(|file| reference::case_file::lines(file))
+        .collect();
+    let (wrong, right): (Vec<&String>, _) =
+        lines.iter().partition(|line| line[1..].starts_with(MARK));
+    let mut due = String::new();
+    for (name, tags) in COUNTED {
+        let count = right
+            .iter()
+            .filter(|line| line.starts_with(|c| tags.contains(c)));
+        due += &format!("{name}: {}\n", count.count());
+    }
+    let lists = right.iter().filter_map(|line| numbers(line, 'S'));
+    let calls: u32 = lists.map(|list| list[7]).sum();
+    due += &format!("calls in these lists: {calls}\n");
+    due += &format!("lines wrong on purpose found different: {}\n", wrong.len());
+    assert_eq!(stored, due);
 }
 
 /// All lines; texts stand among them.
@@ -62,18 +101,18 @@ fn the_stored_files_are_these() {
 fn a_buffer_of_64_kib_holds_each_file_and_all_are_small_together() {
     let files = files();
     assert!(files.iter().all(|file| file.len() <= 65_536));
-    assert!(files.iter().map(Vec::len).sum::<usize>() < 1_000_000);
+    assert!(files.iter().map(Vec::len).sum::<usize>() < 1_100_000);
 }
 
 #[test]
 fn every_refusal_comes_up() {
     let refused = answers("R");
     assert!(
-        refused.iter().copied().eq((1..=10).chain([21])),
+        refused.iter().copied().eq((1..=10).chain([21, 22])),
         "{refused:?}"
     );
     let calls = call_answers();
-    let all = [0, 1, 2].into_iter().chain(11..=20);
+    let all = [0, 1, 2].into_iter().chain(11..=20).chain([23]);
     assert!(calls.iter().copied().eq(all), "{calls:?}");
     assert_eq!(answers("V"), BTreeSet::from([0, 11]));
     for tag in ["u", "o", "g", "W"] {
@@ -96,13 +135,42 @@ fn the_limits_come_up() {
     assert!(lines.iter().any(words));
 }
 
+/// The first field of each line.
+fn kinds() -> Vec<String> {
+    let first = |line: &String| line.split(',').next().unwrap_or_default().to_string();
+    lines().iter().map(first).collect()
+}
+
+#[test]
+fn conflicts_come_up() {
+    let behind = kinds();
+    let most = [vec!["conflict"; 16], vec!["end", "", "Y"]].concat();
+    assert!(behind.windows(most.len()).any(|found| found == most));
+    let two = |kinds: [&str; 2]| behind.windows(2).filter(|found| *found == kinds).count();
+    for kind in ["oattr", "usen", "osen", "user", "object", "conflict"] {
+        assert!(two([kind, "conflict"]) > 0, "{kind}");
+    }
+    for kind in ["rule", "pair", "end"] {
+        assert!(two(["conflict", kind]) > 0, "{kind}");
+    }
+    let lists = lines();
+    let lists = lists.iter().filter_map(|line| numbers(line, 'S'));
+    let mut refused = [0; 5];
+    for list in lists {
+        let calls = list[7] as usize;
+        let kinds = list[8..].chunks(4).take(calls).map(|call| call[0]);
+        let answers = &list[8 + 4 * calls..8 + 5 * calls];
+        for (kind, answer) in kinds.zip(answers) {
+            refused[kind as usize] += u32::from(*answer == 23);
+        }
+    }
+    assert!(refused[0] > 40 && refused[1] > 20, "{refused:?}");
+    assert_eq!(refused[2..], [0; 3]);
+}
+
 #[test]
 fn pairs_come_up() {
-    let lines = lines();
-    let behind: Vec<&str> = lines
-        .iter()
-        .map(|line| line.split(',').next().unwrap_or_default())
-        .collect();
+    let behind = kinds();
     let most = [vec!["pair"; 64], vec!["end", "", "Y"]].concat();
     assert!(behind.windows(most.len()).any(|found| found == most));
     let alone = ["object", "pair", "end", "", "Y"];

@@ -1,6 +1,7 @@
 //! The lines that are wrong on purpose: each is wrong in one thing, and every
 //! kind of line has one for each thing that it compares.
 
+use reference::case_file::lines;
 use reference::wrong::{file, MARK};
 use std::collections::BTreeSet;
 
@@ -47,24 +48,6 @@ fn name(tag: char, right: &[u32], place: usize) -> &'static str {
         }
         _ => "not compared",
     }
-}
-
-/// The lines of a file that follow its texts.
-fn lines(file: &[u8]) -> Vec<String> {
-    let mut lines = Vec::new();
-    let mut rest = file;
-    while let Some(end) = rest.iter().position(|&byte| byte == b'\n') {
-        let line = String::from_utf8_lossy(&rest[..end]).into_owned();
-        rest = &rest[end + 1..];
-        match line
-            .strip_prefix("C,")
-            .and_then(|begun| begun.split_once(','))
-        {
-            Some((_, length)) => rest = &rest[length.parse::<usize>().expect("a length") + 1..],
-            None => lines.push(line),
-        }
-    }
-    lines
 }
 
 /// The tag of a line, whether it is wrong on purpose, and its numbers with an

@@ -3,13 +3,15 @@
 use std::collections::BTreeMap;
 use std::fmt::{self, Display};
 
-/// How often each answer was given, of reading and of each kind of call, and
-/// how often a kind of call gave what pairs alone grant.
+/// How often each answer was given, of reading and of each kind of call; how often
+/// a kind of call gave what pairs alone grant, and how often it got 11 for a
+/// conflict alone.
 #[derive(Debug, Default, Clone, PartialEq, Eq)]
 pub struct Coverage {
     texts: BTreeMap<u32, u64>,
     calls: BTreeMap<&'static str, BTreeMap<u32, u64>>,
     by_pairs: BTreeMap<&'static str, u64>,
+    by_conflicts: BTreeMap<&'static str, u64>,
 }
 
 impl Coverage {
@@ -25,6 +27,11 @@ impl Coverage {
     /// Counts a call that would answer otherwise without the policy's pairs.
     pub(super) fn count_by_pairs(&mut self, kind: &'static str) {
         *self.by_pairs.entry(kind).or_default() += 1;
+    }
+
+    /// Counts a call on a board that check 11 would not refuse without the policy's conflicts.
+    pub(super) fn count_by_conflicts(&mut self, kind: &'static str) {
+        *self.by_conflicts.entry(kind).or_default() += 1;
     }
 
     /// How many calls there were, readings not among them.
@@ -52,32 +59,39 @@ impl Coverage {
     pub fn by_pairs(&self) -> Vec<&'static str> {
         self.by_pairs.keys().copied().collect()
     }
+
+    /// The kinds of calls that got 11 for a conflict alone.
+    pub fn by_conflicts(&self) -> Vec<&'static str> {
+        self.by_conflicts.keys().copied().collect()
+    }
 }
 
 impl Display for Coverage {
     fn fmt(&self, f: &mut fmt::Formatter<'_>) -> fmt::Result {
         writeln!(f, "{} texts, by refusal (0 accepted)", self.texts())?;
         write_counts(f, "read", &self.texts)?;
-        writeln!(f, "{} calls, by answer (11 to 20 refused)", self.calls())?;
+        writeln!(
+            f,
+            "{} calls, by answer (11 and above refused)",
+            self.calls()
+        )?;
         for (kind, answers) in &self.calls {
             write_counts(f, kind, answers)?;
         }
-        write!(f, "by pairs alone     ")?;
-        for (kind, count) in &self.by_pairs {
-            write!(f, "  {kind}: {count}")?;
-        }
-        writeln!(f)
+        writeln!(f, "by one kind of line alone")?;
+        write_counts(f, "granted by pairs", &self.by_pairs)?;
+        write_counts(f, "11 by conflicts", &self.by_conflicts)
     }
 }
 
-fn write_counts(
+fn write_counts<T: Display>(
     f: &mut fmt::Formatter<'_>,
     kind: &str,
-    counts: &BTreeMap<u32, u64>,
+    counts: &BTreeMap<T, u64>,
 ) -> fmt::Result {
     write!(f, "  {kind:17}")?;
-    for (answer, count) in counts {
-        write!(f, "  {answer}: {count}")?;
+    for (of, count) in counts {
+        write!(f, "  {of}: {count}")?;
     }
     writeln!(f)
 }

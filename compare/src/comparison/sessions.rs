@@ -144,27 +144,13 @@ impl Trial<'_> {
         let found = by_engine(self.engine, &board, known, &buffers.labels(), &call);
         self.coverage.count_call(kind(&call), found.answer);
         let what = || format!("{call:?} on {:?}: {}", sessions(&board), known.shown());
-        if known.policy.is_none() || !fits(policy, &board) {
+        let map = sessions(&board);
+        if !self.sound(known, &map, &call) {
             let due = PackedStep { answer: 11, board };
             return same(&what, &found, &due);
         }
-        let map = sessions(&board);
         let (after, answer) = step(policy, &map, &call);
-        let due = match (call, answer) {
-            (_, Answer::Refused(refusal)) => refusal,
-            (
-                Call::Request {
-                    session,
-                    action,
-                    object,
-                },
-                _,
-            ) => {
-                let object_set = policy.object_set(object).expect("a registered object");
-                looked_up(&buffers, map[&session].1, object_set, action)
-            }
-            _ => DONE,
-        };
+        let due = by_buffers(policy, &map, &buffers, &call, answer);
         same(&what, &found.answer, &due)?;
         same(&what, &sessions(&found.board), &after)?;
         same(
@@ -172,6 +158,22 @@ impl Trial<'_> {
             &found.board,
             &board_after(&board, &call, found.answer, &after),
         )
+    }
+
+    /// Check 11, on a value and on the sessions of a board that a call is handed.
+    fn sound(&mut self, known: &Known, map: &Sessions, call: &Call) -> bool {
+        let Some(policy) = &known.policy else {
+            return false;
+        };
+        let in_reach = map.values().all(|&(user, held)| {
+            let assigned = policy.assigned(user);
+            assigned.is_some_and(|assigned| held & !reach(policy, assigned) == 0)
+        });
+        let may_be_held = map.values().all(|&(_, held)| policy.may_hold(held));
+        if in_reach && !may_be_held {
+            self.coverage.count_by_conflicts(kind(call));
+        }
+        in_reach && may_be_held
     }
 
     /// Compiled buffers, mostly with something wrong about them.
@@ -271,6 +273,27 @@ fn overwrite(rng: &mut Rng, buffers: &mut Buffers) {
     *any_of(rng, buffers) = filled;
 }
 
+/// The machine's answer, but a request that is not refused goes by the buffers that it is lent.
+fn by_buffers(
+    policy: &Policy,
+    map: &Sessions,
+    buffers: &Buffers,
+    call: &Call,
+    answer: Answer,
+) -> u32 {
+    match *call {
+        Call::Request {
+            session,
+            action,
+            object,
+        } if !matches!(answer, Answer::Refused(_)) => {
+            let object_set = policy.object_set(object).expect("a registered object");
+            looked_up(buffers, map[&session].1, object_set, action)
+        }
+        _ => number(answer),
+    }
+}
+
 /// Document 01's sentence on request: one byte of each buffer, 20 where any of the three places is past its end.
 fn looked_up(buffers: &Buffers, held: u32, object: u32, action: u32) -> u32 {
     let byte = |buffer: &[u8], place: u64| buffer.get(place as usize).map(|&b| u64::from(b));
@@ -284,14 +307,6 @@ fn looked_up(buffers: &Buffers, held: u32, object: u32, action: u32) -> u32 {
         None => 20,
         Some(entry) => (entry >> action & 1) as u32,
     }
-}
-
-/// Whether every session's user is registered and its set in the user's reach.
-fn fits(policy: &Policy, board: &Board) -> bool {
-    sessions(board).values().all(|&(user, held)| {
-        let assigned = policy.assigned(user);
-        assigned.is_some_and(|assigned| held & !reach(policy, assigned) == 0)
-    })
 }
 
 /// The board due: a refusal or a request leaves it as handed in, another call all but its session's entry.

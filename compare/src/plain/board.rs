@@ -17,10 +17,21 @@ fn reach(policy: &Policy, user: u32) -> Option<u32> {
     set_of(&policy.users, user).map(|assigned| with_juniors(&policy.user, assigned))
 }
 
+/// Whether a session that holds the set keeps to every conflict. All are looked at, so
+/// that the compiler can count for several at once.
+fn within_conflicts(policy: &Policy, held: u32) -> bool {
+    let conflicts = policy.conflicts().iter();
+    conflicts.fold(true, |within, conflict| {
+        within & ((held & conflict.set).count_ones() <= conflict.most)
+    })
+}
+
 /// Check 11 on policy and board.
 fn fits(policy: &Policy, board: &Board) -> Result<(), Refusal> {
     let entry_fits = |entry: &Session| {
-        !entry.is_open() || reach(policy, entry.user).is_some_and(|reach| entry.held & !reach == 0)
+        !entry.is_open()
+            || reach(policy, entry.user).is_some_and(|reach| entry.held & !reach == 0)
+                && within_conflicts(policy, entry.held)
     };
     if valid(policy) && board.sessions.iter().all(entry_fits) {
         Ok(())
@@ -45,6 +56,9 @@ pub fn open(
     if set & !reach != 0 {
         return Err(Refusal::SetOutOfReach);
     }
+    if !within_conflicts(policy, set) {
+        return Err(Refusal::TooManyHeld);
+    }
     *entry = Session::open(user, set);
     Ok(())
 }
@@ -56,7 +70,12 @@ pub fn add(
     session: u32,
     set: u32,
 ) -> Result<(), Refusal> {
-    changed(board, policy, user, session, set)?.held |= set;
+    let entry = changed(board, policy, user, session, set)?;
+    let held = entry.held | set;
+    if !within_conflicts(policy, held) {
+        return Err(Refusal::TooManyHeld);
+    }
+    *entry = Session::open(user, held);
     Ok(())
 }
 
@@ -67,7 +86,8 @@ pub fn drop(
     session: u32,
     set: u32,
 ) -> Result<(), Refusal> {
-    changed(board, policy, user, session, set)?.held &= !set;
+    let entry = changed(board, policy, user, session, set)?;
+    *entry = Session::open(user, entry.held & !set);
     Ok(())
 }
 
@@ -82,7 +102,7 @@ pub fn close(board: &mut Board, policy: &Policy, user: u32, session: u32) -> Res
     Ok(())
 }
 
-/// The entry that add and drop change, after their checks; `live` is what the calls store.
+/// The entry that add and drop change, after the checks that both have.
 fn changed<'a>(
     board: &'a mut Board,
     policy: &Policy,
@@ -97,7 +117,6 @@ fn changed<'a>(
     if set & !reach != 0 {
         return Err(Refusal::SetOutOfReach);
     }
-    *entry = Session::open(user, entry.held);
     Ok(entry)
 }
 

@@ -1,7 +1,9 @@
 //! Checks 6 to 9 on what a line says, and check 11 on a policy value.
 
-use super::policy::{Policy, Refusal, Rule, Rules, Word, ACTIONS, OBJECTS, USERS, VALUES};
-use crate::boundary::{Direct, Entry, Pair, Pairs, Register, SideValue};
+use super::policy::{
+    Policy, Refusal, Rule, Rules, Word, ACTIONS, OBJECTS, TOGETHER, USERS, VALUES,
+};
+use crate::boundary::{Conflict, Conflicts, Direct, Entry, Pair, Pairs, Register, SideValue};
 
 /// The sums and counts of one side that checks look at.
 #[derive(Clone, Copy)]
@@ -102,6 +104,11 @@ pub fn rule_fits(
     Ok(())
 }
 
+/// A user set that there is, and a number that a conflict may have.
+pub fn conflict_fits(user: Shape, conflict: Conflict) -> bool {
+    conflict.set < user.sets() && conflict.most <= TOGETHER
+}
+
 /// An action, a user value and an object value that there are.
 pub fn pair_fits(user: Shape, object: Shape, pair: Pair) -> bool {
     pair.action < ACTIONS && pair.user < user.values && pair.object < object.values
@@ -115,15 +122,13 @@ pub fn valid(policy: &Policy) -> bool {
     let (user, object) = (Shape::of(&policy.user), Shape::of(&policy.object));
     register_valid(&policy.users, USERS, user.sets())
         && register_valid(&policy.objects, OBJECTS, object.sets())
+        && conflicts_valid(&policy.conflicts, user)
         && rules_valid(&policy.rules, user, object)
         && pairs_valid(&policy.pairs, user, object)
 }
 
 fn side_valid(side: &SideValue) -> bool {
-    let (Some((widths, no_widths)), Some((lines, no_lines))) = (
-        side.widths.split_at_checked(side.attributes),
-        side.seniority.split_at_checked(side.lines),
-    ) else {
+    let Some((widths, rest)) = side.widths.split_at_checked(side.attributes) else {
         return false;
     };
     let mut sum = 0;
@@ -134,10 +139,25 @@ fn side_valid(side: &SideValue) -> bool {
         sum += width;
     }
     !widths.is_empty()
-        && no_widths.iter().all(|&width| width == 0)
-        && lines.iter().all(|&line| line_fits(widths, line))
-        && lines.windows(2).all(|two| above(two[0], two[1]))
-        && no_lines.iter().all(|&line| line == Direct::default())
+        && rest.iter().all(|&width| width == 0)
+        && list_valid(&side.seniority, side.lines, above, |line| {
+            line_fits(widths, line)
+        })
+}
+
+/// Whether entries fit and each rises above the one before, with nothing behind them.
+fn list_valid<T: Copy + Default + PartialEq>(
+    places: &[T],
+    count: usize,
+    rises: impl Fn(T, T) -> bool,
+    fits: impl Fn(T) -> bool,
+) -> bool {
+    let Some((entries, rest)) = places.split_at_checked(count) else {
+        return false;
+    };
+    entries.iter().all(|&entry| fits(entry))
+        && entries.windows(2).all(|two| rises(two[0], two[1]))
+        && rest.iter().all(|&entry| entry == T::default())
 }
 
 /// Whether a line of seniority rises above the one before it.
@@ -145,15 +165,25 @@ pub fn above(before: Direct, line: Direct) -> bool {
     (before.senior, before.junior) < (line.senior, line.junior)
 }
 
+fn numbers_rise(before: Entry, entry: Entry) -> bool {
+    before.number < entry.number
+}
+
 fn register_valid(register: &Register, numbers: u32, sets: u32) -> bool {
-    let Some((entries, rest)) = register.entries.split_at_checked(register.count) else {
-        return false;
-    };
-    entries
-        .iter()
-        .all(|entry| entry.number < numbers && entry.set < sets)
-        && entries.windows(2).all(|two| two[0].number < two[1].number)
-        && rest.iter().all(|&entry| entry == Entry::default())
+    list_valid(&register.entries, register.count, numbers_rise, |entry| {
+        entry.number < numbers && entry.set < sets
+    })
+}
+
+/// Whether a conflict rises above the one before it.
+pub fn sets_rise(before: Conflict, conflict: Conflict) -> bool {
+    before.set < conflict.set
+}
+
+fn conflicts_valid(conflicts: &Conflicts, user: Shape) -> bool {
+    list_valid(&conflicts.entries, conflicts.count, sets_rise, |conflict| {
+        conflict_fits(user, conflict)
+    })
 }
 
 fn rules_valid(rules: &Rules, user: Shape, object: Shape) -> bool {
@@ -170,13 +200,15 @@ fn rules_valid(rules: &Rules, user: Shape, object: Shape) -> bool {
     rest.iter().all(|&rule| rule == Rule::default())
 }
 
+/// Whether a pair rises above the one before it.
+pub fn pairs_rise(before: Pair, pair: Pair) -> bool {
+    before < pair
+}
+
 fn pairs_valid(pairs: &Pairs, user: Shape, object: Shape) -> bool {
-    let Some((entries, rest)) = pairs.entries.split_at_checked(pairs.count) else {
-        return false;
-    };
-    entries.iter().all(|&pair| pair_fits(user, object, pair))
-        && entries.windows(2).all(|two| two[0] < two[1])
-        && rest.iter().all(|&pair| pair == Pair::default())
+    list_valid(&pairs.entries, pairs.count, pairs_rise, |pair| {
+        pair_fits(user, object, pair)
+    })
 }
 
 /// One to 32 words, and the blank word behind them.

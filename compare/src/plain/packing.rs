@@ -16,6 +16,7 @@ pub fn unpacked(packed: &PackedPolicy) -> Policy {
         object: packed.object,
         users: packed.users,
         objects: packed.objects,
+        conflicts: packed.conflicts,
         pairs: packed.pairs,
         ..Policy::default()
     };
@@ -60,6 +61,7 @@ fn packed(policy: &Policy) -> PackedPolicy {
         object: policy.object,
         users: policy.users,
         objects: policy.objects,
+        conflicts: policy.conflicts,
         pairs: policy.pairs,
         ..PackedPolicy::default()
     };

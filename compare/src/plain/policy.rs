@@ -1,6 +1,8 @@
 //! The policy value with its words as an enum, and the refusals.
 
-use crate::boundary::{self, Pair, Pairs, Register, SideValue, RULE_PLACES, WORD_PLACES};
+use crate::boundary::{
+    self, Conflict, Conflicts, Pair, Pairs, Register, SideValue, RULE_PLACES, WORD_PLACES,
+};
 
 /// The most bytes of a text.
 pub const TEXT_BYTES: usize = boundary::TEXT_BYTES;
@@ -11,6 +13,8 @@ pub const SETS: usize = 1 << VALUES;
 pub const ACTIONS: u32 = boundary::MOST_ACTIONS as u32;
 pub const USERS: u32 = 32;
 pub const OBJECTS: u32 = boundary::OBJECT_NUMBERS as u32;
+/// The most values that a conflict lets a session hold.
+pub const TOGETHER: u32 = boundary::MOST_TOGETHER as u32;
 
 #[derive(Debug, Clone, Copy, Default, PartialEq, Eq)]
 pub enum Word {
@@ -46,11 +50,17 @@ pub struct Policy {
     pub object: SideValue,
     pub users: Register,
     pub objects: Register,
+    pub conflicts: Conflicts,
     pub rules: Rules,
     pub pairs: Pairs,
 }
 
 impl Policy {
+    /// The conflicts in use; only of a policy that check 11 accepts.
+    pub fn conflicts(&self) -> &[Conflict] {
+        &self.conflicts.entries[..self.conflicts.count]
+    }
+
     /// The rules in use; only of a policy that check 11 accepts.
     pub fn rules(&self) -> &[Rule] {
         &self.rules.entries[..self.rules.count]
@@ -91,4 +101,6 @@ pub enum Refusal {
     SetOutOfReach,
     BufferTooShort,
     TooManyPairs,
+    TooManyConflicts,
+    TooManyHeld,
 }

@@ -1,8 +1,12 @@
 //! Reading a policy text.
 
-use super::checks::{above, line_fits, pair_fits, rule_fits, width_fits, Shape};
+use super::checks::{
+    above, conflict_fits, line_fits, pair_fits, pairs_rise, rule_fits, sets_rise, width_fits, Shape,
+};
 use super::policy::{Policy, Refusal, Rule, Word, OBJECTS, TEXT_BYTES, USERS};
-use crate::boundary::{Direct, Entry, Pair, Register, SideValue, WORD_PLACES};
+use crate::boundary::{
+    Conflict, Conflicts, Direct, Entry, Pair, Pairs, Register, SideValue, WORD_PLACES,
+};
 
 /// The reader's refusal and its line.
 #[derive(Debug, Clone, Copy, PartialEq, Eq)]
@@ -20,6 +24,7 @@ enum Kind {
     Osen,
     User,
     Object,
+    Conflict,
     Rule,
     Pair,
     End,
@@ -84,6 +89,7 @@ fn read_line(policy: &mut Policy, before: Option<Kind>, rest: &mut &[u8]) -> Res
             let sets = Shape::of(&policy.object).sets();
             add_entry(&mut policy.objects, OBJECTS, sets, numbers(fields)?)?;
         }
+        Kind::Conflict => add_conflict(policy, numbers(fields)?)?,
         Kind::Rule => add_rule(policy, fields)?,
         Kind::Pair => add_pair(policy, numbers(fields)?)?,
         Kind::End => {
@@ -102,6 +108,7 @@ fn kind_of(field: &[u8]) -> Option<Kind> {
         b"osen" => Some(Kind::Osen),
         b"user" => Some(Kind::User),
         b"object" => Some(Kind::Object),
+        b"conflict" => Some(Kind::Conflict),
         b"rule" => Some(Kind::Rule),
         b"pair" => Some(Kind::Pair),
         b"end" => Some(Kind::End),
@@ -206,6 +213,37 @@ fn add_entry(
     Ok(())
 }
 
+fn add_conflict(policy: &mut Policy, [set, most]: [u32; 2]) -> Result<(), Refusal> {
+    let conflict = Conflict { set, most };
+    if !conflict_fits(Shape::of(&policy.user), conflict) {
+        return Err(Refusal::OutOfRange);
+    }
+    let Conflicts { count, entries } = &mut policy.conflicts;
+    append(
+        entries,
+        count,
+        conflict,
+        sets_rise,
+        Refusal::TooManyConflicts,
+    )
+}
+
+/// Adds an entry to a list if it rises and there is room.
+fn append<T: Copy>(
+    places: &mut [T],
+    count: &mut usize,
+    entry: T,
+    rises: impl Fn(T, T) -> bool,
+    too_many: Refusal,
+) -> Result<(), Refusal> {
+    if *count > 0 && !rises(places[*count - 1], entry) {
+        return Err(Refusal::NotRising);
+    }
+    *places.get_mut(*count).ok_or(too_many)? = entry;
+    *count += 1;
+    Ok(())
+}
+
 fn add_rule<'a>(
     policy: &mut Policy,
     mut fields: impl Iterator<Item = &'a [u8]> + Clone,
@@ -240,11 +278,6 @@ fn add_pair(policy: &mut Policy, [action, user, object]: [u32; 3]) -> Result<(),
     if !pair_fits(Shape::of(&policy.user), Shape::of(&policy.object), pair) {
         return Err(Refusal::OutOfRange);
     }
-    if policy.pairs().last().is_some_and(|&before| pair <= before) {
-        return Err(Refusal::NotRising);
-    }
-    let place = policy.pairs.entries.get_mut(policy.pairs.count);
-    *place.ok_or(Refusal::TooManyPairs)? = pair;
-    policy.pairs.count += 1;
-    Ok(())
+    let Pairs { count, entries } = &mut policy.pairs;
+    append(entries, count, pair, pairs_rise, Refusal::TooManyPairs)
 }

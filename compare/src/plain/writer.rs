@@ -26,6 +26,9 @@ fn text_of(policy: &Policy) -> Vec<u8> {
     seniority(&mut text, b"osen", &policy.object);
     register(&mut text, b"user", &policy.users);
     register(&mut text, b"object", &policy.objects);
+    for conflict in policy.conflicts() {
+        line(&mut text, b"conflict", &[conflict.set, conflict.most]);
+    }
     for rule in policy.rules() {
         rule_line(&mut text, rule);
     }

@@ -26,13 +26,8 @@ const ODD: [u32; 14] = [
 /// A list of calls by few users on few sessions, so that they meet. No number
 /// is above `largest`.
 pub fn calls(rng: &mut Rng, policy: &Policy, count: u32, largest: u32) -> Vec<Call> {
-    let users: Vec<u32> = policy.users.iter().map(|user| user.0).collect();
     let objects: Vec<u32> = policy.objects.iter().map(|object| object.0).collect();
-    let mut people = vec![rng.below(32)];
-    if !users.is_empty() {
-        people = vec![rng.pick(&users), rng.pick(&users)];
-    }
-    let sessions = [rng.below(32), rng.below(32), rng.pick(&[0, 31])];
+    let (people, sessions) = few(rng, policy);
     (0..count)
         .map(|call| {
             let user = number(rng, &people, 33, largest);
@@ -56,6 +51,24 @@ pub fn calls(rng: &mut Rng, policy: &Policy, count: u32, largest: u32) -> Vec<Ca
             }
         })
         .collect()
+}
+
+/// A few users and sessions. Where there is a user who could hold too many values
+/// of a conflict, such a one and one session are the most frequent.
+fn few(rng: &mut Rng, policy: &Policy) -> (Vec<u32>, Vec<u32>) {
+    let users: Vec<u32> = policy.users.iter().map(|user| user.0).collect();
+    let mut people = vec![rng.below(32)];
+    if !users.is_empty() {
+        people = vec![rng.pick(&users), rng.pick(&users)];
+    }
+    let mut sessions = vec![rng.below(32), rng.below(32), rng.pick(&[0, 31])];
+    let mut over = policy.users.clone();
+    over.retain(|&(_, assigned)| !policy.may_hold(reach(policy, assigned)));
+    if !over.is_empty() {
+        people.extend([rng.pick(&over).0; 3]);
+        sessions.extend([sessions[0]; 3]);
+    }
+    (people, sessions)
 }
 
 /// Mostly a good number, else one below `limit` or an odd one.

@@ -161,7 +161,8 @@ fn beyond_pairs(kind: &str, widths: &[u32]) -> Vec<String> {
 
 /// Puts a line after the last of its kind, or in place of one.
 pub fn place(rng: &mut Rng, draft: &mut Draft, line: String) {
-    let rank = rank(&line);
+    let word = line.split(',').next().unwrap_or_default();
+    let rank = rank(word);
     let same: Vec<usize> = (0..draft.lines.len())
         .filter(|&i| self::rank(&draft.lines[i]) == rank)
         .collect();
@@ -170,16 +171,21 @@ pub fn place(rng: &mut Rng, draft: &mut Draft, line: String) {
         draft.lines[instead] = line;
         return;
     }
-    let after = draft
-        .lines
-        .iter()
-        .rposition(|earlier| self::rank(earlier) <= rank);
-    draft.lines.insert(after.map_or(0, |after| after + 1), line);
+    draft.lines.insert(behind(draft, word), line);
+}
+
+/// The place behind all lines of a kind and of those before it.
+pub fn behind(draft: &Draft, kind: &str) -> usize {
+    let rank = rank(kind);
+    let mut lines = draft.lines.iter();
+    let last = lines.rposition(|earlier| self::rank(earlier) <= rank);
+    last.map_or(0, |last| last + 1)
 }
 
 fn rank(line: &str) -> Option<usize> {
     let order = [
-        "policy", "uattr", "oattr", "usen", "osen", "user", "object", "rule", "pair", "end",
+        "policy", "uattr", "oattr", "usen", "osen", "user", "object", "conflict", "rule", "pair",
+        "end",
     ];
     let first = line.split(',').next();
     order.iter().position(|&word| Some(word) == first)

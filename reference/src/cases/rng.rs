@@ -13,9 +13,10 @@ impl Rng {
         Rng((mixed ^ (mixed >> 31)).max(1))
     }
 
-    /// A stream that begins by where this one is, and does not move it.
-    pub fn branch(&self) -> Self {
-        Rng::new(self.0, 0)
+    /// A stream by its number that begins by where this one is, and does not move
+    /// it.
+    pub fn branch(&self, stream: u64) -> Self {
+        Rng::new(self.0, stream)
     }
 
     fn next(&mut self) -> u64 {

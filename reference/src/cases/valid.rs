@@ -27,6 +27,11 @@ pub const THREES: Size = Size {
     full: true,
     ..SMALL
 };
+/// Five values on each side, so that there are more user sets than conflicts.
+pub const FIVES: Size = Size {
+    values: 5,
+    ..THREES
+};
 pub const MIDDLE: Size = Size {
     values: 7,
     users: 32,
@@ -73,6 +78,18 @@ impl Draft {
             .collect()
     }
 
+    pub fn user_values(&self) -> u32 {
+        self.user_widths.iter().sum()
+    }
+
+    pub fn object_values(&self) -> u32 {
+        self.object_widths.iter().sum()
+    }
+
+    pub fn user_sets(&self) -> u32 {
+        1 << self.user_values()
+    }
+
     /// The places of the lines of a kind.
     pub fn places(&self, kind: &str) -> Vec<usize> {
         let of_kind = |line: &str| line.split(',').next() == Some(kind);
@@ -82,7 +99,7 @@ impl Draft {
     }
 }
 
-/// A valid text, without pairs.
+/// A valid text, without conflicts and pairs.
 pub fn valid(rng: &mut Rng, size: Size) -> Draft {
     let user_widths = widths(rng, size);
     let mut object_widths = widths(rng, size);

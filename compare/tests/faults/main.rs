@@ -1,12 +1,28 @@
 //! The comparison finds an engine that is wrong in one thing.
 
+mod held;
+mod seen;
+
+use held::Move;
 use helvemoik_compare::boundary::*;
 use helvemoik_compare::comparison::{compare, Plan};
 use helvemoik_compare::engine::{Engine, Labels};
 use helvemoik_compare::plain::Plain;
+use seen::{all_of, without_conflicts, without_pairs};
 
-#[derive(Debug, Clone, Copy, PartialEq, Eq)]
-enum Fault {
+/// The faults, and a list of them all.
+macro_rules! faults {
+    ($($fault:ident,)*) => {
+        #[derive(Debug, Clone, Copy, PartialEq, Eq)]
+        enum Fault {
+            $($fault,)*
+        }
+
+        const FAULTS: &[Fault] = &[$(Fault::$fault,)*];
+    };
+}
+
+faults! {
     LineOffByOne,
     PolicyBesideARefusal,
     WritesPastTheText,
@@ -47,161 +63,62 @@ enum Fault {
     ListsThePairsOfAll,
     CompilesWithoutPairs,
     TellsApartWithoutPairs,
+    Tests22Before7,
+    MissesALeftoverConflict,
+    MissesAHugeConflictCount,
+    TakesConflictsInAnyOrder,
+    TakesASetTwice,
+    TakesAnySetInAConflict,
+    TakesAnyMost,
+    WritesNoConflicts,
+    OpensOverAConflict,
+    AddsOverAConflict,
+    RefusesTheMostAllowed,
+    AllowsOneMore,
+    MissesAMostOfNone,
+    ForbidsAllByNoValues,
+    HeedsTheFirstConflict,
+    HeedsTheLastConflict,
+    CountsJuniors,
+    CountsOnlyWhatIsAdded,
+    CountsWhatIsAddedTwice,
+    CountsAllSessionsOfAUser,
+    CountsWhatIsAssigned,
+    Tests23Before19,
+    Tests23Before16,
+    DropTests23,
+    KeepsWhat23Refuses,
+    OpenTakesABoardOver,
+    AddTakesABoardOver,
+    DropTakesABoardOver,
+    CloseTakesABoardOver,
+    RequestTakesABoardOver,
+    TakesABoardOverByOne,
+    JudgesClosedEntries,
+    JudgesBoardsWithJuniors,
 }
 
 use Fault::*;
 
-const FAULTS: [Fault; 40] = [
-    LineOffByOne,
-    PolicyBesideARefusal,
-    WritesPastTheText,
-    WritesThoughTooShort,
-    MissesALeftover,
-    MissesAHugeCount,
-    TakesAnyForm,
-    DecidesAnySet,
-    ListsThoughTooShort,
-    TakesAnyCount,
-    LabelPerSet,
-    LeavesTheTable,
-    SaysAlike,
-    FalseWitness,
-    FreshHoldsASession,
-    OpensForAll,
-    AddForgets,
-    DropDropsAll,
-    CloseKeeps,
-    RefusalChangesTheBoard,
-    RequestHeedsNu,
-    RequestSkipsCheck20,
-    MissesABadBoard,
-    OnlyOneIsOpen,
-    RequestTidiesTheBoard,
-    AddKeepsTheNumber,
-    Tests21Before7,
-    MissesALeftoverPair,
-    MissesAHugePairCount,
-    TakesPairsInAnyOrder,
-    TakesAPairTwice,
-    TakesAnyPairAction,
-    TakesAnyUserValueInAPair,
-    TakesAnyObjectValueInAPair,
-    WritesNoPairs,
-    DecidesWithoutPairs,
-    ListsWithoutPairs,
-    ListsThePairsOfAll,
-    CompilesWithoutPairs,
-    TellsApartWithoutPairs,
-];
-
 /// Plain Rust with one fault.
 struct Faulty(Fault);
 
-impl Faulty {
-    /// The policy value as an engine with this fault sees it.
-    fn seen(&self, policy: &PackedPolicy) -> PackedPolicy {
-        let mut seen = *policy;
-        match self.0 {
-            MissesALeftover => {
-                let used = seen.objects.count.min(ENTRY_PLACES);
-                seen.objects.entries[used..].fill(Entry::default());
-            }
-            MissesAHugeCount => seen.user.lines %= 1 << 32,
-            TakesAnyForm => seen.form = 1,
-            _ => self.see_pairs(&mut seen),
-        }
-        seen
-    }
-
-    /// The same for faults in what pairs there are.
-    fn see_pairs(&self, seen: &mut PackedPolicy) {
-        let used = seen.pairs.count.min(PAIR_PLACES);
-        let (pairs, rest) = seen.pairs.entries.split_at_mut(used);
-        let (users, objects) = (values(&seen.user), values(&seen.object));
-        match self.0 {
-            MissesALeftoverPair => rest.fill(Pair::default()),
-            MissesAHugePairCount => seen.pairs.count %= 1 << 32,
-            TakesPairsInAnyOrder => pairs.sort(),
-            TakesAPairTwice => {
-                let mut kept = pairs.to_vec();
-                kept.dedup();
-                seen.pairs = pairs_of(&kept);
-            }
-            TakesAnyPairAction => each(pairs, |pair| pair.action = pair.action.min(7)),
-            TakesAnyUserValueInAPair => each(pairs, |pair| pair.user = pair.user.min(users - 1)),
-            TakesAnyObjectValueInAPair => {
-                each(pairs, |pair| pair.object = pair.object.min(objects - 1));
-            }
-            _ => {}
-        }
-    }
-}
-
-fn each(pairs: &mut [Pair], change: impl FnMut(&mut Pair)) {
-    pairs.iter_mut().for_each(change);
-}
-
-/// How many values a side has, and at least one.
-fn values(side: &SideValue) -> u32 {
-    let sum = side
-        .widths
-        .iter()
-        .fold(0, |sum: u32, &width| sum.wrapping_add(width));
-    sum.max(1)
-}
-
-fn pairs_of(pairs: &[Pair]) -> Pairs {
-    let mut value = Pairs {
-        count: pairs.len(),
-        ..Pairs::default()
-    };
-    value.entries[..pairs.len()].copy_from_slice(pairs);
-    value
-}
-
-/// A valid policy with none of its pairs; another as it is.
-fn without_pairs(policy: &PackedPolicy) -> PackedPolicy {
-    match Plain.valid(policy) {
-        true => PackedPolicy {
-            pairs: Pairs::default(),
-            ..*policy
-        },
-        false => *policy,
-    }
-}
-
-/// A valid policy whose pairs are all of one action; another as it is.
-fn all_of(policy: &PackedPolicy, action: u32) -> PackedPolicy {
-    if action >= MOST_ACTIONS as u32 || !Plain.valid(policy) {
-        return *policy;
-    }
-    let mut pairs = policy.pairs.entries[..policy.pairs.count].to_vec();
-    each(&mut pairs, |pair| pair.action = action);
-    pairs.sort();
-    pairs.dedup();
-    PackedPolicy {
-        pairs: pairs_of(&pairs),
-        ..*policy
-    }
-}
-
-/// How many pair lines stand before a line.
-fn pairs_before(text: &[u8], line: usize) -> usize {
+/// How many lines of a kind stand before a line.
+fn lines_before(text: &[u8], kind: &[u8], line: usize) -> usize {
     let lines = text.split(|&byte| byte == b'\n').take(line);
-    lines.filter(|line| line.starts_with(b"pair,")).count()
+    lines.filter(|line| line.starts_with(kind)).count()
 }
 
 impl Engine for Faulty {
     fn read(&self, text: &[u8]) -> PackedReading {
         let mut reading = Plain.read(text);
+        let full =
+            |kind, most| reading.refusal == 7 && lines_before(text, kind, reading.line) == most;
         match self.0 {
             LineOffByOne if reading.refusal == 8 => reading.line += 1,
             PolicyBesideARefusal if reading.refusal == 10 => reading.policy.form = 1,
-            Tests21Before7
-                if reading.refusal == 7 && pairs_before(text, reading.line) == MOST_PAIRS =>
-            {
-                reading.refusal = 21;
-            }
+            Tests21Before7 if full(b"pair,", MOST_PAIRS) => reading.refusal = 21,
+            Tests22Before7 if full(b"conflict,", MOST_CONFLICTS) => reading.refusal = 22,
             _ => {}
         }
         reading
@@ -210,6 +127,7 @@ impl Engine for Faulty {
     fn write(&self, policy: &PackedPolicy, buffer: &mut [u8]) -> Counted {
         let seen = match self.0 {
             WritesNoPairs => without_pairs(policy),
+            WritesNoConflicts => without_conflicts(policy),
             _ => self.seen(policy),
         };
         let written = Plain.write(&seen, buffer);
@@ -321,7 +239,7 @@ impl Engine for Faulty {
         session: u32,
         set: u32,
     ) -> PackedStep {
-        let mut step = Plain.open(board, policy, user, session, set);
+        let mut step = self.taking(Move::Open, board, policy, user, session, set);
         match self.0 {
             OpensForAll if step.answer == 19 => {
                 step.answer = DONE;
@@ -344,7 +262,7 @@ impl Engine for Faulty {
         session: u32,
         set: u32,
     ) -> PackedStep {
-        let mut step = Plain.add(board, policy, user, session, set);
+        let mut step = self.taking(Move::Add, board, policy, user, session, set);
         match self.0 {
             AddForgets => step.board = *board,
             AddKeepsTheNumber if step.answer == DONE => {
@@ -364,7 +282,7 @@ impl Engine for Faulty {
         session: u32,
         set: u32,
     ) -> PackedStep {
-        let mut step = Plain.drop(board, policy, user, session, set);
+        let mut step = self.taking(Move::Drop, board, policy, user, session, set);
         if self.0 == DropDropsAll && step.answer == DONE {
             step.board.sessions[session as usize].held = 0;
         }
@@ -372,7 +290,9 @@ impl Engine for Faulty {
     }
 
     fn close(&self, board: &Board, policy: &PackedPolicy, user: u32, session: u32) -> PackedStep {
-        let mut step = Plain.close(board, policy, user, session);
+        let mut step = self.on_board(CloseTakesABoardOver, board, policy, |policy| {
+            Plain.close(board, policy, user, session)
+        });
         match self.0 {
             CloseKeeps => step.board = *board,
             OnlyOneIsOpen if step.answer == DONE && board.sessions[session as usize].live != 1 => {
@@ -395,7 +315,9 @@ impl Engine for Faulty {
         action: u32,
         object: u32,
     ) -> PackedStep {
-        let mut step = Plain.request(board, policy, labels, session, action, object);
+        let mut step = self.on_board(RequestTakesABoardOver, board, policy, |policy| {
+            Plain.request(board, policy, labels, session, action, object)
+        });
         match self.0 {
             RequestHeedsNu if step.answer <= GRANTED && labels.nu == 0 => step.answer = 20,
             RequestSkipsCheck20 if step.answer == 20 => step.answer = DENIED,
@@ -417,7 +339,7 @@ fn every_fault_is_found() {
         texts: 2_000,
         calls: 40_000,
     };
-    for fault in FAULTS {
+    for &fault in FAULTS {
         let found = compare(&Faulty(fault), plan);
         let difference = found.expect_err(&format!("{fault:?} is not found"));
         println!("{fault:?}: case {}", difference.case);

@@ -1,0 +1,127 @@
+//! The policy value as a faulty engine sees it.
+
+use super::Fault::*;
+use super::Faulty;
+use helvemoik_compare::boundary::*;
+use helvemoik_compare::engine::Engine;
+use helvemoik_compare::plain::Plain;
+
+impl Faulty {
+    /// The policy value as an engine with this fault sees it.
+    pub fn seen(&self, policy: &PackedPolicy) -> PackedPolicy {
+        let mut seen = *policy;
+        match self.0 {
+            MissesALeftover => {
+                let used = seen.objects.count.min(ENTRY_PLACES);
+                seen.objects.entries[used..].fill(Entry::default());
+            }
+            MissesAHugeCount => seen.user.lines %= 1 << 32,
+            TakesAnyForm => seen.form = 1,
+            _ => {
+                self.see_conflicts(&mut seen);
+                self.see_pairs(&mut seen);
+            }
+        }
+        seen
+    }
+
+    /// The same for faults in what conflicts there are.
+    fn see_conflicts(&self, seen: &mut PackedPolicy) {
+        let Conflicts { count, entries } = &mut seen.conflicts;
+        let (conflicts, rest) = entries.split_at_mut((*count).min(CONFLICT_PLACES));
+        let sets = 1u32 << (seen.user.values() % u32::BITS);
+        match self.0 {
+            MissesALeftoverConflict => rest.fill(Conflict::default()),
+            MissesAHugeConflictCount => *count %= 1 << 32,
+            TakesConflictsInAnyOrder => conflicts.sort_by_key(|conflict| conflict.set),
+            TakesASetTwice => {
+                let mut kept = conflicts.to_vec();
+                kept.dedup_by_key(|conflict| conflict.set);
+                *count = refill(entries, &kept);
+            }
+            TakesAnySetInAConflict => each(conflicts, |conflict| {
+                conflict.set = conflict.set.min(sets - 1);
+            }),
+            TakesAnyMost => each(conflicts, |conflict| {
+                conflict.most = conflict.most.min(MOST_TOGETHER as u32);
+            }),
+            _ => {}
+        }
+    }
+
+    /// The same for faults in what pairs there are.
+    fn see_pairs(&self, seen: &mut PackedPolicy) {
+        let Pairs { count, entries } = &mut seen.pairs;
+        let (pairs, rest) = entries.split_at_mut((*count).min(PAIR_PLACES));
+        let (users, objects) = (seen.user.values().max(1), seen.object.values().max(1));
+        match self.0 {
+            MissesALeftoverPair => rest.fill(Pair::default()),
+            MissesAHugePairCount => *count %= 1 << 32,
+            TakesPairsInAnyOrder => pairs.sort(),
+            TakesAPairTwice => {
+                let mut kept = pairs.to_vec();
+                kept.dedup();
+                *count = refill(entries, &kept);
+            }
+            TakesAnyPairAction => each(pairs, |pair| pair.action = pair.action.min(7)),
+            TakesAnyUserValueInAPair => each(pairs, |pair| pair.user = pair.user.min(users - 1)),
+            TakesAnyObjectValueInAPair => {
+                each(pairs, |pair| pair.object = pair.object.min(objects - 1));
+            }
+            _ => {}
+        }
+    }
+}
+
+fn each<T>(entries: &mut [T], change: impl FnMut(&mut T)) {
+    entries.iter_mut().for_each(change);
+}
+
+/// The entries at the start of an array, and nothing behind them; how many they are.
+fn refill<T: Copy + Default>(places: &mut [T], entries: &[T]) -> usize {
+    places.fill(T::default());
+    places[..entries.len()].copy_from_slice(entries);
+    entries.len()
+}
+
+/// A valid policy with something changed that leaves it valid; another as it is.
+fn changed(policy: &PackedPolicy, change: impl Fn(&mut PackedPolicy)) -> PackedPolicy {
+    let mut changed = *policy;
+    if Plain.valid(policy) {
+        change(&mut changed);
+    }
+    changed
+}
+
+pub fn without_pairs(policy: &PackedPolicy) -> PackedPolicy {
+    changed(policy, |policy| policy.pairs = Pairs::default())
+}
+
+pub fn without_conflicts(policy: &PackedPolicy) -> PackedPolicy {
+    changed(policy, |policy| policy.conflicts = Conflicts::default())
+}
+
+/// With a value more that each conflict allows.
+pub fn with_eased_conflicts(policy: &PackedPolicy) -> PackedPolicy {
+    changed(policy, |policy| {
+        let used = policy.conflicts.count;
+        each(&mut policy.conflicts.entries[..used], |conflict| {
+            conflict.most = (conflict.most + 1).min(MOST_TOGETHER as u32);
+        });
+    })
+}
+
+/// With all pairs for one action.
+pub fn all_of(policy: &PackedPolicy, action: u32) -> PackedPolicy {
+    if action >= MOST_ACTIONS as u32 {
+        return *policy;
+    }
+    changed(policy, |policy| {
+        let Pairs { count, entries } = &mut policy.pairs;
+        let mut pairs = entries[..*count].to_vec();
+        each(&mut pairs, |pair| pair.action = action);
+        pairs.sort();
+        pairs.dedup();
+        *count = refill(entries, &pairs);
+    })
+}
