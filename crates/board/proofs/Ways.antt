@@ -74,15 +74,15 @@ module _ (p : Policy) (u s set : ℕ) (x : Session) where
 -- ---- a set
 
 module _ (t o : Bool) where
-  pub set-outside : t ≡ false → some 19 ≡ firstBroken (setChecks (not t) o)
+  pub set-outside : not t ≡ true → some 19 ≡ firstBroken (setChecks (not t) o)
   unfolding firstBroken
   set-outside e = rw e
 
-  pub set-over : t ≡ true → o ≡ true → some 23 ≡ firstBroken (setChecks (not t) o)
+  pub set-over : not t ≡ false → o ≡ true → some 23 ≡ firstBroken (setChecks (not t) o)
   unfolding firstBroken
   set-over e q = rw (e, q)
 
-  pub set-kept : t ≡ true → o ≡ false → none ≡ firstBroken (setChecks (not t) o)
+  pub set-kept : not t ≡ false → o ≡ false → none ≡ firstBroken (setChecks (not t) o)
   unfolding firstBroken
   set-kept e q = rw (e, q)
 

@@ -24,15 +24,13 @@ pub enum Ruling {
 fn of_set(inside: bool, over: bool) -> Ruling
     ensures { λ r. ⌜ refusalOf r ≡ firstBroken (setChecks (not inside) over) ⌝ }
 {
-    if inside {
-        if over {
-            Ruling::Refused(Refusal::TooManyHeld)
-        } else {
-            Ruling::Allowed
-        }
-    } else {
-        Ruling::Refused(Refusal::SetOutOfReach)
+    if !inside {
+        return Ruling::Refused(Refusal::SetOutOfReach);
     }
+    if over {
+        return Ruling::Refused(Refusal::TooManyHeld);
+    }
+    Ruling::Allowed
 }
 
 // The refusals of open, where the set is over a conflict or not.

@@ -4,13 +4,13 @@ use Rattle.board.proofs.rulings.of_set.Statement.{statement}
 use Rattle.board.proofs.rulings.of_set.Tie as tie
 
 returns : tie.Need-returns
-returns c = search set-over
+returns c = search set-outside
 
 returns-2 : tie.Need-returns-2
-returns-2 c = search set-kept
+returns-2 c = search set-over
 
 returns-3 : tie.Need-returns-3
-returns-3 c = search set-outside
+returns-3 c = search set-kept
 
 pub of-set-spec : {M : Type 1} → statement M
 of-set-spec = tie.close (tie.spec returns returns-2 returns-3)
