@@ -3,7 +3,6 @@ use Prim.Native.Nat.{ℕ, _+_, _≤_, _<_}
 use mathlib.Core.Path.{_≡_, refl, sym, ap, _∙_}
 use mathlib.Core.Bool.{Bool, true, false, cond, not}
 use mathlib.Core.List.{List, [], _∷_, _++_, map, append-assoc}
-use mathlib.Core.Option.{Option, none, some}
 use native.Mathlib.Omega.{arith}
 use borrow.Author.Tests.{lt-ltb, le-ltb, lt-leb, le-leb, leb-true, ltb-true}
 use lib.Dec.{leb}
@@ -22,7 +21,6 @@ use Rattle.words.specs.declared.Word.{Word}
 use Rattle.words.specs.declared.Word.the-variants.{True}
 use Rattle.words.specs.declared.Parsed.{Parsed}
 use Rattle.words.specs.declared.Parsed.the-variants.{Is as IsWord, Malformed}
-use Rattle.policy.specs.Answers.{numberOf}
 use Rattle.policy.specs.Limits.{actions, mostWords}
 use Rattle.policy.specs.Policy.{Rule}
 use Rattle.policy.specs.Line.{oneNumber, countFits}
@@ -34,7 +32,7 @@ use Rattle.policy.specs.declared.value.Slot.{Slot}
 use Rattle.policy.specs.declared.value.RuleValue.{RuleValue}
 use Rattle.policy.proofs.Values.{rule-value}
 use Rattle.line.specs.Inner.Head.{between}
-use Rattle.line.specs.Inner.Rule.{areWords, ruleFrom, heldRule, faultyRule, ruleIn, formulaFault, ruleFault, orElse, admittedRule}
+use Rattle.line.specs.Inner.Rule.{areWords, ruleFrom, heldRule, faultyRule, ruleIn, formulaFault, ruleFault, orElse, admittedRule, numberIn}
 use Rattle.line.specs.declared.rule.Fault.{Fault}
 use Rattle.line.specs.declared.rule.Fault.the-variants.{None, Is}
 use Rattle.line.specs.declared.rule.RuleLine.{RuleLine}
@@ -204,10 +202,6 @@ rule-stored least form s a fs y e h =
     ap (λ (z : RuleLine). z .rule) e ∙ rule-held a fs (ruleIn a (drop 2 fs)) refl (first-none _ _ (sym (ap (λ (z : RuleLine). z .fault) e) ∙ h))
 
 -- ---- the first refusal of a rule's line
-
-abbrev pub numberIn : Fault → Option ℕ
-numberIn None = none
-numberIn (Is r) = some (numberOf r)
 
 module _ (x : Rule) where
   abbrev tested : (w i s e b : Bool) → Fault

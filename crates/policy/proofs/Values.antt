@@ -1,4 +1,4 @@
--- The policy value gives its policy back, and what one line more does to it, list by list.
+-- The policy value gives its policy back, and what one user, object or rule more does to it.
 use Prim.Native.Nat.{ℕ, _+_, _<_}
 use mathlib.Core.Path.{_≡_, refl, ap}
 use mathlib.Core.List.{List, [], _∷_, _++_, map}
@@ -17,9 +17,7 @@ use Rattle.policy.specs.declared.value.Register.{Register}
 use Rattle.policy.specs.declared.value.RuleValue.{RuleValue}
 use Rattle.policy.specs.declared.value.Rules.{Rules}
 use Rattle.policy.specs.declared.value.Conflict.{Conflict}
-use Rattle.policy.specs.declared.value.Conflicts.{Conflicts}
 use Rattle.policy.specs.declared.value.Pair.{Pair}
-use Rattle.policy.specs.declared.value.Pairs.{Pairs}
 
 -- ---- the value gives the policy back
 
@@ -59,19 +57,13 @@ pub policy-value : (p : Policy) → policyOf (valueOf p) ≡ p
 unfolding policyOf valueOf
 policy-value p = rw (side-value (p .user), side-value (p .object), register-value (p .users), register-value (p .objects), conflicts-value (p .conflicts), rules-value (p .rules), pairs-value (p .pairs))
 
--- ---- one line more is a store behind the last
+-- ---- one user, object or rule more is a store behind the last
 
 abbrev pub moreEntry : ℕ → ℕ → Register → Register
 moreEntry n s x = record { count = x .count + 1; entries = set (x .entries) (x .count) (record { number = n; set = s }) }
 
 abbrev pub moreRule : RuleValue → Rules → Rules
 moreRule r x = record { count = x .count + 1; entries = set (x .entries) (x .count) r }
-
-abbrev pub moreConflict : Conflict → Conflicts → Conflicts
-moreConflict x xs = record { count = xs .count + 1; entries = set (xs .entries) (xs .count) x }
-
-abbrev pub morePair : Pair → Pairs → Pairs
-morePair x xs = record { count = xs .count + 1; entries = set (xs .entries) (xs .count) x }
 
 pub more-entry : (n s : ℕ) (es : List Entry) → length es < entryPlaces → register (withEntry n s es) ≡ moreEntry n s (register es)
 unfolding register
@@ -80,11 +72,3 @@ more-entry n s es h = let e : Entry = record { number = n; set = s } in rw (leng
 pub more-rule : (r : Rule) (rs : List Rule) → length rs < rulePlaces → rulesValue (rs ++ (r ∷ [])) ≡ moreRule (ruleValue r) (rulesValue rs)
 unfolding rulesValue
 more-rule r rs h = rw (length-snoc rs r, padded-more-map ruleValue rulePlaces noRule rs r h)
-
-pub more-conflict : (x : Conflict) (xs : List Conflict) → length xs < conflictPlaces → conflictsValue (xs ++ (x ∷ [])) ≡ moreConflict x (conflictsValue xs)
-unfolding conflictsValue
-more-conflict x xs h = rw (length-snoc xs x, padded-more conflictPlaces (conflict 0 0) xs x h)
-
-pub more-pair : (x : Pair) (xs : List Pair) → length xs < pairPlaces → pairsValue (xs ++ (x ∷ [])) ≡ morePair x (pairsValue xs)
-unfolding pairsValue
-more-pair x xs h = rw (length-snoc xs x, padded-more pairPlaces (pair 0 0 0) xs x h)

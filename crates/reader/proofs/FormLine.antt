@@ -34,7 +34,7 @@ module _ (t : List ℕ) (c : Cursor) (s : Stands t c) where
           stands = n .stands;
           past = λ k q. let z : placeOf k ≡ 0 → ⊥ = λ z. omega (arith, allowed-order _ k (n .order k q) .first z) in omega (arith, z);
           left = λ p z.
-              left-taken t c PolicyKind d e n p (plain-refusal t c PolicyKind l p true true true one-wordless f refl refl)
+              left-taken t c PolicyKind d e n p (plain-refusal t c PolicyKind l p true true one-wordless f refl)
               ∙ ap (λ (m : Numbers). left t d (withForm (m .first) p)) (sym (l .numbers));
         }
 
@@ -45,7 +45,7 @@ module _ (t : List ℕ) (c : Cursor) (s : Stands t c) where
           stands = rw q (λ k z. absurd (fault-bare OutOfRange k z));
           past = rw q (λ k z. absurd (fault-bare OutOfRange k z));
           left = λ p z.
-              left-refused t c PolicyKind OutOfRange d e q p (plain-refusal t c PolicyKind (s PolicyKind e) p false true true one-wordless f refl refl)
+              left-refused t c PolicyKind OutOfRange d e q p (plain-refusal t c PolicyKind (s PolicyKind e) p false true one-wordless f refl)
               ∙ ap (left t d) (unformed p z);
         }
 

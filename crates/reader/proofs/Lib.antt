@@ -7,7 +7,7 @@ pub mod WidthLines
 pub mod DirectLines
 pub mod EntryLines
 pub mod RuleLines
-pub mod PairLines
+pub mod LimitedLines
 pub mod Sections
 pub mod Answers
 pub mod Whole

@@ -25,10 +25,10 @@ use Rattle.policy.proofs.Values.{moreRule, more-rule}
 use Rattle.checks.specs.Inner.{bothIn}
 use Rattle.checks.specs.declared.side.Shape.{Shape}
 use Rattle.line.specs.Inner.Head.{numbersFit}
-use Rattle.line.specs.Inner.Rule.{areWords, ruleFrom, admittedRule}
+use Rattle.line.specs.Inner.Rule.{areWords, ruleFrom, admittedRule, numberIn}
 use Rattle.line.specs.declared.rule.Fault.the-variants.{None, Is}
 use Rattle.line.specs.declared.rule.RuleLine.{RuleLine}
-use Rattle.line.proofs.Rules.{numberIn, rule-stored, rule-first-broken, rule-taken}
+use Rattle.line.proofs.Rules.{rule-stored, rule-first-broken, rule-taken}
 use Rattle.reader.specs.Inner.Cursor.{fieldsAt, refusalAt, bareAt, LineAt, Stands, NextOf, aheadIs}
 use Rattle.reader.specs.Inner.Lists.{Listed, ReadBy, RulesFit, RulesFrom}
 use Rattle.reader.specs.declared.cursor.Ahead.the-variants.{Line, Fault}

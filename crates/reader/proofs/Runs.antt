@@ -4,22 +4,22 @@ use mathlib.Core.Path.{_≡_, refl, sym, ap, _∙_}
 use mathlib.Core.Bool.{Bool, true, false, not}
 use mathlib.Core.List.{List, [], _∷_, _++_}
 use mathlib.Core.Option.{none, some}
-use Rattle.basis.specs.Choice.{check, firstBroken}
+use Rattle.basis.specs.Choice.{Check, check, firstBroken}
 use Rattle.basis.specs.Lists.{all}
 use Rattle.text.specs.Kind.{layoutOf, placeOf}
 use Rattle.text.specs.declared.kind.Kind.{Kind}
 use Rattle.text.specs.declared.kind.Layout.the-variants.{One, Two, Three}
 use Rattle.policy.specs.Answers.{numberOf}
-use Rattle.policy.specs.Checks.{sizes, inRange, rises, pairRoom, balances, withLineOf}
+use Rattle.policy.specs.Checks.{sizes, inRange, rises, balances, withLineOf}
 use Rattle.policy.specs.Line.{numbersOf, wordsOf, lineOf}
 use Rattle.policy.specs.Policy.{Policy}
 use Rattle.policy.specs.declared.refusal.Refusal.{Refusal}
 use Rattle.line.specs.Inner.Head.{numbersFit}
+use Rattle.line.specs.Inner.Rule.{numberIn}
 use Rattle.line.specs.declared.rule.Fault.{Fault as LineFault}
 use Rattle.line.specs.declared.rule.Fault.the-variants.{None, Is}
-use Rattle.line.proofs.Rules.{numberIn}
 use Rattle.reader.specs.Inner.Cursor.{fieldsAt, refusalAt, left, bareAt, LineAt, Stands, Reads, NextOf, aheadIs}
-use Rattle.reader.specs.Inner.Lists.{Listed, ReadBy, Wordless, Test, TestedBy, TestedLines, faultBy}
+use Rattle.reader.specs.Inner.Lists.{Listed, ReadBy, Wordless, Test, roomChecks, TestedBy, TestedLines, faultBy}
 use Rattle.reader.specs.declared.cursor.Ahead.the-variants.{Line, Fault}
 use Rattle.reader.specs.declared.cursor.Cursor.{Cursor}
 use Rattle.reader.proofs.Cursors.{fault-bare, ahead-not, next-past, left-taken, left-refused}
@@ -38,20 +38,20 @@ pub three-wordless : Wordless Three
 unfolding numbersFit wordsOf balances
 three-wordless = record { form = λ fs. refl; words = λ fs. refl; balance = refl }
 
--- only 6, 7 and 21 can be broken
-pub plain-refusal : (t : List ℕ) (c : Cursor) (k : Kind) → LineAt t c k → (p : Policy) (i r m : Bool) → Wordless (layoutOf k)
-    → inRange k (p .form) (sizes p) (c .numbers) [] ≡ i → rises k p (c .numbers) ≡ r → pairRoom k p ≡ m
-    → refusalAt p k (fieldsAt t c) ≡ firstBroken (check 6 (not i) ∷ check 7 (not r) ∷ check 21 (not m) ∷ [])
+-- only 6, 7 and those of room can be broken
+pub plain-refusal : (t : List ℕ) (c : Cursor) (k : Kind) → LineAt t c k → (p : Policy) (i r : Bool) → Wordless (layoutOf k)
+    → inRange k (p .form) (sizes p) (c .numbers) [] ≡ i → rises k p (c .numbers) ≡ r
+    → refusalAt p k (fieldsAt t c) ≡ firstBroken (check 6 (not i) ∷ check 7 (not r) ∷ roomChecks k p)
 unfolding refusalAt firstBroken all
-plain-refusal t c k l p i r m w e f g = rw (w .form (fieldsAt t c), l .form, w .words (fieldsAt t c), w .balance, ← l .numbers, e, f, g) refl
+plain-refusal t c k l p i r w e f = rw (w .form (fieldsAt t c), l .form, w .words (fieldsAt t c), w .balance, ← l .numbers, e, f) refl
 
--- the first of them
-faults-first : (i r m : Bool) → firstBroken (check 6 (not i) ∷ check 7 (not r) ∷ check 21 (not m) ∷ []) ≡ numberIn (faultBy i r m)
+-- the first of them, where f is that of room
+faults-first : (i r : Bool) (cs : List Check) (f : LineFault) → firstBroken cs ≡ numberIn f
+    → firstBroken (check 6 (not i) ∷ check 7 (not r) ∷ cs) ≡ numberIn (faultBy i r f)
 unfolding firstBroken
-faults-first false r m = refl
-faults-first true false m = refl
-faults-first true true false = refl
-faults-first true true true = refl
+faults-first false r cs f e = refl
+faults-first true false cs f e = refl
+faults-first true true cs f e = e
 
 -- ---- the lines
 
@@ -110,9 +110,8 @@ module _ {t : List ℕ} {k : Kind} {A : Type 0} {z : Test A} {c d : Cursor} {xs 
   module _ (q : d .ahead ≡ Line k) where
     tested-refusal : (x : Listed k A) (p : Policy) → TestedBy k z x p → refusalAt (x .with xs p) k (fieldsAt t d) ≡ numberIn fault
     tested-refusal x p f =
-        plain-refusal t d k (l .stands k q) (x .with xs p) (z .fits xs next) (z .rises xs next) (z .room xs) (f .layout)
-        (f .range xs (d .numbers)) (f .rise xs (d .numbers)) (f .space xs)
-        ∙ faults-first (z .fits xs next) (z .rises xs next) (z .room xs)
+        plain-refusal t d k (l .stands k q) (x .with xs p) (z .fits xs next) (z .rises xs next) (f .layout) (f .range xs (d .numbers)) (f .rise xs (d .numbers))
+        ∙ faults-first (z .fits xs next) (z .rises xs next) (roomChecks k (x .with xs p)) (z .room xs) (f .space xs)
 
     -- a line that breaks nothing is taken
     pub tested-more : fault ≡ None → (b : Cursor) → NextOf t d k b → TestedLines t k z (placeOf k) c b (xs ++ (next ∷ []))

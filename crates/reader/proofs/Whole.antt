@@ -14,13 +14,14 @@ use Rattle.policy.specs.Checks.{sideSizes}
 use Rattle.policy.specs.Limits.{textBytes, mostValues, values, actions, userNumbers, objectNumbers}
 use Rattle.policy.specs.Policy.{Side, Policy, blank, total}
 use Rattle.policy.specs.Read.{Refused, readText}
-use Rattle.policy.specs.Value.{widthPlaces, sideValue, register, rulesValue, pairsValue, valueOf}
+use Rattle.policy.specs.Value.{widthPlaces, sideValue, register, conflictsValue, rulesValue, pairsValue, valueOf}
 use Rattle.policy.specs.declared.refusal.Refusal.{Refusal}
 use Rattle.policy.specs.declared.refusal.Refusal.the-variants.{TextTooLong}
 use Rattle.policy.specs.declared.value.Reading.{Reading}
 use Rattle.policy.specs.declared.value.Verdict.{Verdict}
 use Rattle.policy.specs.declared.value.Verdict.the-variants.{Accepted as AcceptedText, Refused as RefusedText}
 use Rattle.policy.specs.declared.value.Register.{Register}
+use Rattle.policy.specs.declared.value.Conflicts.{Conflicts}
 use Rattle.policy.specs.declared.value.Rules.{Rules}
 use Rattle.policy.specs.declared.value.Pairs.{Pairs}
 use Rattle.policy.specs.declared.value.SideValue.{SideValue}
@@ -28,7 +29,8 @@ use Rattle.policy.proofs.Forms.{values-most}
 use Rattle.checks.specs.Inner.{sizesIn}
 use Rattle.checks.specs.declared.side.Shape.{Shape}
 use Rattle.reader.specs.Inner.Cursor.{left, outcomeOf, Reads, FirstOf}
-use Rattle.reader.specs.Inner.Lists.{shapeWith, withSides, Sized, WidthsFrom, SenioritiesFrom, EntriesFrom, RulesFrom, PairsFrom, FormFrom, SidesFrom, ListsFrom}
+use Rattle.reader.specs.Inner.Lists.{shapeWith, withSides, Sized, WidthsFrom, SenioritiesFrom, EntriesFrom, ConflictsFrom, RulesFrom, PairsFrom, FormFrom, SidesFrom, ListsFrom}
+use Rattle.reader.specs.declared.conflicts.ConflictsRead.{ConflictsRead}
 use Rattle.reader.specs.declared.cursor.Ahead.the-variants.{Fault}
 use Rattle.reader.specs.declared.cursor.Cursor.{Cursor}
 use Rattle.reader.specs.declared.entries.EntriesRead.{EntriesRead}
@@ -41,7 +43,7 @@ use Rattle.reader.specs.declared.sides.SidesRead.{SidesRead}
 use Rattle.reader.specs.declared.widths.WidthsRead.{WidthsRead}
 use Rattle.reader.proofs.Answers.{said-fault}
 use Rattle.reader.proofs.Runs.{then}
-use Rattle.reader.proofs.Sections.{user-widths, object-widths, uattr, oattr, user-directs, object-directs, usen, osen, users, objects, user, object, rules, rule, pairs, pair}
+use Rattle.reader.proofs.Sections.{user-widths, object-widths, uattr, oattr, user-directs, object-directs, usen, osen, users, objects, user, object, conflicts, conflict, rules, rule, pairs, pair}
 
 -- ---- a side
 
@@ -111,36 +113,44 @@ module _ {t : List ℕ} {c : Cursor} {f : FormRead} (g : FormFrom t c f) {most :
 
 -- ---- all lists
 
-value-made : (p : Policy) (a b : SideValue) (c d : Register) (e : Rules) (f : Pairs) → a ≡ sideValue (p .user) → b ≡ sideValue (p .object) → c ≡ register (p .users)
-    → d ≡ register (p .objects) → e ≡ rulesValue (p .rules) → f ≡ pairsValue (p .pairs)
-    → record { form = p .form; user = a; object = b; users = c; objects = d; rules = e; pairs = f } ≡ valueOf p
+value-made : (p : Policy) (a b : SideValue) (c d : Register) (x : Conflicts) (e : Rules) (f : Pairs) → a ≡ sideValue (p .user) → b ≡ sideValue (p .object)
+    → c ≡ register (p .users) → d ≡ register (p .objects) → x ≡ conflictsValue (p .conflicts) → e ≡ rulesValue (p .rules) → f ≡ pairsValue (p .pairs)
+    → record { form = p .form; user = a; object = b; users = c; objects = d; conflicts = x; rules = e; pairs = f } ≡ valueOf p
 unfolding valueOf
-value-made p a b c d e f g h i j k l = rw (g, h, i, j, k, l)
+value-made p a b c d x e f g h i j y k l = rw (g, h, i, j, y, k, l)
 
 module _ {t : List ℕ} {c : Cursor} {s : SidesRead} (h : SidesFrom t c s)
     {e : EntriesRead} (u : EntriesFrom t User userNumbers (s .ushape .total) (s .cursor) e)
     {f : EntriesRead} (o : EntriesFrom t Object objectNumbers (s .oshape .total) (e .cursor) f)
-    {r : RulesRead} (l : RulesFrom t (s .form) (s .ushape) (s .oshape) (f .cursor) r)
+    {g : ConflictsRead} (k : ConflictsFrom t (s .ushape .total) (f .cursor) g)
+    {r : RulesRead} (l : RulesFrom t (s .form) (s .ushape) (s .oshape) (g .cursor) r)
     {most : ℕ} (m : most ≡ actions (s .form)) {a : PairsRead} (x : PairsFrom t most (s .ushape .total) (s .oshape .total) (r .cursor) a) where
   abbrev policyRead : Policy
-  policyRead = record { form = s .form; user = h .user; object = h .object; users = u .entries; objects = o .entries; rules = l .list; pairs = x .list }
+  policyRead =
+      record { form = s .form; user = h .user; object = h .object; users = u .entries; objects = o .entries; conflicts = k .list; rules = l .list; pairs = x .list }
 
   lists-lines : Reads t c (placeOf End) (a .cursor) policyRead
-  unfolding users objects rules pairs
+  unfolding users objects conflicts rules pairs
   lists-lines =
-      let us = then (h .lines) (u .lines) users (user (shape-total (h .user) (s .ushape) (h .user-shape))) refl in
-      let os = then us (o .lines) objects (object (shape-total (h .object) (s .oshape) (h .object-shape))) refl in
-      let rs = then os (l .lines) rules
+      let ut = shape-total (h .user) (s .ushape) (h .user-shape) in
+      let ot = shape-total (h .object) (s .oshape) (h .object-shape) in
+      let us = then (h .lines) (u .lines) users (user ut) refl in
+      let os = then us (o .lines) objects (object ot) refl in
+      let ks = then os (k .lines) conflicts (conflict ut) refl in
+      let rs = then ks (l .lines) rules
       (record { kind = rule; form = refl; sizes = rw (shape-sizes (h .user) (s .ushape) (h .user-shape), shape-sizes (h .object) (s .oshape) (h .object-shape)) }) refl in
-      then rs (x .lines) pairs (pair (sym m) (shape-total (h .user) (s .ushape) (h .user-shape)) (shape-total (h .object) (s .oshape) (h .object-shape))) refl
+      then rs (x .lines) pairs (pair (sym m) ut ot) refl
 
   pub lists-read : ListsFrom t c
-      (record { policy = record { form = s .form; user = s .user; object = s .object; users = e .register; objects = f .register; rules = r .rules; pairs = a .pairs }; cursor = a .cursor })
+      (record {
+        policy = record { form = s .form; user = s .user; object = s .object; users = e .register; objects = f .register; conflicts = g .conflicts; rules = r .rules; pairs = a .pairs };
+        cursor = a .cursor;
+      })
   lists-read =
       record {
         policy = policyRead;
-        value = value-made policyRead (s .user) (s .object) (e .register) (f .register) (r .rules) (a .pairs) (h .user-value) (h .object-value) (u .register) (o .register)
-            (l .rules) (x .pairs);
+        value = value-made policyRead (s .user) (s .object) (e .register) (f .register) (g .conflicts) (r .rules) (a .pairs) (h .user-value) (h .object-value) (u .register)
+            (o .register) (k .conflicts) (l .rules) (x .pairs);
         lines = lists-lines;
       }
 

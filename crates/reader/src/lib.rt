@@ -9,9 +9,11 @@ ghost use Rattle.policy.specs.Policy.{Policy};
 ghost use Rattle.policy.specs.Read.{Refused, readText};
 ghost use Rattle.reader.specs.Inner.Cursor.{Stands, Past, Bare, left, outcomeOf};
 
+mod conflicts;
 mod cursor;
 mod entries;
 mod form;
+mod limited;
 mod lists;
 mod pairs;
 mod rules;

@@ -25,6 +25,8 @@ pub fn read(text: &[u8], s: SidesRead) -> ListsRead
     let c = u.cursor;
     let o = crate::entries::read(text, c, Kind::Object, OBJECT_NUMBERS, os.total);
     let c = o.cursor;
+    let x = crate::conflicts::read(text, c, us.total);
+    let c = x.cursor;
     let r = crate::rules::read(text, c, s.form, us, os);
     let c = r.cursor;
     let most = policy::limits::actions(s.form);
@@ -35,6 +37,7 @@ pub fn read(text: &[u8], s: SidesRead) -> ListsRead
     let object = s.object;
     let users = u.register;
     let objects = o.register;
+    let conflicts = x.conflicts;
     let rules = r.rules;
     let pairs = p.pairs;
     let policy = PolicyValue {
@@ -43,6 +46,7 @@ pub fn read(text: &[u8], s: SidesRead) -> ListsRead
         object,
         users,
         objects,
+        conflicts,
         rules,
         pairs,
     };

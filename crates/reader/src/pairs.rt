@@ -1,7 +1,6 @@
 // The pairs of a text.
-ghost use mathlib.Core.Path.{_≡_};
 ghost use Rattle.reader.specs.Inner.Cursor.{Stands};
-ghost use Rattle.reader.specs.Inner.Lists.{faultBy, PairsFrom};
+ghost use Rattle.reader.specs.Inner.Lists.{PairsFrom};
 use crate::cursor::Cursor;
 use line::rule::Fault;
 use policy::refusal::Refusal;
@@ -13,22 +12,6 @@ use text::kind::Kind;
 pub struct PairsRead {
     pub pairs: Pairs,
     pub cursor: Cursor,
-}
-
-// What the line of a pair breaks, in the order of testing: refusals 6, 7 and 21.
-fn fault(fits: bool, rises: bool, room: bool) -> Fault
-    ensures { λ r. ⌜ r ≡ faultBy fits rises room ⌝ }
-{
-    if fits {
-        if rises {
-            if room {
-                return Fault::None;
-            }
-            return Fault::Is(Refusal::TooManyPairs);
-        }
-        return Fault::Is(Refusal::NotRising);
-    }
-    Fault::Is(Refusal::OutOfRange)
 }
 
 // The pairs from the cursor on, of so many actions, user values and object values.
@@ -53,7 +36,7 @@ pub fn read(text: &[u8], cursor: Cursor, actions: u32, users: u32, objects: u32)
         let fits = checks::pair::fits(actions, users, objects, pair);
         let rising = checks::pair::rises(count, last, pair);
         let room = count < PAIR_PLACES;
-        let f = fault(fits, rising, room);
+        let f = crate::limited::fault(fits, rising, room, Refusal::TooManyPairs);
         if let Fault::Is(r) = f {
             c = crate::cursor::stop(c, r);
         } else {

@@ -2,11 +2,13 @@
 use Prim.Native.Nat.{ℕ}
 use mathlib.Core.Bool.{Bool, cond}
 use mathlib.Core.List.{List, map}
+use mathlib.Core.Option.{Option, none, some}
 use lib.Dec.{leb}
 use lib.ListN.{drop}
 use Rattle.basis.specs.Lists.{all}
 use Rattle.text.specs.declared.kind.Kind.the-variants.{Rule as RuleKind}
 use Rattle.words.specs.Word.{parsed, isWord, wordIn}
+use Rattle.policy.specs.Answers.{numberOf}
 use Rattle.policy.specs.Policy.{Rule}
 use Rattle.policy.specs.Line.{oneNumber}
 use Rattle.policy.specs.Checks.{Sizes, inRange, widthsEqual, balanced}
@@ -55,3 +57,8 @@ unfoldable pub admittedRule : (least form : ℕ) → Sizes → ℕ → List (Lis
 admittedRule least form s a fs =
     let x = ruleIn a (drop 2 fs) in
     record { fault = orElse (x .fault) (ruleFault least form s (ruleFrom a (drop 2 fs))); rule = x .rule }
+
+-- the number of what is broken
+abbrev pub numberIn : Fault → Option ℕ
+numberIn None = none
+numberIn (Is r) = some (numberOf r)

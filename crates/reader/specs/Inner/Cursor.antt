@@ -10,7 +10,7 @@ use Rattle.text.specs.Kind.{layoutOf, placeOf, isKind}
 use Rattle.text.specs.Parts.{fields, lines}
 use Rattle.text.specs.declared.kind.Kind.{Kind}
 use Rattle.policy.specs.Answers.{numberOf}
-use Rattle.policy.specs.Checks.{lineInRange, lineRises, lineHasRoom, lineWidthsEqual, lineBalances, withLineOf}
+use Rattle.policy.specs.Checks.{lineInRange, lineRises, lineConflictRoom, linePairRoom, lineWidthsEqual, lineBalances, withLineOf}
 use Rattle.policy.specs.Line.{noNumbers, allowed, countFits, formFits, numbersOf, lineOf}
 use Rattle.policy.specs.Policy.{Policy, blank}
 use Rattle.policy.specs.Read.{Outcome, Accepted, Refused, readLines, readText}
@@ -33,7 +33,8 @@ refusalAt p k fs =
     (check 5 (not (formFits (layoutOf k) fs))
     ∷ check 6 (not (lineInRange p (lineOf k fs)))
     ∷ check 7 (not (lineRises p (lineOf k fs)))
-    ∷ check 21 (not (lineHasRoom p (lineOf k fs)))
+    ∷ check 22 (not (lineConflictRoom p (lineOf k fs)))
+    ∷ check 21 (not (linePairRoom p (lineOf k fs)))
     ∷ check 8 (not (lineWidthsEqual p (lineOf k fs)))
     ∷ check 9 (not (lineBalances (lineOf k fs)))
     ∷ [])

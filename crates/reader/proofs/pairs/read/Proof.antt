@@ -1,22 +1,24 @@
 -- `reader::pairs::read` meets its contract: what is held stands for the pairs read, and each line leaves less.
-use mathlib.Core.Path.{refl}
 use Rattle.basis.specs.Lists.{padded}
+use Rattle.text.specs.declared.kind.Kind.the-variants as kind
+use Rattle.policy.specs.Policy.{pair}
 use Rattle.policy.specs.Value.{pairsValue}
+use Rattle.reader.specs.Inner.Lists.{pairsBy}
 use Rattle.reader.proofs.Cursors.{ahead-there, toRead, next-less, stop-less}
-use Rattle.reader.proofs.PairLines.{PairsHeld, no-pairs-held, pairs-read, pair-room, pair-more, pair-out}
+use Rattle.reader.proofs.LimitedLines.{Held, none-held, held-read, held-room, held-more, held-out}
 use borrow.Author.Needs.{needs}
 use Rattle.reader.proofs.pairs.read.Statement.{statement}
 use Rattle.reader.proofs.pairs.read.Tie as tie
 
 abbrev Inv-loop : tie.InvT-loop
-Inv-loop text actions users objects last₀ entries₀ count₀ c₀ last entries count c = PairsHeld text actions users objects c₀ (record { count = count; entries = entries }) last c
+Inv-loop text actions users objects last₀ entries₀ count₀ c₀ last entries count c = Held text kind.Pair (pairsBy actions users objects) (pair 0 0 0) c₀ count entries last c
 
 abbrev μ-loop : tie.MeasureT-loop
 μ-loop text actions users objects last₀ entries₀ count₀ c₀ last entries count c = toRead text c
 
 loop-holds : tie.Need-loop-holds Inv-loop μ-loop
-unfolding pairsValue padded
-loop-holds c = no-pairs-held _ _ _ _ _ _ refl (c .before .pre)
+unfolding padded
+loop-holds c = none-held _ _ _ _ _ (c .before .pre)
 
 is-at-requires : tie.Need-is-at-requires Inv-loop μ-loop
 is-at-requires c κs = search needs
@@ -40,19 +42,21 @@ loop-less : tie.Need-loop-less Inv-loop μ-loop
 loop-less c = search stop-less
 
 loop-again : tie.Need-loop-again Inv-loop μ-loop
-loop-again c = search pair-out
+loop-again c = search held-out
 
 enum-told : tie.Need-enum-told Inv-loop μ-loop
 enum-told c = search needs
 
-mul-entries : tie.Need-mul-entries Inv-loop μ-loop
-mul-entries c = let f = c .before .before in let h = pair-room (f .before .before .before .before .before .loop .inv) _ (f .before .before .fits2 .ensures) _ (f .before .rises .ensures) _ (f .fault .ensures) (c .enum-told .given .1) in search needs
-
 array-set-from-entries : tie.Need-array-set-from-entries Inv-loop μ-loop
-array-set-from-entries c = let f = c .before .before in pair-room (f .before .before .before .before .before .loop .inv) _ (f .before .before .fits2 .ensures) _ (f .before .rises .ensures) _ (f .fault .ensures) (c .enum-told .given .1)
+array-set-from-entries c =
+    let f = c .before .before in
+    held-room (f .before .before .before .before .before .loop .inv) _ (f .before .before .fits2 .ensures) _ (f .before .rises .ensures) _ (f .fault .ensures) (c .enum-told .given .1)
+
+mul-entries : tie.Need-mul-entries Inv-loop μ-loop
+mul-entries c = let h = array-set-from-entries c in search needs
 
 add-count : tie.Need-add-count Inv-loop μ-loop
-add-count c = let f = c .before .before in let h = pair-room (f .before .before .before .before .before .loop .inv) _ (f .before .before .fits2 .ensures) _ (f .before .rises .ensures) _ (f .fault .ensures) (c .enum-told .given .1) in search needs
+add-count c = let h = array-set-from-entries c in search needs
 
 next-requires : tie.Need-next-requires Inv-loop μ-loop
 next-requires c κs = (c .before .before .before .before .before .before .before .loop .inv .lines .stands, search ahead-there)
@@ -61,14 +65,11 @@ loop-less-2 : tie.Need-loop-less-2 Inv-loop μ-loop
 loop-less-2 c = search next-less
 
 loop-again-2 : tie.Need-loop-again-2 Inv-loop μ-loop
-loop-again-2 c =
-    let f = c .before .before .before in
-    let d = f .before .before in
-    pair-more (d .before .before .before .loop .inv) _ (d .fits2 .ensures) _ (f .before .rises .ensures) _ (f .fault .ensures) _ (d .before .before .is-at .ensures) (d .before .if1 .taken) _
-    (c .before .enum-told .given .1) (c .next .ensures)
+loop-again-2 c = search held-more
 
 returns : tie.Need-returns Inv-loop μ-loop
-returns c = search pairs-read
+unfolding pairsValue
+returns c = let h = c .before .before .loop .inv in record { list = h .items; pairs = rw (h .counted, h .stored); lines = held-read h _ (c .before .is-at .ensures) (c .if1 .left) }
 
 pub read-spec : {M : Type 1} → statement M
 read-spec =

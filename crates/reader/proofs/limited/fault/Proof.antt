@@ -1,6 +1,6 @@
--- `reader::pairs::fault` meets its contract.
-use Rattle.reader.proofs.pairs.fault.Statement.{statement}
-use Rattle.reader.proofs.pairs.fault.Tie as tie
+-- `reader::limited::fault` meets its contract.
+use Rattle.reader.proofs.limited.fault.Statement.{statement}
+use Rattle.reader.proofs.limited.fault.Tie as tie
 
 returns : tie.Need-returns
 returns c = rw (c .before .before .if1 .taken, c .before .if2 .taken, c .if3 .taken)
