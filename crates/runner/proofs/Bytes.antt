@@ -3,7 +3,7 @@ use Prim.Native.Nat.{_<_}
 use lib.Dec.{lit<}
 use Rattle.policy.specs.Answers.{numberOf, replyNumber}
 use Rattle.policy.specs.declared.refusal.Refusal.{Refusal}
-use Rattle.policy.specs.declared.refusal.Refusal.the-variants.{TextTooLong, LineFeedMissing, KindNotAllowed, WrongFieldCount, MalformedField, OutOfRange, NotRising, UnequalWidths, UnbalancedFormula, EndMissing, InvalidState, UnknownAction, UnknownSession, UnregisteredUser, UnregisteredObject, SessionOpen, SessionNotOpen, SessionOfAnother, SetOutOfReach, BufferTooShort, TooManyPairs}
+use Rattle.policy.specs.declared.refusal.Refusal.the-variants.{TextTooLong, LineFeedMissing, KindNotAllowed, WrongFieldCount, MalformedField, OutOfRange, NotRising, UnequalWidths, UnbalancedFormula, EndMissing, InvalidState, UnknownAction, UnknownSession, UnregisteredUser, UnregisteredObject, SessionOpen, SessionNotOpen, SessionOfAnother, SetOutOfReach, BufferTooShort, TooManyPairs, TooManyConflicts, TooManyHeld}
 use Rattle.board.specs.Board.{replyOf}
 use Rattle.board.specs.declared.Answer.{Answer}
 use Rattle.board.specs.declared.Answer.the-variants.{Done, Granted, Denied, Refused}
@@ -30,6 +30,8 @@ number-byte SessionOfAnother = lit< tt
 number-byte SetOutOfReach = lit< tt
 number-byte BufferTooShort = lit< tt
 number-byte TooManyPairs = lit< tt
+number-byte TooManyConflicts = lit< tt
+number-byte TooManyHeld = lit< tt
 
 pub reply-byte : (a : Answer) → replyNumber (replyOf a) < 256
 reply-byte Done = lit< tt
