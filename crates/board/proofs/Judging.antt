@@ -1,8 +1,8 @@
 -- Sets against conflicts: the code counts the values that a set has in common with a conflict, and fewer values are
 -- over no conflict that more keep to.
 use Prim.Native.Nat.{ℕ, _+_, _≤_, _<_}
-use mathlib.Core.Path.{_≡_, refl, ap, _∙_}
-use mathlib.Core.Bool.{Bool, true, false, not, _&&_}
+use mathlib.Core.Path.{_≡_, refl, sym, ap, _∙_}
+use mathlib.Core.Bool.{Bool, true, false, not, _&&_, _||_, or-false, or-assoc}
 use mathlib.Core.List.{List, [], _∷_, List·Memᴰ, List·Memᴰ·head, List·Memᴰ·tail}
 use mathlib.Core.Option.{none}
 use native.Mathlib.Nat.{lt-of-le-of-lt, lt-of-lt-of-le}
@@ -10,12 +10,12 @@ use lib.Bits.{bitAnd, and-le-l}
 use lib.Count.{ones}
 use lib.Dec.{ltb}
 use lib.ListN.{length, getD, take, drop}
-use borrow.Author.Tests.{lt-ltb, le-ltb, ltb-true, ltb-false}
+use borrow.Author.Tests.{lt-ltb, ltb-true, ltb-false}
 use Rattle.basis.specs.Lists.{any}
 use Rattle.basis.proofs.Bools.{and-left, and-right, and-both, fails, never}
 use Rattle.basis.proofs.Counting.{count-same, count-under}
 use Rattle.basis.proofs.Lists.{any-at, any-of}
-use Rattle.basis.proofs.Walk.{any-hit, any-miss, any-end}
+use Rattle.basis.proofs.Walk.{part-next, part-end}
 use Rattle.sets.specs.Set.{has, minus}
 use Rattle.sets.proofs.Laws.{has-meet, has-minus}
 use Rattle.sets.proofs.Count.{ones-counts}
@@ -34,24 +34,20 @@ use Rattle.board.specs.Inner.{over, Judges}
 
 -- ---- conflict by conflict
 
-module _ (xs : List Conflict) (n i set : ℕ) where
+-- the answer of the places before place i, and of the rest
+module _ (xs : List Conflict) (n i set : ℕ) (a : Bool) where
   abbrev here : Conflict
   here = getD xs i (conflict 0 0)
 
-  abbrev exceeds : Conflict → Bool
-  exceeds x = ltb (x .most) (ones (bitAnd (x .set) set))
+  pub over-next : i < n → n ≤ length xs → (b : Bool) → b ≡ (a || ltb (here .most) (ones (bitAnd (here .set) set)))
+      → (a || over (drop i (take n xs)) set) ≡ (b || over (drop (i + 1) (take n xs)) set)
+  unfolding over any
+  over-next h g b e =
+      rw (part-next (conflict 0 0) xs i n h g, e) (sym (or-assoc a (ltb (here .most) (ones (bitAnd (here .set) set))) (over (drop (i + 1) (take n xs)) set)))
 
-  pub over-here : i < n → n ≤ length xs → here .most < ones (bitAnd (here .set) set) → over (drop i (take n xs)) set ≡ true
-  unfolding over
-  over-here h g e = any-hit exceeds (conflict 0 0) xs n i h g (lt-ltb _ _ e)
-
-  pub over-later : i < n → n ≤ length xs → ones (bitAnd (here .set) set) ≤ here .most → over (drop i (take n xs)) set ≡ over (drop (i + 1) (take n xs)) set
-  unfolding over
-  over-later h g e = any-miss exceeds (conflict 0 0) xs n i h g (le-ltb _ _ e)
-
-  pub over-none : n ≤ i → over (drop i (take n xs)) set ≡ false
-  unfolding over
-  over-none h = any-end exceeds (conflict 0 0) xs n i h
+  pub over-end : n ≤ i → (a || over (drop i (take n xs)) set) ≡ a
+  unfolding over any
+  over-end h = rw (part-end xs n i h, or-false a)
 
 -- ---- the values in common, by count
 

@@ -1,21 +1,23 @@
--- `board::conflicts::over` meets its contract: no conflict before place i is exceeded.
+-- `board::conflicts::over` meets its contract: the conflicts before place i are exceeded or not, and the rest decides.
 use Prim.Native.Nat.{_≤_, _-_}
 use mathlib.Core.Path.{_≡_, refl, sym, _∙_}
+use mathlib.Core.Bool.{_||_}
 use native.Mathlib.Omega.{arith}
 use lib.ListN.{length, take, drop}
 use borrow.Author.Needs.{needs}
 use Rattle.basis.proofs.Lists.{long}
 use Rattle.policy.specs.Value.{conflictPlaces, conflictsOf}
 use Rattle.board.specs.Inner.{over}
-use Rattle.board.proofs.Judging.{over-here, over-later, over-none}
+use Rattle.board.proofs.Judging.{over-next, over-end}
 use Rattle.board.proofs.conflicts.over.Statement.{statement}
 use Rattle.board.proofs.conflicts.over.Tie as tie
 
 abbrev Inv-loop : tie.InvT-loop
-Inv-loop set entries count i₀ i = (i ≤ count) × (over (take count entries) set ≡ over (drop i (take count entries)) set)
+Inv-loop set entries count exceeded₀ i₀ exceeded i =
+    (i ≤ count) × (over (take count entries) set ≡ (exceeded || over (drop i (take count entries)) set))
 
 abbrev μ-loop : tie.MeasureT-loop
-μ-loop set entries count i₀ i = count - i
+μ-loop set entries count exceeded₀ i₀ exceeded i = count - i
 
 size : (c : tie.Start Inv-loop μ-loop) → length (c .args .conflicts .entries) ≡ conflictPlaces
 size c = search (needs, long)
@@ -32,11 +34,8 @@ mul-x c = omega (arith, c .before .before .before .pre)
 array-copy-out-x : tie.Need-array-copy-out-x Inv-loop μ-loop
 array-copy-out-x c = omega (arith, c .before .before .before .pre)
 
-returns : tie.Need-returns Inv-loop μ-loop
-unfolding conflictsOf
-returns c =
-    let l = c .before .before .before .before .before in
-    sym (l .loop .inv .1 ∙ over-here _ _ _ _ (c .before .before .before .before .loop-test .taken) (fits (l .before .before)) (c .if1 .taken))
+either-requires : tie.Need-either-requires Inv-loop μ-loop
+either-requires c κs = search needs
 
 add-i : tie.Need-add-i Inv-loop μ-loop
 add-i c = search needs
@@ -47,11 +46,11 @@ loop-less c = search needs
 loop-again : tie.Need-loop-again Inv-loop μ-loop
 loop-again c =
     let l = c .before .before .before .before .before in
-    (omega arith, l .loop .inv .1 ∙ over-later _ _ _ _ (c .before .before .before .before .loop-test .taken) (fits (l .before .before)) (c .if1 .left))
+    (omega arith, l .loop .inv .1 ∙ over-next _ _ _ _ (l .loop .exceeded) (c .before .before .before .before .loop-test .taken) (fits (l .before .before)) _ (c .either .ensures))
 
-returns-2 : tie.Need-returns-2 Inv-loop μ-loop
+returns : tie.Need-returns Inv-loop μ-loop
 unfolding conflictsOf
-returns-2 c = sym (c .before .loop .inv .1 ∙ over-none _ _ _ _ (c .loop-test .left))
+returns c = sym (c .before .loop .inv .1 ∙ over-end _ _ _ _ _ (c .loop-test .left))
 
 pub over-spec : {M : Type 1} → statement M
 over-spec =
@@ -62,8 +61,8 @@ over-spec =
     loop-holds
     mul-x
     array-copy-out-x
-    returns
+    either-requires
     add-i
     loop-less
     loop-again
-    returns-2)
+    returns)
