@@ -2,6 +2,7 @@ pub mod Bools
 pub mod Choice
 pub mod Counting
 pub mod Filled
+pub mod Mapped
 pub mod Lists
 pub mod Numbers
 pub mod Over

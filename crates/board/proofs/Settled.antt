@@ -2,6 +2,7 @@
 use Prim.Native.Nat.{ℕ, _≤_, _<_}
 use mathlib.Core.Path.{_≡_, refl, sym, ap, _∙_}
 use mathlib.Core.Bool.{Bool, true, false, not, cond}
+use mathlib.Core.List.{[], _∷_}
 use mathlib.Core.Option.{Option, none, some}
 use native.Mathlib.Omega.{arith}
 use borrow.Author.Tests.{not-true, not-false}
@@ -21,11 +22,11 @@ use Rattle.board.specs.declared.reach.Found.{Found}
 use Rattle.board.specs.declared.rulings.Ruling.{Ruling}
 use Rattle.board.specs.Machine.{Entry, Call, opens, adds, drops, closes, sessionOf, tooMany, checks, entryAfter, Out}
 use Rattle.board.specs.Board.{closed, entryOf, entryAt, sessionFor, store, fits, Labels, lookUp, boardReply, boardAfter, boardStep}
-use Rattle.board.specs.Inner.{refusalOf, FoundAs, Reaches, Reachable, over, Judges, lower, invalid, settled}
+use Rattle.board.specs.Inner.{refusalOf, FoundAs, Reaches, Reachable, over, lower, invalid, settled}
 use Rattle.board.proofs.Refusals.{allowed, step-is, lower-bad, lower-good}
 use Rattle.board.proofs.Fitting.{fits-valid}
 use Rattle.board.proofs.Agreement.{near}
-use Rattle.board.proofs.Judging.{judges, conflicts-within}
+use Rattle.board.proofs.Judging.{judges-one, conflicts-within}
 use Rattle.board.proofs.Valid.{reachable, objects-within}
 
 -- what passes the checks passes the machine's
@@ -123,8 +124,8 @@ module _ (v : PolicyValue) (b : Board) (t : Bool) (ht : t ≡ fits v b) where
     pub conflicts-ready : v .conflicts .count ≤ conflictPlaces
     conflicts-ready = conflicts-within v (fits-valid v b (sym ht ∙ not-false t n))
 
-    judged : Judges (policyOf v) (v .conflicts)
-    judged = judges v (fits-valid v b (sym ht ∙ not-false t n))
+    judged : (s : ℕ) → over (conflictsOf (v .conflicts)) (s ∷ []) ≡ tooMany (policyOf v) s
+    judged = judges-one v (fits-valid v b (sym ht ∙ not-false t n))
 
     pub objects-ready : v .objects .count ≤ entryPlaces
     objects-ready = objects-within v (fits-valid v b (sym ht ∙ not-false t n))
@@ -143,13 +144,13 @@ module _ (v : PolicyValue) (b : Board) (t : Bool) (ht : t ≡ fits v b) where
       close-ruled f hf hy = ruled (closes u s) x hx (refusalOf y) (hy (policyOf v) (hf .registered))
 
       module _ (f : Found) (hf : (p : Policy) → p .users ≡ entriesOf (v .users) → p .user ≡ sideOf (v .user) → Reaches p u f) where
-        pub open-ruled : (set : ℕ) (o : Bool) → o ≡ over (conflictsOf (v .conflicts)) set
+        pub open-ruled : (set : ℕ) (o : Bool) → o ≡ over (conflictsOf (v .conflicts)) (set ∷ [])
             → ((p : Policy) (w : ℕ) → Reaches p w f → o ≡ tooMany p set → refusalOf y ≡ firstBroken (checks p (opens w s set) (entryOf x)))
             → refusalOf y ≡ lower v (opens u s set) b
         unfolding policyOf
         open-ruled set o ho hy = ruled (opens u s set) x hx (refusalOf y) (hy (policyOf v) u (hf (policyOf v) refl refl) (ho ∙ judged set))
 
-        pub add-ruled : (set held : ℕ) → held ≡ union (x .held) set → (o : Bool) → o ≡ over (conflictsOf (v .conflicts)) held
+        pub add-ruled : (set held : ℕ) → held ≡ union (x .held) set → (o : Bool) → o ≡ over (conflictsOf (v .conflicts)) (held ∷ [])
             → ((p : Policy) → Reaches p u f → o ≡ tooMany p (union (x .held) set) → refusalOf y ≡ firstBroken (checks p (adds u s set) (entryOf x)))
             → refusalOf y ≡ lower v (adds u s set) b
         unfolding policyOf

@@ -1,7 +1,7 @@
 -- What the inner functions of the code answer, and what they ask of a policy value. Public contracts do without these.
 use Prim.Native.Nat.{ℕ, _≤_, _<_}
 use mathlib.Core.Path.{_≡_}
-use mathlib.Core.Bool.{Bool, false, cond, not}
+use mathlib.Core.Bool.{Bool, true, false, cond, not, _&&_}
 use mathlib.Core.List.{List, [], _∷_, _++_}
 use mathlib.Core.Option.{Option, none, some}
 use lib.Bits.{bitAnd}
@@ -9,21 +9,21 @@ use lib.Count.{ones}
 use lib.Dec.{ltb}
 use lib.ListN.{length, getD, set}
 use Rattle.basis.specs.Choice.{given, there, Result, gives, refuses, Check, check, firstBroken, unlessRefused}
-use Rattle.basis.specs.Lists.{any}
+use Rattle.basis.specs.Lists.{all, any}
+use Rattle.sets.specs.Set.{within}
 use Rattle.seniority.specs.Inner.{Ordered, wordBits}
 use Rattle.policy.specs.Limits.{userNumbers}
 use Rattle.policy.specs.Policy.{Policy, total, sets, setOfNumber}
-use Rattle.policy.specs.Value.{entryPlaces, sideOf, entriesOf, conflictsOf, policyOf, linePlaces}
+use Rattle.policy.specs.Value.{entryPlaces, sideOf, entriesOf, policyOf, linePlaces}
 use Rattle.policy.specs.Answers.{numberOf, Reply, done, refused, decided}
 use Rattle.policy.specs.declared.value.Entry.{Entry}
 use Rattle.policy.specs.declared.value.SideValue.{SideValue}
 use Rattle.policy.specs.declared.value.Register.{Register}
 use Rattle.policy.specs.declared.value.Conflict.{Conflict}
-use Rattle.policy.specs.declared.value.Conflicts.{Conflicts}
 use Rattle.policy.specs.declared.value.PolicyValue.{PolicyValue}
 use Rattle.formula.specs.Truth.{Sets, at}
-use Rattle.board.specs.Machine.{Entry as SessionEntry, Call, closes, requests, sessionOf, reachOf, outOfReach, tooMany, checks, setsAsked, Out}
-use Rattle.board.specs.Board.{entryAt, fits, Labels, pastEnd, grantsByLabels}
+use Rattle.board.specs.Machine.{Entry as SessionEntry, Call, closes, requests, sessionOf, reachOf, outOfReach, checks, heldIn, setsAsked, Out}
+use Rattle.board.specs.Board.{entryOf, entryAt, fits, Labels, pastEnd, grantsByLabels}
 use Rattle.board.specs.declared.Session.{Session}
 use Rattle.board.specs.declared.Board.{Board}
 use Rattle.board.specs.declared.reach.Found.{Found}
@@ -101,13 +101,24 @@ setChecks outside over = check 19 outside ∷ check 23 over ∷ []
 abbrev pub changeChecks : Policy → ℕ → ℕ → ℕ → Bool → Option SessionEntry → List Check
 changeChecks p u s set over e = checks p (closes u s) e ++ setChecks (outOfReach p u set) over
 
--- a set has too many values of some conflict: both have more in common than it allows
-unfoldable pub over : List Conflict → ℕ → Bool
-over xs set = any (λ x. ltb (x .most) (ones (bitAnd (x .set) set))) xs
+-- one of these sets has too many values of a conflict: both have more in common than it allows
+unfoldable pub exceeded : Conflict → List ℕ → Bool
+exceeded x sets = any (λ s. ltb (x .most) (ones (bitAnd (x .set) s))) sets
 
--- these conflicts judge as those of a policy do
-abbrev pub Judges : Policy → Conflicts → Type 0
-Judges p xs = (set : ℕ) → over (conflictsOf xs) set ≡ tooMany p set
+-- of some conflict
+unfoldable pub over : List Conflict → List ℕ → Bool
+over xs sets = any (λ x. exceeded x sets) xs
+
+-- what a session holds; the empty set where it is closed
+abbrev pub heldAt : Session → ℕ
+heldAt x = heldIn (entryOf x)
+
+-- check 11 of an entry but for conflicts, and of all entries
+abbrev pub reached : Policy → SessionEntry → Bool
+reached p e = there (setOfNumber (p .users) (e .user)) && within (e .held) (reachOf p (e .user))
+
+abbrev pub allReached : Policy → List Session → Bool
+allReached p xs = all (λ x. given (entryOf x) true (reached p)) xs
 
 -- what a request comes to: the sets that it is decided on, or the lowest of 12 to 17
 unfoldable pub asked : Policy → ℕ → ℕ → ℕ → Option SessionEntry → Result Sets

@@ -97,7 +97,7 @@ pub fn open(board: Board, policy: PolicyValue, user: u32, session: u32, set: u32
     let side = policy.user;
     let reach = reach::of(users, side, user);
     let conflicts = policy.conflicts;
-    let over = conflicts::over(conflicts, set);
+    let over = conflicts::over(conflicts, &[set]);
     let ruling = rulings::of_open(entry, reach, over, session, set);
     let next = Session {
         live: 1,
@@ -121,7 +121,7 @@ pub fn add(board: Board, policy: PolicyValue, user: u32, session: u32, set: u32)
     let reach = reach::of(users, side, user);
     let held = sets::union(entry.held, set);
     let conflicts = policy.conflicts;
-    let over = conflicts::over(conflicts, held);
+    let over = conflicts::over(conflicts, &[held]);
     let ruling = rulings::of_add(entry, reach, over, user, session, set);
     let next = Session {
         live: 1,

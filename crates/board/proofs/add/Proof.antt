@@ -25,6 +25,9 @@ of-requires c κs = search ready
 union-requires : tie.Need-union-requires
 union-requires c κs = search needs
 
+slice-aggregate-over : tie.Need-slice-aggregate-over
+slice-aggregate-over c = search needs
+
 over-requires : tie.Need-over-requires
 over-requires c κs = search conflicts-ready
 
@@ -32,21 +35,21 @@ of-add-requires : tie.Need-of-add-requires
 of-add-requires c κs = search needs
 
 -- the ruling is of the call's checks
-ruled : (c : tie.After-of-add) → (let a = c .before .before .before .before .before .before .before .before .before .before .before .args in refusalOf (c .of-add .result) ≡ lower (a .policy) (adds (a .user) (a .session) (a .set)) (a .board))
+ruled : (c : tie.After-of-add) → (let a = c .before .before .before .before .before .before .before .before .before .before .before .before .args in refusalOf (c .of-add .result) ≡ lower (a .policy) (adds (a .user) (a .session) (a .set)) (a .board))
 ruled c =
-    let f = c .before .before .before .before .before .before .before .before .before .before in let a = f .before .args in let x = c .before .before .before .before .before .before .before .at in let r = c .before .before .before .before .of in let h = c .before .before .before .union in let o = c .before .over in
-    add-ruled (a .policy) (a .board) (f .fits2 .result) (f .fits2 .ensures) (c .before .before .before .before .before .before .before .before .before .if1 .left)
+    let f = c .before .before .before .before .before .before .before .before .before .before .before in let a = f .before .args in let x = c .before .before .before .before .before .before .before .before .at in let r = c .before .before .before .before .before .of in let h = c .before .before .before .before .union in let o = c .before .over in
+    add-ruled (a .policy) (a .board) (f .fits2 .result) (f .fits2 .ensures) (c .before .before .before .before .before .before .before .before .before .before .if1 .left)
     (a .user) (a .session) (x .result) (x .ensures) (c .of-add .result) (r .result) (r .ensures)
     (a .set) (h .result) (h .ensures) (o .result) (o .ensures) (c .of-add .ensures)
 
 settle-requires : tie.Need-settle-requires
 settle-requires c κs =
-    let a = c .before .before .before .before .before .before .before .before .before .before .before .args in
+    let a = c .before .before .before .before .before .before .before .before .before .before .before .before .args in
     settled-near (a .policy) (adds (a .user) (a .session) (a .set)) (a .board) _ (ruled c)
 
 returns-2 : tie.Need-returns-2
 returns-2 c l =
-    let a = c .before .before .before .before .before .before .before .before .before .before .before .before .args in let x = c .before .before .before .before .before .before .before .before .at in let h = c .before .before .before .before .union in
+    let a = c .before .before .before .before .before .before .before .before .before .before .before .before .before .args in let x = c .before .before .before .before .before .before .before .before .before .at in let h = c .before .before .before .before .before .union in
     c .settle .ensures
     ∙ added l (a .policy) (a .board) (a .user) (a .session) _ (a .set) (x .result) (x .ensures) (h .result) (ruled (c .before)) (h .ensures)
 
@@ -60,6 +63,7 @@ add-spec =
     at-requires
     of-requires
     union-requires
+    slice-aggregate-over
     over-requires
     of-add-requires
     settle-requires

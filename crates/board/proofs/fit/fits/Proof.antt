@@ -1,29 +1,55 @@
--- `board::fit::fits` meets its contract: a valid value has all that working out reach asks.
-use mathlib.Core.Path.{sym, _∙_}
+-- `board::fit::fits` meets its contract: a valid value has all that working out reach and counting values asks.
+use mathlib.Core.Path.{_≡_, sym, _∙_}
+use mathlib.Core.Bool.{true}
 use borrow.Author.Needs.{needs}
-use Rattle.board.proofs.Fitting.{fits-entries, fits-invalid}
+use Rattle.policy.specs.Valid.{valid}
+use Rattle.board.proofs.Fitting.{fits-unreached, fits-kept, fits-invalid}
 use Rattle.board.proofs.Judging.{conflicts-within}
 use Rattle.board.proofs.Valid.{reachable}
 use Rattle.board.proofs.fit.fits.Statement.{statement}
 use Rattle.board.proofs.fit.fits.Tie as tie
 
+-- the value passes
+passes : (k : tie.Then1) → valid (k .before .before .args .policy) ≡ true
+passes k = sym (k .before .check .ensures) ∙ k .if1 .taken
+
 check-requires : tie.Need-check-requires
 check-requires c κs = search needs
 
-sessions-fit-requires : tie.Need-sessions-fit-requires
-sessions-fit-requires c κs =
-    let k = c .before .before .before .before in
-    let v = k .before .before .args .policy in
-    let e = sym (k .before .check .ensures) ∙ k .if1 .taken in
-    (reachable v e, conflicts-within v e)
+all-reached-requires : tie.Need-all-reached-requires
+all-reached-requires c κs = reachable _ (passes (c .before .before .before))
+
+held-requires : tie.Need-held-requires
+held-requires c κs = search needs
+
+slice-aggregate-over : tie.Need-slice-aggregate-over
+slice-aggregate-over c = search needs
+
+over-requires : tie.Need-over-requires
+over-requires c κs = conflicts-within _ (passes (c .before .before .before .before .before .before .before .before))
 
 returns : tie.Need-returns
 returns c =
-    let k = c .before .before .before .before .before in let a = k .before .before .args in
-    fits-entries (a .policy) (a .board) (sym (k .before .check .ensures) ∙ k .if1 .taken) (c .sessions-fit .result) (c .sessions-fit .ensures)
+    let r = c .before .before .before .before .before in let k = r .before .before .before .before in let a = k .before .before .args in
+    fits-kept (a .policy) (a .board) (passes k) _ (r .all-reached .ensures) (c .before .before .before .before .if2 .taken) _ (c .before .before .held .ensures) _ (c .over .ensures)
 
 returns-2 : tie.Need-returns-2
-returns-2 c = fits-invalid (c .before .before .args .policy) (c .before .before .args .board) (sym (c .before .check .ensures) ∙ c .if1 .left)
+returns-2 c =
+    let r = c .before in let k = r .before .before .before .before in let a = k .before .before .args in
+    fits-unreached (a .policy) (a .board) (passes k) _ (r .all-reached .ensures) (c .if2 .left)
+
+returns-3 : tie.Need-returns-3
+returns-3 c = fits-invalid (c .before .before .args .policy) (c .before .before .args .board) (sym (c .before .check .ensures) ∙ c .if1 .left)
 
 pub fits-spec : {M : Type 1} → statement M
-fits-spec = tie.close (tie.spec check-requires sessions-fit-requires returns returns-2)
+fits-spec =
+    tie.close
+    (tie.spec
+    check-requires
+    all-reached-requires
+    held-requires
+    slice-aggregate-over
+    over-requires
+    returns
+    returns-2
+    returns-3)

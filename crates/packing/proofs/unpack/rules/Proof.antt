@@ -11,7 +11,8 @@ use Rattle.basis.proofs.Lists.{long}
 use Rattle.policy.specs.Value.{rulePlaces, noRule}
 use Rattle.packing.specs.Packed.{unpackedRule, unpackedRules}
 use Rattle.packing.proofs.Blank.{blank-rule}
-use Rattle.packing.proofs.Mapped.{MappedOver, over-none, over-more, over-kept, mapped-all}
+use Rattle.basis.proofs.Mapped.{mapped-all}
+use Rattle.packing.proofs.Mapped.{MappedOver, over-none, over-more, over-kept}
 use Rattle.packing.proofs.unpack.rules.Statement.{statement}
 use Rattle.packing.proofs.unpack.rules.Tie as tie
 

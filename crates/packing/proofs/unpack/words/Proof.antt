@@ -7,7 +7,8 @@ use Rattle.words.specs.declared.Word.the-variants.{True}
 use Rattle.policy.specs.Value.{wordPlaces, slot}
 use Rattle.packing.specs.Packed.{unpackedWord}
 use Rattle.packing.proofs.Blank.{zero-blank}
-use Rattle.packing.proofs.Mapped.{MappedOver, over-none, over-more, over-kept, mapped-all}
+use Rattle.basis.proofs.Mapped.{mapped-all}
+use Rattle.packing.proofs.Mapped.{MappedOver, over-none, over-more, over-kept}
 use Rattle.packing.proofs.unpack.words.Statement.{statement}
 use Rattle.packing.proofs.unpack.words.Tie as tie
 

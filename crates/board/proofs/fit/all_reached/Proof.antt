@@ -1,4 +1,4 @@
--- `board::fit::sessions_fit` meets its contract: the entries from place i on decide.
+-- `board::fit::all_reached` meets its contract: the entries from place i on decide.
 use Prim.Native.Nat.{_≤_, _<_, _-_}
 use mathlib.Core.Path.{_≡_, refl, sym, _∙_}
 use native.Mathlib.Omega.{arith}
@@ -11,28 +11,27 @@ use Rattle.policy.specs.Policy.{Policy}
 use Rattle.policy.specs.Value.{sideOf}
 use Rattle.policy.specs.Limits.{sessionNumbers}
 use Rattle.board.specs.Board.{closed}
-use Rattle.board.specs.Inner.{Judges}
 use Rattle.board.proofs.ByNumber.{places, Assigns, assigns, place-lt, found-lt}
-use Rattle.board.proofs.Fitting.{fitsIn, next-fails, next-fits, none-left}
-use Rattle.board.proofs.fit.sessions_fit.Statement.{statement}
-use Rattle.board.proofs.fit.sessions_fit.Tie as tie
+use Rattle.board.proofs.Fitting.{reachedIn, next-fails, next-reached, none-left}
+use Rattle.board.proofs.fit.all_reached.Statement.{statement}
+use Rattle.board.proofs.fit.all_reached.Tie as tie
 
 abbrev Inv-loop : tie.InvT-loop
-Inv-loop side conflicts sessions table i₀ i =
+Inv-loop side sessions table i₀ i =
     (i ≤ sessionNumbers)
-    × ((p : Policy) → p .user ≡ sideOf side → Judges p conflicts → Assigns p table → all (fitsIn p) sessions ≡ all (fitsIn p) (drop i sessions))
+    × ((p : Policy) → p .user ≡ sideOf side → Assigns p table → all (reachedIn p) sessions ≡ all (reachedIn p) (drop i sessions))
 
 abbrev μ-loop : tie.MeasureT-loop
-μ-loop side conflicts sessions table i₀ i = sessionNumbers - i
+μ-loop side sessions table i₀ i = sessionNumbers - i
 
-size : (c : tie.Start Inv-loop μ-loop) → length (c .args .t4) ≡ sessionNumbers
+size : (c : tie.Start Inv-loop μ-loop) → length (c .args .t3) ≡ sessionNumbers
 size c = search (needs, long)
 
 table-requires : tie.Need-table-requires Inv-loop μ-loop
 table-requires c κs = search needs
 
 loop-holds : tie.Need-loop-holds Inv-loop μ-loop
-loop-holds c = (omega arith, λ p es k q. refl)
+loop-holds c = (omega arith, λ p es q. refl)
 
 mul-entry : tie.Need-mul-entry Inv-loop μ-loop
 mul-entry c = search needs
@@ -53,39 +52,37 @@ mul-found c = let h = placed c in search needs
 array-copy-out-found : tie.Need-array-copy-out-found Inv-loop μ-loop
 array-copy-out-found c = placed c
 
-entry-fits-requires : tie.Need-entry-fits-requires Inv-loop μ-loop
-entry-fits-requires c κs =
+entry-reached-requires : tie.Need-entry-reached-requires Inv-loop μ-loop
+entry-reached-requires c κs =
     let l = c .before .before .before .before in let s = l .before .before in (
-      s .pre .0 .seniority,
+      s .pre .seniority,
       rw (c .before .place .ensures)
-          (found-lt (s .args .side) (s .args .users) (s .pre .0) (l .before .table .result) (l .before .table .ensures) _),
-      s .pre .1,
+          (found-lt (s .args .side) (s .args .users) (s .pre) (l .before .table .result) (l .before .table .ensures) _),
     )
 
 -- the turn's entry is in the list, and its test is the call's answer
-inside : (c : tie.After-entry-fits Inv-loop μ-loop)
+inside : (c : tie.After-entry-reached Inv-loop μ-loop)
     → c .before .before .before .before .before .loop .i
-    < length (c .before .before .before .before .before .before .before .args .t4)
+    < length (c .before .before .before .before .before .before .before .args .t3)
 inside c =
     omega (arith, size (c .before .before .before .before .before .before .before), c .before .before .before .before .loop-test .taken)
 
-tested : (c : tie.After-entry-fits Inv-loop μ-loop) (p : Policy)
+tested : (c : tie.After-entry-reached Inv-loop μ-loop) (p : Policy)
     → p .user ≡ sideOf (c .before .before .before .before .before .before .before .args .side)
-    → Judges p (c .before .before .before .before .before .before .before .args .conflicts)
     → Assigns p (c .before .before .before .before .before .before .table .result)
-    → c .entry-fits .result
-    ≡ fitsIn p (getD (c .before .before .before .before .before .before .before .args .t4) (c .before .before .before .before .before .loop .i) closed)
-tested c p es k q =
+    → c .entry-reached .result
+    ≡ reachedIn p (getD (c .before .before .before .before .before .before .before .args .t3) (c .before .before .before .before .before .loop .i) closed)
+tested c p es q =
     let l = c .before .before .before .before .before in
-    c .entry-fits .ensures p es k
-    (rw (c .before .before .place .ensures) (q (getD (l .before .before .args .t4) (l .loop .i) closed .user)))
+    c .entry-reached .ensures p es
+    (rw (c .before .before .place .ensures) (q (getD (l .before .before .args .t3) (l .loop .i) closed .user)))
 
 returns : tie.Need-returns Inv-loop μ-loop
-returns c p eu es k =
+returns c p eu es =
     let l = c .before .before .before .before .before .before in let s = l .before .before in
-    let q = assigns (s .args .side) (s .args .users) (s .pre .0) (l .before .table .result) (l .before .table .ensures) p eu in
-    let t = sym (tested (c .before) p es k q) ∙ not-true (c .before .entry-fits .result) (c .if1 .taken) in
-    sym (l .loop .inv .1 p es k q ∙ next-fails p (s .args .t4) (l .loop .i) (inside (c .before)) t)
+    let q = assigns (s .args .side) (s .args .users) (s .pre) (l .before .table .result) (l .before .table .ensures) p eu in
+    let t = sym (tested (c .before) p es q) ∙ not-true (c .before .entry-reached .result) (c .if1 .taken) in
+    sym (l .loop .inv .1 p es q ∙ next-fails p (s .args .t3) (l .loop .i) (inside (c .before)) t)
 
 add-i : tie.Need-add-i Inv-loop μ-loop
 add-i c = search needs
@@ -97,20 +94,20 @@ loop-again : tie.Need-loop-again Inv-loop μ-loop
 loop-again c =
     let l = c .before .before .before .before .before .before in (
       omega arith,
-      λ p es k q.
-          let t = sym (tested (c .before) p es k q) ∙ not-false (c .before .entry-fits .result) (c .if1 .left) in
-          l .loop .inv .1 p es k q ∙ next-fits p (l .before .before .args .t4) (l .loop .i) (inside (c .before)) t,
+      λ p es q.
+          let t = sym (tested (c .before) p es q) ∙ not-false (c .before .entry-reached .result) (c .if1 .left) in
+          l .loop .inv .1 p es q ∙ next-reached p (l .before .before .args .t3) (l .loop .i) (inside (c .before)) t,
     )
 
 returns-2 : tie.Need-returns-2 Inv-loop μ-loop
-returns-2 c p eu es k =
+returns-2 c p eu es =
     let l = c .before in let s = l .before .before in
-    let q = assigns (s .args .side) (s .args .users) (s .pre .0) (l .before .table .result) (l .before .table .ensures) p eu in
-    let h : length (s .args .t4) ≤ l .loop .i = omega (arith, size s) in
-    sym (l .loop .inv .1 p es k q ∙ none-left p (s .args .t4) (l .loop .i) h)
+    let q = assigns (s .args .side) (s .args .users) (s .pre) (l .before .table .result) (l .before .table .ensures) p eu in
+    let h : length (s .args .t3) ≤ l .loop .i = omega (arith, size s) in
+    sym (l .loop .inv .1 p es q ∙ none-left p (s .args .t3) (l .loop .i) h)
 
-pub sessions-fit-spec : {M : Type 1} → statement M
-sessions-fit-spec =
+pub all-reached-spec : {M : Type 1} → statement M
+all-reached-spec =
     tie.close
     (tie.spec
     Inv-loop
@@ -122,7 +119,7 @@ sessions-fit-spec =
     place-requires
     mul-found
     array-copy-out-found
-    entry-fits-requires
+    entry-reached-requires
     returns
     add-i
     loop-less
