@@ -1,5 +1,6 @@
 -- The worked examples of document 01 ("One text through the lister", "Edges", "Plausible and false") and examples of
--- document 02's pairs and conflicts as one table: what the definitions say, beside what the documents say, both as text.
+-- document 02's pairs and conflicts as one table: what the definitions say, beside what the documents say, both as
+-- text.
 use Prim.Native.Nat.{ℕ, _/_, _%_}
 use Prim.Native.String.{String}
 use mathlib.Core.Bool.{Bool}
@@ -204,8 +205,8 @@ manyConflicts n = bytes "policy,1\nuattr,5\noattr,1\n" ++ lines (map lineText (c
 abbrev pub conflictText : String → List ℕ
 conflictText ls = bytes "policy,1\nuattr,2\noattr,1\n" ++ (bytes ls ++ bytes "end\n")
 
--- conflicts: "of the values in user set S .. a session may hold at most K", and a board on which one does not; then 6, 7,
--- 3 and, after 7, 22
+-- conflicts: "of the values in user set S .. a session may hold at most K", and a board on which one does not; then 6,
+-- 7, 3 and, after 7, 22
 abbrev pub conflictExamples : List Example
 conflictExamples =
     example (byMachine constrained constrainedDay) "refused,23 done refused,23 done done done done done refused,19 refused,23 done granted"

@@ -1,4 +1,5 @@
-// The limits of documents 01 and 02, each in one place; every array's length and every bound follows from these, by name.
+// The limits of documents 01 and 02, each in one place; every array's length and every bound follows from these, by
+// name.
 ghost use mathlib.Core.Path.{_≡_};
 ghost use Rattle.policy.specs.Limits as limits;
 

@@ -1,5 +1,5 @@
--- `validity::conflicts::conflicts_valid` meets its contract: the conflicts before place i pass and rise, and `blank` says whether
--- those from place n to i are.
+-- `validity::conflicts::conflicts_valid` meets its contract: the conflicts before place i pass and rise, and `blank`
+-- says whether those from place n to i are.
 use Prim.Native.Nat.{_-_}
 use borrow.Author.Tests.{not-true, not-false}
 use borrow.Author.Needs.{needs}
