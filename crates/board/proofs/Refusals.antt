@@ -23,7 +23,7 @@ module _ (v : PolicyValue) (c : Call) (b : Board) where
   unfolding lower firstBroken
   lower-good f = rw f
 
--- what a call gives where no refusal below 20 applies
+-- what a call gives where neither 11 nor one of the machine's refusals applies
 unfoldable pub allowed : PolicyValue → Labels → Call → Board → Out Board
 allowed v l c b =
     given (firstBroken (lookUp (policyOf v) l c (entryAt b (sessionOf c))))

@@ -129,7 +129,7 @@ abbrev pub answered : Labels → ℕ → Result Sets → Reply
 answered l a (gives s) = lookedUp l a s
 answered l a (refuses n) = refused n
 
--- the lowest refusal of a call below 20: 11, then the machine's
+-- the first refusal of a call but 20: 11, then the machine's
 unfoldable pub lower : PolicyValue → Call → Board → Option ℕ
 lower v c b = firstBroken (check 11 (not (fits v b)) ∷ checks (policyOf v) c (entryAt b (sessionOf c)))
 

@@ -62,8 +62,8 @@ objectSet p n = given (setOfNumber (p .objects) n) 0 (λ set. set)
 abbrev pub entry : ℕ → ℕ → Entry
 entry u held = record { user = u; held = held }
 
--- a call that is not refused: "the map gains (user, set)"; "the held set gains or loses these values"; "the entry goes";
--- "the map is unchanged"
+-- by a call that is not refused: "the map gains (user, set)"; "the held set gains or loses these values"; "the entry
+-- goes"; "the map is unchanged"
 unfoldable pub entryAfter : Call → Option Entry → Option Entry
 entryAfter (opens u s set) e = some (entry u set)
 entryAfter (adds u s set) e = given e none (λ x. some (entry (x .user) (union (x .held) set)))
