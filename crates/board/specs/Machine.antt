@@ -104,7 +104,7 @@ together p set c = count (λ v. has (c .set) v && has set v) (total (p .user))
 unfoldable pub tooMany : Policy → ℕ → Bool
 tooMany p set = any (λ c. ltb (c .most) (together p set c)) (p .conflicts)
 
--- 23: "a session would hold too many values of a conflict", where the call that it is asked for were done
+-- 23: "a session would hold too many values of a conflict": the session that the call names, were the call done
 abbrev pub wouldHoldTooMany : Policy → Call → Option Entry → Bool
 wouldHoldTooMany p c e = tooMany p (heldIn (entryAfter c e))
 
