@@ -93,6 +93,11 @@ module _ (v : PolicyValue) (b : Board) where
     pub fits-unreached : t ≡ false → false ≡ fits v b
     fits-unreached q = sym (parts-of ∙ rw q)
 
+    pub fits-no-conflict : t ≡ true → v .conflicts .count ≡ 0 → true ≡ fits v b
+    unfolding over any conflictsOf
+    fits-no-conflict q k =
+        sym (parts-of ∙ rw (q, ← judges v e (map heldAt (b .sessions)), k))
+
     pub fits-kept : t ≡ true → (ss : List ℕ) → ss ≡ map heldAt (b .sessions) → (o : Bool) → o ≡ over (conflictsOf (v .conflicts)) ss → not o ≡ fits v b
     fits-kept q ss k o w = sym (parts-of ∙ rw (q, ← k, ← judges v e ss, ← w))
 

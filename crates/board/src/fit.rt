@@ -60,6 +60,10 @@ pub fn fits(policy: PolicyValue, board: Board) -> bool
         let sessions = board.sessions;
         if all_reached(users, side, sessions) {
             let conflicts = policy.conflicts;
+            // Most policies have none, and then the sets need not be gathered.
+            if conflicts.count == 0 {
+                return true;
+            }
             let held = conflicts::held(sessions);
             return !conflicts::over(conflicts, &held);
         }
