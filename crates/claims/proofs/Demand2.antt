@@ -1,4 +1,4 @@
--- Demand 2: what decides, what is alike, sessions within reach and conflicts, and texts both ways.
+-- Demand 2: what decides, what dominates, what is alike, sessions within reach and conflicts, and texts both ways.
 use Prim.Native.Nat.{ℕ, _≤_}
 use mathlib.Core.Path.{_≡_, refl, ap, _∙_}
 use mathlib.Core.Bool.{Bool, true, false, cond, false≢true}
@@ -19,7 +19,8 @@ use Rattle.policy.specs.Value.{valueOf, policyOf}
 use Rattle.policy.specs.Write.{write, writeBuffer}
 use Rattle.policy.specs.Answers.{refused}
 use Rattle.policy.proofs.Values.{policy-value}
-use Rattle.policy.proofs.RoundTrip.{read-text, sound-read}
+use Rattle.policy.proofs.Parts.{parts, whole}
+use Rattle.policy.proofs.RoundTrip.{read-sound, read-text, sound-read}
 use Rattle.policy.proofs.Valid.{yielded-valid, valid-iff, valid-stored}
 use Rattle.labels.specs.Compile.{likeUsers}
 use Rattle.labels.specs.Apart.{Separates, apartRefusal, Tells}
@@ -33,6 +34,7 @@ use Rattle.board.proofs.Agreement.{fitting, fitting-parts, kept}
 use Rattle.board.proofs.Judging.{few-each}
 use Rattle.claims.specs.Demand2.{Told, Allowed, WrittenBack, Claim, WriteClaim, CheckClaim}
 use Rattle.claims.proofs.Deciding.{decides, equal-sets}
+use Rattle.claims.proofs.Dominance.{dominates}
 
 -- ---- sessions hold what is allowed
 
@@ -131,6 +133,7 @@ demand2 t p e =
     let ok = yielded-valid t p e in
     record {
       decides = decides t p e;
+      dominates = dominates p (parts p (whole p (read-sound t p e) .lists));
       equal-sets = equal-sets t p e;
       alike =
           record {

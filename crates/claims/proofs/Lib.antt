@@ -2,6 +2,7 @@ pub mod Answers
 pub mod Reading
 pub mod Deciding
 pub mod Demand1
+pub mod Dominance
 pub mod Demand2
 pub mod Demand3
 pub mod Exported

@@ -1,8 +1,8 @@
 -- Demand 2: "a policy means what the corrected Biswas–Sandhu–Krishnan model says: formulas decide by the sets held, a
 -- tuple grants only on equal sets, alike sets are those no formula parts, sessions hold what the LaBAC rules allow.
 -- Writing and reading back gives the same policy; an accepted text is written back unchanged." By document 02 pairs
--- decide and part sets as formulas do, and sessions keep to conflicts.
-use Prim.Native.Nat.{ℕ, _≤_, _<_}
+-- decide and part sets as formulas do, dominance follows seniority, and sessions keep to conflicts.
+use Prim.Native.Nat.{ℕ, _+_, _≤_, _<_}
 use mathlib.Core.Path.{_≡_}
 use mathlib.Core.Bool.{true}
 use mathlib.Core.List.{List, List·Memᴰ}
@@ -12,10 +12,11 @@ use lib.ListN.{length, getD, take}
 use Rattle.basis.specs.Choice.{gives}
 use Rattle.basis.specs.Lists.{over}
 use Rattle.sets.specs.Set.{within}
-use Rattle.seniority.specs.Seniority.{heldOrSenior, heldOrJunior}
+use Rattle.seniority.specs.Seniority.{Senior, heldOrSenior, heldOrJunior}
 use Rattle.words.specs.declared.Word.{Word}
+use Rattle.words.specs.declared.Comparison.the-variants.{Dominates}
 use Rattle.policy.specs.Limits.{actions}
-use Rattle.policy.specs.Policy.{Policy, sets, setOfNumber, formulaIn}
+use Rattle.policy.specs.Policy.{Side, Policy, sets, width, start, setOfNumber, formulaIn}
 use Rattle.policy.specs.Read.{Accepted, readText}
 use Rattle.policy.specs.Text.{textOf}
 use Rattle.policy.specs.Value.{valueOf, policyOf}
@@ -26,7 +27,7 @@ use Rattle.policy.specs.declared.value.Conflict.{Conflict}
 use Rattle.policy.specs.declared.value.Pair.{Pair}
 use Rattle.policy.specs.declared.value.PolicyValue.{PolicyValue}
 use Rattle.policy.specs.declared.refusal.Refusal.{Refusal}
-use Rattle.formula.specs.Truth.{Sets, at, truth, grants}
+use Rattle.formula.specs.Truth.{Sets, at, placeHeld, compares, truth, grants}
 use Rattle.formula.specs.Decide.{decide}
 use Rattle.tuples.specs.Tuples.{stored, decideByTuples}
 use Rattle.labels.specs.Compile.{userLabel, objectLabel}
@@ -59,6 +60,18 @@ pub record PairTrue (p : Policy) (a : ℕ) (s : Sets) : Type 0 where
 pub record Decides (p : Policy) (a : ℕ) (s : Sets) : Type 0 where
   pub by-either : (decide (valueOf p) a s ≡ granted) ↔ (FormulaTrue p a s ⊎ PairTrue p a s)
   pub else-denied : (decide (valueOf p) a s ≡ granted) ⊎ (decide (valueOf p) a s ≡ denied)
+
+-- ---- "In `dIJ` each place held in J must be held in I, or have a senior in I that is held"
+
+-- place k of attribute i is held, or another place of the attribute, with a value senior to that of place k
+abbrev pub Covered : Side → ℕ → ℕ → ℕ → Type 0
+Covered side i set k =
+    (placeHeld side i set k ≡ true)
+    ⊎ ((m : ℕ) × (m < width side i) × Senior (side .lines) (start side i + m) (start side i + k) × (placeHeld side i set m ≡ true))
+
+pub record Covers (p : Policy) (s : Sets) (i j : ℕ) : Type 0 where
+  pub equally-wide : width (p .user) i ≡ width (p .object) j
+  pub each-place : (k : ℕ) → k < width (p .user) i → placeHeld (p .object) j (s .object) k ≡ true → Covered (p .user) i (s .user) k
 
 -- ---- "a tuple grants only on equal sets", whatever the listing
 
@@ -117,6 +130,7 @@ pub record Said (p : Policy) : Type 0 where
 
 pub record Demand2 (t : List ℕ) (p : Policy) : Type 0 where
   pub decides : (a : ℕ) (s : Sets) → a < actions (p .form) → OfSides p s → Decides p a s
+  pub dominates : (s : Sets) (i j : ℕ) → (compares p s (Dominates i j) ≡ true) ↔ Covers p s i j
   pub equal-sets : (s : Sets) → OfSides p s → EqualSets p s
   pub alike : AlikeSets p
   pub allowed : (calls : List Call) → Allowed t p calls

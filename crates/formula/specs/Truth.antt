@@ -35,11 +35,17 @@ holds p s (Object v) = heldOrJunior (p .object .lines) (s .object) v
 abbrev pub placeHeld : Side → ℕ → ℕ → ℕ → Bool
 placeHeld side i set k = has set (start side i + k)
 
--- "`dIJ`: equal width, and each place held in J is held in I. `qIJ`: equal width, the same places held."
+-- "held in I, or have a senior in I that is held": a line of seniority joins values of one attribute, so that every
+-- senior of a value of I is in I, which demand 2 says in full
+abbrev pub placeCovered : Side → ℕ → ℕ → ℕ → Bool
+placeCovered side i set k = heldOrSenior (side .lines) set (start side i + k)
+
+-- "`dIJ`": equal width, and "each place held in J must be held in I, or have a senior in I that is held". "`qIJ`: equal
+-- width, the same places held."
 abbrev pub compares : Policy → Sets → Comparison → Bool
 compares p s (Dominates i j) =
     equalWidth (sizes p) i j
-    && every (λ k. implies (placeHeld (p .object) j (s .object) k) (placeHeld (p .user) i (s .user) k)) (width (p .user) i)
+    && every (λ k. implies (placeHeld (p .object) j (s .object) k) (placeCovered (p .user) i (s .user) k)) (width (p .user) i)
 compares p s (Equals i j) =
     equalWidth (sizes p) i j
     && every (λ k. agree (placeHeld (p .object) j (s .object) k) (placeHeld (p .user) i (s .user) k)) (width (p .user) i)

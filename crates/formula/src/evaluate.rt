@@ -7,12 +7,13 @@ ghost use mathlib.Core.List.{List, _∷_};
 ghost use lib.ListN.{getD};
 ghost use Rattle.basis.specs.Numbers.{every};
 ghost use Rattle.sets.specs.Set.{has};
-ghost use Rattle.policy.specs.Policy.{Policy, width};
+ghost use Rattle.seniority.specs.Seniority.{heldOrSenior};
+ghost use Rattle.policy.specs.Policy.{Policy, width, start};
 ghost use Rattle.policy.specs.Checks.{sizes, equalWidth};
 ghost use Rattle.policy.specs.Value.{wordPlaces, wordsIn};
 ghost use Rattle.policy.specs.Limits.{mostValues};
 ghost use Rattle.formula.specs.Truth.{Sets, holds, placeHeld, compares, top, below, step, truth};
-ghost use Rattle.formula.specs.Inner.Lane.{lanes, AttributesOf, Stands, InLane, passes, column};
+ghost use Rattle.formula.specs.Inner.Lane.{lanes, AttributesOf, Stands, InLane, heldAs, passes, column};
 use crate::attributes;
 use crate::attributes::Attributes;
 use crate::side::ALL;
@@ -46,23 +47,37 @@ fn held(users: &[u64; VECTORS], objects: &[u64; VECTORS], h: Holding) -> u64
     }
 }
 
-// Where one place passes: x says where the object sets hold it, y where the user sets do.
+// Where the sets have value v, alone or with seniority taken in.
+fn having(vectors: &[u64; VECTORS], v: u8, alone: bool) -> u64
+    requires { ⌜ v < mostValues ⌝ }
+    ensures { λ r. ⌜ ((grown : ℕ → ℕ → Bool) (k s : ℕ) → Stands grown (now (vectors .entry)) k s → has r k ≡ heldAs alone grown s v) ⌝ }
+{
+    let i = v as usize;
+    if alone {
+        vectors[i]
+    } else {
+        vectors[MOST_VALUES + i]
+    }
+}
+
+// Where one place passes: x says where the object sets have it, y where the user sets do.
 fn place(x: u64, y: u64, exact: bool) -> u64
     ensures { λ r. ⌜ ((k : ℕ) → k < lanes → has r k ≡ passes exact (has x k) (has y k)) ⌝ }
 {
     if exact { (x ^ y) ^ ALL } else { (x ^ ALL) | y }
 }
 
-// Where w places pass, which start at a in the user sets and at b in the object sets.
+// Where w places pass, which start at a in the user sets and at b in the object sets. A senior stands in for a place of
+// the user sets, unless the places are to be the same.
 fn places(users: &[u64; VECTORS], objects: &[u64; VECTORS], w: u8, a: u8, b: u8, exact: bool) -> u64
     requires { ⌜ (a + w ≤ mostValues) × (b + w ≤ mostValues) ⌝ }
-    ensures { λ r. ⌜ ((p : Policy) (k : ℕ) (s : Sets) → InLane p (now (users .entry)) (now (objects .entry)) k s → has r k ≡ every (λ q. passes exact (has (s .object) (b + q)) (has (s .user) (a + q))) w) ⌝ }
+    ensures { λ r. ⌜ ((p : Policy) (k : ℕ) (s : Sets) → InLane p (now (users .entry)) (now (objects .entry)) k s → has r k ≡ every (λ q. passes exact (has (s .object) (b + q)) (heldAs exact (heldOrSenior (p .user .lines)) (s .user) (a + q))) w) ⌝ }
 {
     let mut r: u64 = ALL;
     let mut q: u8 = 0;
     while q < w {
-        let x = objects[(b + q) as usize];
-        let y = users[(a + q) as usize];
+        let x = having(objects, b + q, true);
+        let y = having(users, a + q, exact);
         r = r & place(x, y, exact);
         q += 1;
     }
@@ -79,7 +94,7 @@ fn matched(
     exact: bool,
 ) -> u64
     requires { ⌜ ((p : Policy) × AttributesOf p sides) ⌝ }
-    ensures { λ r. ⌜ ((p : Policy) (k : ℕ) (s : Sets) → AttributesOf p sides → InLane p (now (users .entry)) (now (objects .entry)) k s → has r k ≡ (equalWidth (sizes p) i j && every (λ q. passes exact (placeHeld (p .object) j (s .object) q) (placeHeld (p .user) i (s .user) q)) (width (p .user) i))) ⌝ }
+    ensures { λ r. ⌜ ((p : Policy) (k : ℕ) (s : Sets) → AttributesOf p sides → InLane p (now (users .entry)) (now (objects .entry)) k s → has r k ≡ (equalWidth (sizes p) i j && every (λ q. passes exact (placeHeld (p .object) j (s .object) q) (heldAs exact (heldOrSenior (p .user .lines)) (s .user) (start (p .user) i + q))) (width (p .user) i))) ⌝ }
 {
     let user = sides.user;
     let object = sides.object;

@@ -1,4 +1,5 @@
 pub mod Accepted
+pub mod Attributes
 pub mod Bounds
 pub mod Fields
 pub mod Forms

@@ -64,7 +64,12 @@ pub record InLane (p : Policy) (users objects : List ℕ) (k : ℕ) (s : Sets) :
 
 -- ---- words
 
--- whether a place passes a comparison, by whether the object set and the user set hold it
+-- whether a set has value v, alone or as seniority makes it
+abbrev pub heldAs : Bool → (ℕ → ℕ → Bool) → ℕ → ℕ → Bool
+heldAs true grown s v = has s v
+heldAs false grown s v = grown s v
+
+-- whether a place passes a comparison, by whether the object set and the user set have it
 abbrev pub passes : Bool → Bool → Bool → Bool
 passes true o u = agree o u
 passes false o u = implies o u
