@@ -1,6 +1,6 @@
 -- The worked examples of document 01 ("One text through the lister", "Edges", "Plausible and false") and examples of
--- document 02's pairs and conflicts as one table: what the definitions say, beside what the documents say, both as
--- text.
+-- document 02's pairs, conflicts and dominance as one table: what the definitions say, beside what the documents say,
+-- both as text.
 use Prim.Native.Nat.{ℕ, _/_, _%_}
 use Prim.Native.String.{String}
 use mathlib.Core.Bool.{Bool}
@@ -18,6 +18,7 @@ use Rattle.policy.specs.Text.{conflictLines, pairLines, lineText, textOf}
 use Rattle.policy.specs.Value.{valueOf}
 use Rattle.policy.specs.Answers.{Reply, done, granted, denied, refused}
 use Rattle.formula.specs.Truth.{at}
+use Rattle.formula.specs.Decide.{decide}
 use Rattle.tuples.specs.Tuples.{tuples, decideByTuples}
 use Rattle.labels.specs.Compile.{lent, NU, NO, userResult, objectResult, tableResult}
 use Rattle.report.specs.Report.{report}
@@ -225,6 +226,57 @@ conflictExamples =
     ∷ example (textOf (policyIs constrained)) constrained
     ∷ []
 
+-- on each side two clearances, 1 senior to 0
+abbrev pub clearances : String
+clearances = "policy,1\nuattr,2\noattr,2\nusen,1,0\nosen,1,0\nrule,0,d00\nrule,1,q00\nend\n"
+
+-- three clearances in user attribute 1, each senior to the one before, and a value in attribute 0; a chief with the
+-- highest alone and a deputy with the lowest; comments of the lowest, of the middle one, of all and of the highest
+abbrev pub chief : String
+chief = "policy,1\nuattr,1\nuattr,3\noattr,3\nusen,2,1\nusen,3,2\nuser,0,8\nuser,1,3\nobject,0,1\nobject,1,2\nobject,2,7\nobject,3,4\nrule,0,d10\nrule,1,q10\nend\n"
+
+-- the chief reads all, and files only what has the highest alone; the deputy reads the lowest; the chief, with the
+-- middle one alone, no longer what needs the highest
+abbrev pub chiefDay : List Call
+chiefDay =
+    opens 0 0 8
+    ∷ requests 0 0 0
+    ∷ requests 0 0 1
+    ∷ requests 0 0 2
+    ∷ requests 0 1 2
+    ∷ requests 0 1 3
+    ∷ opens 1 1 3
+    ∷ requests 1 0 0
+    ∷ requests 1 0 1
+    ∷ opens 0 2 4
+    ∷ requests 2 0 0
+    ∷ requests 2 0 2
+    ∷ []
+
+-- dominance: "each place held in J must be held in I, or have a senior in I that is held. `q` keeps its sense."
+abbrev pub dominanceExamples : List Example
+dominanceExamples =
+    let p = policyIs clearances in
+    example (numbers (tuples p 0)) "0,4,5,8,9,10,11,12,13,14,15"
+    ∷ example (numbers (tuples p 1)) "0,5,10,15"
+    ∷ example (reply (decide (valueOf p) 0 (at 2 1))) "granted"
+    ∷ example (reply (decide (valueOf p) 0 (at 1 2))) "denied"
+    ∷ example (byMachine chief chiefDay) "done granted granted granted denied granted done granted denied done granted denied"
+    ∷ example (onBoard chief chiefDay) "done granted granted granted denied granted done granted denied done granted denied"
+    ∷ reading "policy,1\nuattr,2\noattr,3\nusen,1,0\nrule,0,d00\nend\n" "refused,8,4"
+    ∷ []
+
+-- "Plausible and false", as answers that are not given: `d00` as it was before seniority counted in it; with a junior
+-- in place of a senior; with the object side's seniority too; and `q00` with seniority
+abbrev pub falseAnswers : List Example
+falseAnswers =
+    let p = policyIs clearances in
+    example (numbers (tuples p 0)) "0,4,5,8,10,12,13,14,15"
+    ∷ example (numbers (tuples p 0)) "0,4,5,6,7,8,10,12,13,14,15"
+    ∷ example (numbers (tuples p 0)) "0,4,8,9,10,11,12,13,14,15"
+    ∷ example (numbers (tuples p 1)) "0,5,11,15"
+    ∷ []
+
 -- what the lister writes for the sample text, for one in which a rule and a pair overlap and an action has a pair
 -- alone, and for one that is refused
 abbrev pub listerExamples : List Example
@@ -237,7 +289,7 @@ listerExamples =
     ∷ []
 
 abbrev pub table : List Example
-table = compiledExamples ++ (sessionExamples ++ (edgeExamples ++ (falseExamples ++ (pairExamples ++ (conflictExamples ++ listerExamples)))))
+table = compiledExamples ++ (sessionExamples ++ (edgeExamples ++ (falseExamples ++ (pairExamples ++ (conflictExamples ++ (dominanceExamples ++ listerExamples))))))
 
 abbrev pub holds : Example → Bool
 holds e = same eqb (e .found) (e .expected)
