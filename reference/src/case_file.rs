@@ -119,20 +119,29 @@ pub fn case_of(case: u64, text: &[u8], lines: &str) -> Vec<u8> {
 
 /// The lines of a case file that follow its texts.
 pub fn lines(file: &[u8]) -> Vec<String> {
-    let mut lines = Vec::new();
+    let cases = texts_with_lines(file).into_iter();
+    cases.flat_map(|(_, lines)| lines).collect()
+}
+
+/// The texts of a case file, each with the lines that follow it.
+pub fn texts_with_lines(file: &[u8]) -> Vec<(Vec<u8>, Vec<String>)> {
+    let mut cases: Vec<(Vec<u8>, Vec<String>)> = Vec::new();
     let mut rest = file;
     while let Some(end) = rest.iter().position(|&byte| byte == b'\n') {
         let line = String::from_utf8_lossy(&rest[..end]).into_owned();
         rest = &rest[end + 1..];
-        match line
+        if let Some((_, length)) = line
             .strip_prefix("C,")
             .and_then(|begun| begun.split_once(','))
         {
-            Some((_, length)) => rest = &rest[length.parse::<usize>().expect("a length") + 1..],
-            None => lines.push(line),
+            let (text, behind) = rest.split_at(length.parse().expect("a length"));
+            cases.push((text.to_vec(), Vec::new()));
+            rest = &behind[1..];
+        } else {
+            cases.last_mut().expect("a case").1.push(line);
         }
     }
-    lines
+    cases
 }
 
 /// Numbers as fields.

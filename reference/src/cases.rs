@@ -6,6 +6,7 @@
 mod calls;
 mod conflicts;
 mod damage;
+mod dominance;
 mod kind;
 mod pairs;
 mod rng;
@@ -20,32 +21,45 @@ use kind::{damaged_kind, Kind};
 use pairs::PAIRS;
 use valid::{valid, Draft, Size, LIMIT, MIDDLE, SMALL};
 
-/// The text of a case: valid ones at even indexes, damaged ones at odd. Pairs and
-/// conflicts have streams of their own, so that a text that gets none is as it is
-/// without them.
+/// Puts something into a valid text.
+type Addition = fn(&mut Rng, &mut Draft);
+
+/// The text of a case: valid ones at even indexes, damaged ones at odd. Pairs,
+/// conflicts and dominance have streams of their own, so that a text that gets
+/// none is as it is without them.
 pub fn text(rng: &mut Rng, index: u64) -> Vec<u8> {
-    text_with(&[PAIRS, CONFLICTS], rng, index)
+    text_with(&[PAIRS, CONFLICTS], Some(dominance::add), rng, index)
 }
 
-/// The text of a case, without conflicts.
+/// The text of a case, without what is put in for dominance.
+pub fn text_without_dominance(rng: &mut Rng, index: u64) -> Vec<u8> {
+    text_with(&[PAIRS, CONFLICTS], None, rng, index)
+}
+
+/// The text of a case, without conflicts too.
 pub fn text_without_conflicts(rng: &mut Rng, index: u64) -> Vec<u8> {
-    text_with(&[PAIRS], rng, index)
+    text_with(&[PAIRS], None, rng, index)
 }
 
-/// The text of a case, without pairs and conflicts.
+/// The text of a case, without pairs too.
 pub fn text_without_pairs(rng: &mut Rng, index: u64) -> Vec<u8> {
-    text_with(&[], rng, index)
+    text_with(&[], None, rng, index)
 }
 
-/// The text of a case with lines of these kinds, and damage to those of one.
-fn text_with(kinds: &[Kind], rng: &mut Rng, index: u64) -> Vec<u8> {
+/// The text of a case with lines of these kinds, and damage to those of one. What
+/// is put in last has the stream behind theirs.
+fn text_with(kinds: &[Kind], last: Option<Addition>, rng: &mut Rng, index: u64) -> Vec<u8> {
     let numbered = (0..).zip(kinds);
     let mut streams: Vec<_> = numbered
         .map(|(stream, kind)| (kind, rng.branch(stream)))
         .collect();
+    let mut last_stream = rng.branch(kinds.len() as u64);
     let (mut draft, damage) = undamaged(rng, index);
     for (kind, stream) in &mut streams {
         (kind.add)(stream, &mut draft);
+    }
+    if let Some(add) = last {
+        add(&mut last_stream, &mut draft);
     }
     let Some(damage) = damage else {
         return draft.text();
@@ -58,7 +72,7 @@ fn text_with(kinds: &[Kind], rng: &mut Rng, index: u64) -> Vec<u8> {
     damaged(rng, draft, damage)
 }
 
-/// A valid text without pairs and conflicts, and the damage that is to come to it.
+/// A valid text with nothing put in, and the damage that is to come to it.
 fn undamaged(rng: &mut Rng, index: u64) -> (Draft, Option<usize>) {
     let round = (index / 2) as usize;
     if index.is_multiple_of(2) {

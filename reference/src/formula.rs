@@ -36,7 +36,8 @@ pub fn reach(policy: &Policy, assigned: Set) -> Set {
 /// The formulas and pairs of a policy, with the chains of seniority followed once.
 pub struct Formulas<'a> {
     policy: &'a Policy,
-    /// For each user value, it and its seniors: any of them makes `uV` true.
+    /// For each user value, it and its seniors: any of them makes `uV` true, and
+    /// stands for the value's place in `d`.
     user_holders: Vec<Set>,
     /// For each object value, it and its juniors: any of them makes `oV` true.
     object_holders: Vec<Set>,
@@ -104,7 +105,7 @@ impl<'a> Formulas<'a> {
             Word::Within(i, j) => {
                 let held = places(&self.policy.user_widths, i, user_set);
                 let due = places(&self.policy.object_widths, j, object_set);
-                self.equal_width(i, j) && due & !held == 0
+                self.equal_width(i, j) && self.covers(i, held, due)
             }
             Word::Same(i, j) => {
                 let held = places(&self.policy.user_widths, i, user_set);
@@ -113,6 +114,16 @@ impl<'a> Formulas<'a> {
             }
             _ => false,
         }
+    }
+
+    /// Whether each place due is held in user attribute I, or has a senior in I
+    /// that is held.
+    fn covers(&self, i: u32, held: Set, due: Set) -> bool {
+        let width = self.policy.user_widths[i as usize];
+        let first = first_value(&self.policy.user_widths, i);
+        (0..width)
+            .filter(|&place| holds(due, place))
+            .all(|place| (held << first) & self.user_holders[(first + place) as usize] != 0)
     }
 
     fn equal_width(&self, i: u32, j: u32) -> bool {
@@ -178,13 +189,71 @@ mod tests {
     }
 
     #[test]
-    fn comparisons_look_at_places_alone() {
+    fn comparisons_look_at_places() {
         // User attribute 1 has values 3 and 4, object attribute 0 has 0 and 1.
         assert!(granted("d10", 0b11000, 0b00001) && granted("d10", 0b01000, 0b00001));
         assert!(granted("d10", 0b00111, 0b11100) && !granted("d10", 0b10000, 0b00001));
         assert!(granted("q10", 0b01000, 0b00001) && !granted("q10", 0b11000, 0b00001));
-        // A senior of the value due does not stand in for it.
-        assert!(!granted("d01", 0b00100, 0b00100) && granted("d01", 0b00001, 0b00100));
+        assert!(granted("d01", 0b00001, 0b00100) && granted("q01", 0b00001, 0b00100));
+    }
+
+    #[test]
+    fn a_senior_covers_its_juniors_in_d() {
+        // Next to it, by a chain, and each of several places.
+        assert!(granted("d01", 0b00010, 0b00100) && granted("d01", 0b00100, 0b00100));
+        assert!(granted("d01", 0b00100, 0b11100) && granted("d01", 0b00010, 0b01100));
+        // A junior does not cover its senior, beside a place that is covered either.
+        assert!(!granted("d01", 0b00001, 0b01000) && !granted("d01", 0b00011, 0b10000));
+        assert!(!granted("d01", 0b00010, 0b10100));
+    }
+
+    #[test]
+    fn values_side_by_side_do_not_cover_each_other() {
+        let policy = policy("usen,2,0\nrule,0,d01\n");
+        let granted = |us, os| decide(&policy, 0, us, os).expect("decided");
+        assert!(granted(0b00100, 0b10100) && granted(0b00110, 0b11100));
+        assert!(!granted(0b00100, 0b01000) && !granted(0b00010, 0b00100));
+        // Of three places due, one is not covered.
+        assert!(!granted(0b00100, 0b11100) && !granted(0b00011, 0b11100));
+    }
+
+    #[test]
+    fn object_seniority_plays_no_part_in_d() {
+        let policy = policy("osen,1,0\nosen,3,2\nosen,4,3\nrule,0,d01\nrule,1,d10\n");
+        for us in 0..32 {
+            for os in 0..32 {
+                let wide = (os >> 2) & !(us & 0b111) == 0;
+                let narrow = os & 0b11 & !(us >> 3) == 0;
+                assert_eq!(decide(&policy, 0, us, os), Ok(wide), "{us} {os}");
+                assert_eq!(decide(&policy, 1, us, os), Ok(narrow), "{us} {os}");
+            }
+        }
+    }
+
+    #[test]
+    fn a_senior_helps_in_its_own_attribute_alone() {
+        // Value 4 is senior to 3; values 0 to 2 are of the other attribute.
+        let mut policy = policy("usen,4,3\nrule,0,d10\nrule,1,d01\n");
+        let granted = |policy: &Policy, a, us, os| decide(policy, a, us, os).expect("decided");
+        assert!(granted(&policy, 0, 0b10000, 0b00001) && !granted(&policy, 0, 0b00111, 0b00001));
+        assert!(!granted(&policy, 1, 0b11000, 0b00100));
+        // No text has such lines: a senior outside I is of no help.
+        policy.user_seniority = vec![(3, 0), (3, 2), (4, 0)];
+        assert!(!granted(&policy, 1, 0b11000, 0b00100) && !granted(&policy, 1, 0b11011, 0b10000));
+        assert!(granted(&policy, 1, 0b11100, 0b10000));
+    }
+
+    #[test]
+    fn q_is_the_same_places_whatever_the_seniority() {
+        let none = policy("rule,0,q01\n");
+        let both = policy("usen,1,0\nusen,2,1\nosen,3,2\nosen,4,3\nrule,0,q01\n");
+        for us in 0..32 {
+            for os in 0..32 {
+                let same = Ok(us & 0b111 == os >> 2);
+                assert_eq!(decide(&none, 0, us, os), same, "{us} {os}");
+                assert_eq!(decide(&both, 0, us, os), same, "{us} {os}");
+            }
+        }
     }
 
     #[test]

@@ -14,6 +14,7 @@ pub mod labels;
 pub mod lister;
 pub mod machine;
 pub mod policy;
+pub mod spelled;
 pub mod stored;
 pub mod text;
 pub mod tuples;

@@ -18,7 +18,8 @@ pub enum Word {
     User(u32),
     /// The object set holds the value or a junior of it.
     Object(u32),
-    /// `dIJ`: each place held in object attribute J is held in user attribute I.
+    /// `dIJ`: each place held in object attribute J is held in user attribute I, or
+    /// has a senior in I that is held.
     Within(u32, u32),
     /// `qIJ`: user attribute I and object attribute J hold the same places.
     Same(u32, u32),

@@ -1,14 +1,18 @@
 //! The case files that are stored with the product: the requirement's examples
 //! with the requirement's answers, made cases from one seed without pairs and
-//! conflicts and with them, and lines that are wrong on purpose.
+//! conflicts and with them, lines that are wrong on purpose, and made cases about
+//! dominance.
 
 pub(crate) mod conflicts;
+mod dominance;
+mod lists;
 mod pairs;
 
 use crate::case_file::{answered, case_of};
-use crate::cases::{text, text_without_conflicts, text_without_pairs, Rng};
+use crate::cases::{self, Rng};
 use crate::formula::reach;
 use crate::policy::Policy;
+use crate::spelled::a_senior_decides;
 use crate::text::{read, MOST_CONFLICTS, MOST_PAIRS};
 use crate::wrong;
 
@@ -16,11 +20,18 @@ const SEED: u64 = 3;
 const CASES: u64 = 700;
 /// The most bytes of a file; a case larger than that is left out.
 const FILE: usize = 65_536;
+/// A little less for these files: so they keep their cases where answers got
+/// shorter.
+const WITHOUT_PAIRS: usize = 65_380;
+const ABOUT_CONFLICTS: usize = 65_480;
 /// A case of at most so many bytes is always taken, and larger ones up to a sum.
 const SMALL: usize = 2_400;
-const LARGE_SUM: usize = 350_000;
-/// A large case that is always taken: every set of both sides has its own label.
-const LABEL_PER_SET: u64 = 690;
+const LARGE_SUM: usize = 348_000;
+/// A large case that is always taken: sets of it share labels only because `d`
+/// follows seniority.
+const ALIKE_BY_SENIORITY: u64 = 690;
+/// Another, past the rest: every set of both sides has its own label.
+const LABEL_PER_SET: u64 = 1810;
 
 /// The text of the requirement.
 pub(crate) const TEXT: &str = "policy,1
@@ -75,13 +86,22 @@ const EDGES: [(&str, &str, &str); 16] = [
 
 /// The files by their numbers: the examples, the made cases without pairs, those
 /// about pairs, the lines that are wrong on purpose, then the made cases about
-/// conflicts.
+/// conflicts and those about dominance.
 pub fn files() -> Vec<Vec<u8>> {
     let mut files = vec![examples()];
     files.extend(without_pairs());
-    files.push(about(text_without_conflicts, "pair", much_by_pairs));
+    files.push(about(cases::text_without_conflicts, FILE, |text| {
+        much_of("pair", text, much_by_pairs)
+    }));
     files.push(wrong::file());
-    files.push(about(text, "conflict", much_by_conflicts));
+    files.push(about(
+        cases::text_without_dominance,
+        ABOUT_CONFLICTS,
+        |text| much_of("conflict", text, much_by_conflicts),
+    ));
+    files.push(about(cases::text, FILE, |text| {
+        read(text).is_ok_and(|policy| a_senior_decides(&policy))
+    }));
     files
 }
 
@@ -99,41 +119,46 @@ fn made(text: Making, case: u64) -> (Vec<u8>, Vec<u8>) {
 fn without_pairs() -> Vec<Vec<u8>> {
     let mut files = vec![Vec::new()];
     let mut large = 0;
-    for case in 0..CASES {
-        let (_, lines) = made(text_without_pairs, case);
-        if lines.len() > SMALL && case != LABEL_PER_SET {
+    for case in (0..CASES).chain([LABEL_PER_SET]) {
+        let (_, lines) = made(cases::text_without_pairs, case);
+        let always = case == ALIKE_BY_SENIORITY || case == LABEL_PER_SET;
+        if lines.len() > SMALL && !always {
             if lines.len() > FILE || large + lines.len() > LARGE_SUM {
                 continue;
             }
             large += lines.len();
         }
         match files.last_mut() {
-            Some(file) if file.len() + lines.len() <= FILE => file.extend(lines),
+            Some(file) if file.len() + lines.len() <= WITHOUT_PAIRS => file.extend(lines),
             _ => files.push(lines),
         }
     }
     files
 }
 
-/// The first small cases that say much of a kind of line, as many as fit into a
-/// file: refused at such a line, or accepted with much by it.
-fn about(text: Making, kind: &str, much: fn(&Policy) -> bool) -> Vec<u8> {
+/// The first small cases with a text that is wanted, as many as have room in a file.
+fn about(text: Making, room: usize, wanted: impl Fn(&[u8]) -> bool) -> Vec<u8> {
     let mut file = Vec::new();
     for case in 0..CASES {
         let (text, lines) = made(text, case);
-        let wanted = match read(&text) {
-            Err(refused) => {
-                let mut lines = text.split(|&byte| byte == b'\n');
-                let line = lines.nth(refused.line).unwrap_or_default();
-                refused.refusal > 1 && line.starts_with(kind.as_bytes())
-            }
-            Ok(policy) => much(&policy),
-        };
-        if wanted && lines.len() <= SMALL && file.len() + lines.len() <= FILE {
+        if lines.len() <= SMALL && file.len() + lines.len() <= room && wanted(&text) {
             file.extend(lines);
         }
     }
     file
+}
+
+/// Whether a text says much of a kind of line: refused at such a line, or accepted
+/// with much by it.
+fn much_of(kind: &str, text: &[u8], much: fn(&Policy) -> bool) -> bool {
+    match read(text) {
+        Err(refused) => {
+            let mut lines = text.split(|&byte| byte == b'\n');
+            let line = lines.nth(refused.line).unwrap_or_default();
+            refused.refusal > 1 && line.starts_with(kind.as_bytes())
+        }
+        Ok(policy) => much(&policy),
+    }
 }
 
 /// With pairs and no rules, with as many pairs as there may be, or with pairs and
@@ -178,6 +203,7 @@ pub(crate) fn example_cases() -> Vec<(String, String)> {
     cases.extend(pairs::example_cases());
     cases.extend(greatest_sets());
     cases.extend(conflicts::example_cases());
+    cases.extend(dominance::example_cases());
     cases
 }
 

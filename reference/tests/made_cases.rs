@@ -1,6 +1,10 @@
 //! What the made cases cover, and what must hold of every one of them.
 
-use reference::cases::{calls, text, text_without_conflicts, text_without_pairs, Rng};
+mod made;
+
+use made::{accepted, made, SEED};
+use reference::cases::{calls, Rng};
+use reference::cases::{text_without_conflicts, text_without_dominance, text_without_pairs};
 use reference::formula::{decide, holds, is_senior, Formulas};
 use reference::labels::{apart, compile, grants, grants_alike};
 use reference::machine::{run, step, Answer, Call, Sessions};
@@ -9,22 +13,9 @@ use reference::text::{read, write, MOST_CONFLICTS, MOST_PAIRS, MOST_TOGETHER};
 use reference::tuples::{stored, tuples};
 use std::collections::BTreeSet;
 
-const SEED: u64 = 20;
 const CASES: u64 = 2000;
 /// Each refusal comes up among the first so many.
 const THOUSAND: u64 = 1000;
-
-fn made(case: u64) -> (Rng, Vec<u8>) {
-    let mut rng = Rng::new(SEED, case);
-    let text = text(&mut rng, case);
-    (rng, text)
-}
-
-fn accepted(cases: u64) -> impl Iterator<Item = (Rng, Policy)> {
-    (0..cases)
-        .map(made)
-        .filter_map(|(rng, text)| Some((rng, read(&text).ok()?)))
-}
 
 #[test]
 fn equal_seeds_make_equal_cases() {
@@ -119,10 +110,11 @@ fn a_text_that_gets_no_conflicts_or_pairs_is_as_it_is_without_them() {
     };
     let mut same = [0, 0];
     for case in (0..200).step_by(2) {
-        let with = String::from_utf8(made(case).1).expect("a text");
+        let rng = || Rng::new(SEED, case);
+        let with = text_without_dominance(&mut rng(), case);
+        let with = String::from_utf8(with).expect("a text");
         let one = without_kind(&with, "conflict");
         let none = without_kind(&one, "pair");
-        let rng = || Rng::new(SEED, case);
         assert_eq!(
             one.as_bytes(),
             text_without_conflicts(&mut rng(), case),

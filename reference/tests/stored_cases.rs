@@ -1,5 +1,9 @@
 //! What the stored case files cover, and that they are the ones made here.
 
+use reference::case_file::texts_with_lines;
+use reference::policy::Policy;
+use reference::spelled::a_senior_decides;
+use reference::text::read;
 use reference::wrong::MARK;
 use std::collections::BTreeSet;
 use std::path::Path;
@@ -101,7 +105,7 @@ fn the_stored_files_are_these() {
 fn a_buffer_of_64_kib_holds_each_file_and_all_are_small_together() {
     let files = files();
     assert!(files.iter().all(|file| file.len() <= 65_536));
-    assert!(files.iter().map(Vec::len).sum::<usize>() < 1_100_000);
+    assert!(files.iter().map(Vec::len).sum::<usize>() < 1_200_000);
 }
 
 #[test]
@@ -182,4 +186,34 @@ fn pairs_come_up() {
             .count()
     };
     assert!(accepted_behind("pair") > 20 && accepted_behind("rule") > 300);
+}
+
+/// The policies of a file's accepted texts.
+fn policies(file: &[u8]) -> Vec<Policy> {
+    let cases = texts_with_lines(file).into_iter();
+    cases.filter_map(|(text, _)| read(&text).ok()).collect()
+}
+
+#[test]
+fn dominance_by_seniority_comes_up() {
+    let all = files().iter().map(|file| policies(file));
+    let found: Vec<usize> = all
+        .map(|policies| policies.iter().filter(|p| a_senior_decides(p)).count())
+        .collect();
+    let (last, others) = found.split_last().expect("files");
+    assert_eq!(*last, policies(&files()[files().len() - 1]).len());
+    assert!(*last > 30, "{found:?}");
+    // The examples, the made cases without pairs, those about pairs and conflicts.
+    assert_eq!(others[0], 5);
+    assert!(others[1..].iter().sum::<usize>() > 20, "{found:?}");
+}
+
+#[test]
+fn the_last_file_has_dominance_beside_all_else() {
+    let last = policies(&files()[files().len() - 1]);
+    let count = |wanted: fn(&Policy) -> bool| last.iter().filter(|p| wanted(p)).count();
+    assert!(count(|p| !p.pairs.is_empty()) > 10 && count(|p| p.pairs.is_empty()) > 5);
+    assert!(count(|p| !p.conflicts.is_empty()) > 10);
+    assert!(count(|p| !p.object_seniority.is_empty()) > 10);
+    assert!(count(|p| p.user_widths.len() > 1 && p.object_widths.len() > 1) > 5);
 }

@@ -1,5 +1,7 @@
 //! Examples of conflicts, with the answers by hand.
 
+use super::lists::{self, add, close, drop, list, open, written, NumberedCall};
+use super::lists::{DENIED, DONE, GRANTED};
 use super::{read_as, TEXT};
 
 /// Four user values, 1 senior to 0. User 0 reaches all of them, user 1 the values
@@ -26,32 +28,10 @@ T,0,12,0,12,3,3,5,5,7,7,11,11,13,13,15,15,19,19,21,21,23,23,27,27,29,29,31,31
 /// Of a list on a text with these labels: NU and NO, and the lengths of buffers.
 const LENT: [u32; 5] = [2, 2, 16, 2, 4];
 
-type NumberedCall = [u32; 4];
-
-const fn open(user: u32, session: u32, set: u32) -> NumberedCall {
-    [0, user, session, set]
-}
-
-const fn add(user: u32, session: u32, set: u32) -> NumberedCall {
-    [1, user, session, set]
-}
-
-const fn drop(user: u32, session: u32, set: u32) -> NumberedCall {
-    [2, user, session, set]
-}
-
-const fn close(user: u32, session: u32) -> NumberedCall {
-    [3, user, session, 0]
-}
-
 /// For action 0 on object 0.
 const fn request(session: u32) -> NumberedCall {
-    [4, session, 0, 0]
+    lists::request(session, 0, 0)
 }
-
-const DENIED: u32 = 0;
-const GRANTED: u32 = 1;
-const DONE: u32 = 2;
 
 /// Conflict lines, calls with their answers, and what is open after them: session,
 /// user and held set.
@@ -324,25 +304,6 @@ fn example((lines, calls, held): Example) -> (String, String) {
     let list = list(LENT, calls, held);
     let answers = format!("{}{}{LABELS}{list}", read_as("Y"), written(&text));
     (text, answers)
-}
-
-/// Writing gives the text again.
-fn written(text: &str) -> String {
-    let length = text.len();
-    format!("W,0,{length},{length},{length}\n")
-}
-
-/// The line of a list of calls.
-fn list(lent: [u32; 5], calls: &[(NumberedCall, u32)], held: &[[u32; 3]]) -> String {
-    let count = calls.len() as u32;
-    let mut numbers = vec![0, count];
-    numbers.extend(lent);
-    numbers.push(count);
-    numbers.extend(calls.iter().flat_map(|call| call.0));
-    numbers.extend(calls.iter().map(|call| call.1));
-    numbers.extend(held.iter().flatten());
-    let fields: String = numbers.iter().map(|number| format!(",{number}")).collect();
-    format!("S{fields}\n")
 }
 
 /// All but one of seven values.
