@@ -3,8 +3,10 @@
 use super::Fault::*;
 use super::Faulty;
 use helvemoik_compare::boundary::*;
+use helvemoik_compare::comparison;
 use helvemoik_compare::engine::Engine;
 use helvemoik_compare::plain::Plain;
+use helvemoik_compare::value::{packed, yielded};
 
 impl Faulty {
     /// The policy value as an engine with this fault sees it.
@@ -85,7 +87,7 @@ fn refill<T: Copy + Default>(places: &mut [T], entries: &[T]) -> usize {
 }
 
 /// A valid policy with something changed that leaves it valid; another as it is.
-fn changed(policy: &PackedPolicy, change: impl Fn(&mut PackedPolicy)) -> PackedPolicy {
+pub fn changed(policy: &PackedPolicy, change: impl Fn(&mut PackedPolicy)) -> PackedPolicy {
     let mut changed = *policy;
     if Plain.valid(policy) {
         change(&mut changed);
@@ -124,4 +126,12 @@ pub fn all_of(policy: &PackedPolicy, action: u32) -> PackedPolicy {
         pairs.dedup();
         *count = refill(entries, &pairs);
     })
+}
+
+/// With dominance by places alone; as it is where the seniors that hold do not fit in.
+pub fn by_places(policy: &PackedPolicy) -> PackedPolicy {
+    let spelt_out = yielded(policy).map(|policy| packed(&comparison::by_places(&policy)));
+    spelt_out
+        .filter(|spelt_out| Plain.valid(spelt_out))
+        .unwrap_or(*policy)
 }
