@@ -5,12 +5,10 @@ mod calls;
 mod coverage;
 mod known;
 mod lent;
-mod places;
 mod sessions;
 mod texts;
 
 pub use coverage::Coverage;
-pub use places::by_places;
 
 use crate::damage::damaged;
 use crate::engine::Engine;

@@ -1,11 +1,11 @@
 //! A policy value, and what the second implementation knows of it.
 
-use super::places::by_places;
 use crate::boundary::PackedPolicy;
 use crate::value::yielded;
 use reference::formula::{is_senior, Formulas};
 use reference::labels::{apart, compile, Labelling};
 use reference::policy::{first_value, Policy, Rule, Word, ACTIONS};
+use reference::spelled::spelled_out;
 use reference::text::write;
 use reference::tuples::{tuples, Stored};
 use std::cell::OnceCell;
@@ -60,7 +60,7 @@ impl Known {
         if policy.user_seniority.is_empty() || !words.any(dominates) {
             return None;
         }
-        Some((policy, self.by_places.get_or_init(|| by_places(policy))))
+        Some((policy, self.by_places.get_or_init(|| spelled_out(policy))))
     }
 
     /// The actions that have a rule or a pair; one that has more stands as often.

@@ -3,10 +3,10 @@
 use super::Fault::*;
 use super::Faulty;
 use helvemoik_compare::boundary::*;
-use helvemoik_compare::comparison;
 use helvemoik_compare::engine::Engine;
 use helvemoik_compare::plain::Plain;
 use helvemoik_compare::value::{packed, yielded};
+use reference::spelled::spelled_out;
 
 impl Faulty {
     /// The policy value as an engine with this fault sees it.
@@ -130,8 +130,13 @@ pub fn all_of(policy: &PackedPolicy, action: u32) -> PackedPolicy {
 
 /// With dominance by places alone; as it is where the seniors that hold do not fit in.
 pub fn by_places(policy: &PackedPolicy) -> PackedPolicy {
-    let spelt_out = yielded(policy).map(|policy| packed(&comparison::by_places(&policy)));
-    spelt_out
-        .filter(|spelt_out| Plain.valid(spelt_out))
+    let spelled = yielded(policy).map(|policy| {
+        let mut spelled = spelled_out(&policy);
+        spelled.pairs.sort();
+        spelled.pairs.dedup();
+        packed(&spelled)
+    });
+    spelled
+        .filter(|spelled| Plain.valid(spelled))
         .unwrap_or(*policy)
 }
