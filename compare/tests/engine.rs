@@ -7,8 +7,8 @@ use helvemoik_compare::plain::Plain;
 /// The answers of reading, refusals 1 to 10, 21 and 22 among them.
 const READINGS: [u32; 13] = [0, 1, 2, 3, 4, 5, 6, 7, 8, 9, 10, 21, 22];
 
-/// The kinds of calls that go by what is granted, and so by pairs too.
-const BY_PAIRS: [&str; 5] = ["apart", "compile", "decide", "list", "request"];
+/// The kinds of calls that go by what is granted, and so by pairs and by seniority too.
+const BY_GRANTS: [&str; 5] = ["apart", "compile", "decide", "list", "request"];
 
 /// The kinds of calls on a board, which check 11 may refuse for a conflict alone.
 const BY_CONFLICTS: [&str; 5] = ["add", "close", "drop", "open", "request"];
@@ -35,8 +35,9 @@ fn covered(engine: &dyn Engine, plan: Plan) -> Coverage {
     println!("{coverage}");
     assert!(coverage.texts() >= plan.texts && coverage.calls() >= plan.calls);
     assert_eq!(coverage.readings(), READINGS);
-    assert_eq!(coverage.by_pairs(), BY_PAIRS);
+    assert_eq!(coverage.by_pairs(), BY_GRANTS);
     assert_eq!(coverage.by_conflicts(), BY_CONFLICTS);
+    assert_eq!(coverage.by_seniority(), BY_GRANTS);
     for (kind, answers) in ANSWERS {
         assert_eq!(coverage.answers(kind), answers, "{kind}");
     }

@@ -3,10 +3,12 @@
 use super::known::Known;
 use super::lent::{length_for, Lent};
 use super::{same, Outcome, Trial, What};
-use crate::boundary::{Counted, PackedCounts, Separation, ALIKE, APART, GRANTED, MOST_LABELS};
+use crate::boundary::{
+    Counted, PackedCounts, Separation, ALIKE, APART, DENIED, GRANTED, MOST_LABELS,
+};
 use crate::damage::{odd, odd_count};
 use reference::cases::{action, set};
-use reference::formula::{decide, Formulas};
+use reference::formula::{decide, reach, Formulas};
 use reference::labels::apart;
 use reference::policy::{Policy, Refusal, ACTIONS};
 use reference::tuples::decide_by_tuples;
@@ -36,24 +38,61 @@ impl Trial<'_> {
         }
     }
 
-    pub(super) fn deciding(&mut self, known: &Known) -> Outcome {
+    /// An action and two sets; now and then those at which a senior alone may dominate.
+    fn decision_on(&mut self, known: &Known) -> (u32, u32, u32) {
+        let dominances = known.dominances();
+        if !dominances.is_empty() && self.rng.chance(1, 4) {
+            return self.rng.pick(&dominances);
+        }
         let action = self.some_action(known);
         let (user, object) = self.sets(known);
+        (action, user, object)
+    }
+
+    pub(super) fn deciding(&mut self, known: &Known) -> Outcome {
+        let (action, user, object) = self.decision_on(known);
         let found = self.engine.decide(&known.value, action, user, object);
         self.coverage.count_call("decide", found);
         let due = match &known.policy {
             None => 11,
             Some(policy) => decision(decide(policy, action, user, object)),
         };
-        if due == GRANTED && known.by_pair_alone(action, user, object) {
-            self.coverage.count_by_pairs("decide");
+        if due == DENIED || due == GRANTED {
+            self.count_decision("decide", known, (action, user, object));
         }
         let what = || format!("decide {action} {user} {object}: {}", known.shown());
         same(&what, &found, &due)
     }
 
+    /// Counts a decision on an action and two sets that would be another without pairs, or
+    /// with dominance by places alone.
+    pub(super) fn count_decision(
+        &mut self,
+        kind: &'static str,
+        known: &Known,
+        (action, user, object): (u32, u32, u32),
+    ) {
+        if known.by_pair_alone(action, user, object) {
+            self.coverage.count_by_pairs(kind);
+        }
+        if known.by_seniority(action, user, object) {
+            self.coverage.count_by_seniority(kind);
+        }
+    }
+
+    /// Counts a result that has these actions, and would be another without their pairs, or
+    /// with dominance by places alone.
+    fn count_result(&mut self, kind: &'static str, known: &Known, among: impl Fn(u32) -> bool) {
+        if known.some_pair_alone(&among) {
+            self.coverage.count_by_pairs(kind);
+        }
+        if known.some_by_seniority(&among) {
+            self.coverage.count_by_seniority(kind);
+        }
+    }
+
     pub(super) fn listing(&mut self, known: &Known) -> Outcome {
-        let action = self.some_action(known);
+        let (action, ..) = self.decision_on(known);
         let tuples: &[u16] = match &known.policy {
             Some(policy) if action < ACTIONS => known.tuples(policy, action),
             _ => &[],
@@ -68,8 +107,8 @@ impl Trial<'_> {
             Some(_) if tuples.len() > length => (20, &[][..]),
             Some(_) => (0, tuples),
         };
-        if refusal == 0 && known.some_pair_alone(|a| a == action) {
-            self.coverage.count_by_pairs("list");
+        if refusal == 0 {
+            self.count_result("list", known, |a| a == action);
         }
         let count = stored.len();
         let what = || format!("list {action} into {length}: {}", known.shown());
@@ -163,9 +202,7 @@ impl Trial<'_> {
                     users: labelling.user_count as u32,
                     objects: labelling.object_count as u32,
                 };
-                if known.some_pair_alone(|_| true) {
-                    self.coverage.count_by_pairs("compile");
-                }
+                self.count_result("compile", known, |_| true);
                 same(&what, &found, &due)?;
                 users.starts_with(&what, &labelling.user_labels)?;
                 objects.starts_with(&what, &labelling.object_labels)?;
@@ -185,7 +222,20 @@ impl Trial<'_> {
         Ok((found, [users, objects, table]))
     }
 
-    pub(super) fn telling_apart(&mut self, known: &Known) -> Outcome {
+    /// Two user sets; now and then a senior alone and with its juniors, which only
+    /// comparisons tell apart.
+    fn two_user_sets(&mut self, known: &Known) -> (u32, u32) {
+        let seniors: Vec<u32> = known.dominances().iter().map(|due| due.1).collect();
+        match &known.policy {
+            Some(policy) if !seniors.is_empty() && self.rng.chance(1, 4) => {
+                let one = self.rng.pick(&seniors);
+                (one, reach(policy, one))
+            }
+            _ => self.any_two_user_sets(known),
+        }
+    }
+
+    fn any_two_user_sets(&mut self, known: &Known) -> (u32, u32) {
         let (one, _) = self.sets(known);
         let (mut other, _) = self.sets(known);
         if self.rng.chance(1, 4) {
@@ -194,6 +244,11 @@ impl Trial<'_> {
         } else if self.rng.chance(1, 12) {
             other = odd(&mut self.rng);
         }
+        (one, other)
+    }
+
+    pub(super) fn telling_apart(&mut self, known: &Known) -> Outcome {
+        let (one, other) = self.two_user_sets(known);
         let found = self.engine.apart(&known.value, one, other);
         self.coverage.count_call("apart", found.answer);
         let what = || format!("apart {one} {other}: {}", known.shown());
@@ -207,6 +262,9 @@ impl Trial<'_> {
         };
         if due == APART && known.alike_without_pairs(one, other) {
             self.coverage.count_by_pairs("apart");
+        }
+        if (due == ALIKE || due == APART) && known.told_by_seniority(one, other) {
+            self.coverage.count_by_seniority("apart");
         }
         same(&what, &found.answer, &due)?;
         match &known.policy {

@@ -4,14 +4,15 @@ use std::collections::BTreeMap;
 use std::fmt::{self, Display};
 
 /// How often each answer was given, of reading and of each kind of call; how often
-/// a kind of call gave what pairs alone grant, and how often it got 11 for a
-/// conflict alone.
+/// a kind of call gave what pairs alone grant, how often it got 11 for a conflict
+/// alone, and how often seniority alone decided a dominance in it.
 #[derive(Debug, Default, Clone, PartialEq, Eq)]
 pub struct Coverage {
     texts: BTreeMap<u32, u64>,
     calls: BTreeMap<&'static str, BTreeMap<u32, u64>>,
     by_pairs: BTreeMap<&'static str, u64>,
     by_conflicts: BTreeMap<&'static str, u64>,
+    by_seniority: BTreeMap<&'static str, u64>,
 }
 
 impl Coverage {
@@ -32,6 +33,11 @@ impl Coverage {
     /// Counts a call on a board that check 11 would not refuse without the policy's conflicts.
     pub(super) fn count_by_conflicts(&mut self, kind: &'static str) {
         *self.by_conflicts.entry(kind).or_default() += 1;
+    }
+
+    /// Counts a call that would answer otherwise if dominance went by places alone.
+    pub(super) fn count_by_seniority(&mut self, kind: &'static str) {
+        *self.by_seniority.entry(kind).or_default() += 1;
     }
 
     /// How many calls there were, readings not among them.
@@ -64,6 +70,11 @@ impl Coverage {
     pub fn by_conflicts(&self) -> Vec<&'static str> {
         self.by_conflicts.keys().copied().collect()
     }
+
+    /// The kinds of calls in which seniority alone decided a dominance.
+    pub fn by_seniority(&self) -> Vec<&'static str> {
+        self.by_seniority.keys().copied().collect()
+    }
 }
 
 impl Display for Coverage {
@@ -80,7 +91,8 @@ impl Display for Coverage {
         }
         writeln!(f, "by one kind of line alone")?;
         write_counts(f, "granted by pairs", &self.by_pairs)?;
-        write_counts(f, "11 by conflicts", &self.by_conflicts)
+        write_counts(f, "11 by conflicts", &self.by_conflicts)?;
+        write_counts(f, "d by seniority", &self.by_seniority)
     }
 }
 

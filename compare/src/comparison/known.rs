@@ -2,9 +2,10 @@
 
 use crate::boundary::PackedPolicy;
 use crate::value::yielded;
-use reference::formula::Formulas;
+use reference::formula::{is_senior, Formulas};
 use reference::labels::{apart, compile, Labelling};
-use reference::policy::{Policy, ACTIONS};
+use reference::policy::{first_value, Policy, Rule, Word, ACTIONS};
+use reference::spelled::spelled_out;
 use reference::text::write;
 use reference::tuples::{tuples, Stored};
 use std::cell::OnceCell;
@@ -15,6 +16,7 @@ pub struct Known {
     pub policy: Option<Policy>,
     labelling: OnceCell<Labelling>,
     tuples: [OnceCell<Vec<Stored>>; ACTIONS as usize],
+    by_places: OnceCell<Policy>,
 }
 
 impl Known {
@@ -26,6 +28,7 @@ impl Known {
             policy,
             labelling: OnceCell::new(),
             tuples: Default::default(),
+            by_places: OnceCell::new(),
         }
     }
 
@@ -47,6 +50,19 @@ impl Known {
         self.tuples[action as usize]
             .get_or_init(|| tuples(policy, action).expect("an action that there is"))
     }
+
+    /// The policy, and what it is with dominance by places alone; none where nobody is
+    /// senior or nothing is dominated.
+    fn with_by_places(&self) -> Option<(&Policy, &Policy)> {
+        let policy = self.policy.as_ref()?;
+        let dominates = |word: &Word| matches!(word, Word::Within(..));
+        let mut words = policy.rules.iter().flat_map(|rule| &rule.words);
+        if policy.user_seniority.is_empty() || !words.any(dominates) {
+            return None;
+        }
+        Some((policy, self.by_places.get_or_init(|| spelled_out(policy))))
+    }
+
     /// The actions that have a rule or a pair; one that has more stands as often.
     pub fn actions(&self) -> Vec<u32> {
         let policy = self.policy.iter();
@@ -84,4 +100,62 @@ impl Known {
             apart(&formulas, one, other) == Ok(None)
         })
     }
+
+    /// Whether an action would be decided otherwise at two sets if dominance went by
+    /// places alone.
+    pub fn by_seniority(&self, action: u32, user: u32, object: u32) -> bool {
+        self.with_by_places().is_some_and(|(policy, by_places)| {
+            let grants = |policy| Formulas::of(policy).grants(action, user, object);
+            grants(policy) != grants(by_places)
+        })
+    }
+
+    /// Whether this is so for one of these actions where a senior alone is held, and the
+    /// place of a junior alone.
+    pub fn some_by_seniority(&self, among: impl Fn(u32) -> bool) -> bool {
+        let mut dominances = self.dominances().into_iter();
+        dominances
+            .any(|(action, user, object)| among(action) && self.by_seniority(action, user, object))
+    }
+
+    /// For each word that asks for dominance, and each senior in its attribute with a
+    /// junior: the action, the senior alone and the junior's place alone.
+    pub fn dominances(&self) -> Vec<(u32, u32, u32)> {
+        let Some((policy, _)) = self.with_by_places() else {
+            return Vec::new();
+        };
+        let of_rule = |rule: &Rule| {
+            let sets = rule.words.iter().flat_map(|&word| dominated(policy, word));
+            let action = rule.action;
+            sets.map(move |(user, object)| (action, user, object))
+                .collect::<Vec<_>>()
+        };
+        policy.rules.iter().flat_map(of_rule).collect()
+    }
+
+    /// Whether two user sets would be alike, or apart, if dominance went by places alone,
+    /// and are not.
+    pub fn told_by_seniority(&self, one: u32, other: u32) -> bool {
+        self.with_by_places().is_some_and(|(policy, by_places)| {
+            let alike = |policy| apart(policy, one, other) == Ok(None);
+            alike(policy) != alike(by_places)
+        })
+    }
+}
+
+/// The sets of each senior and junior in the user attribute of a word that asks for
+/// dominance.
+fn dominated(policy: &Policy, word: Word) -> Vec<(u32, u32)> {
+    let Word::Within(i, j) = word else {
+        return Vec::new();
+    };
+    let start = first_value(&policy.user_widths, i);
+    let object_start = first_value(&policy.object_widths, j);
+    let values = start..start + policy.user_widths[i as usize];
+    let two = values
+        .clone()
+        .flat_map(|v| values.clone().map(move |w| (v, w)));
+    two.filter(|&(v, w)| is_senior(&policy.user_seniority, v, w))
+        .map(|(v, w)| (1 << v, 1 << (w - start + object_start)))
+        .collect()
 }

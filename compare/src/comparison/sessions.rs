@@ -34,6 +34,12 @@ impl Buffers {
     }
 }
 
+/// A list of calls on its way: the board, and the machine's map beside it.
+struct Course {
+    board: Board,
+    map: Sessions,
+}
+
 fn kind(call: &Call) -> &'static str {
     match call {
         Call::Open { .. } => "open",
@@ -87,29 +93,70 @@ impl Trial<'_> {
         } else {
             count
         };
-        let mut board = self.engine.fresh();
+        let board = self.engine.fresh();
         self.coverage.count_call("fresh", 0);
         same(&|| "a fresh board".to_string(), &board, &Board::default())?;
-        let mut map = Sessions::new();
+        let map = Sessions::new();
+        let mut course = Course { board, map };
         for call in calls(&mut self.rng, policy, count, u32::MAX) {
-            let found = by_engine(self.engine, &board, known, &labels, &call);
-            self.coverage.count_call(kind(&call), found.answer);
-            let (after, answer) = step(policy, &map, &call);
-            let what = || format!("{call:?} on {map:?}: {}", known.shown());
-            same(&what, &found.answer, &number(answer))?;
-            if by_pair_alone(known, policy, &map, &call, answer) {
-                self.coverage.count_by_pairs("request");
-            }
-            same(&what, &sessions(&found.board), &after)?;
-            same(
-                &what,
-                &found.board,
-                &board_after(&board, &call, found.answer, &after),
-            )?;
-            board = found.board;
-            map = after;
+            self.next_call(known, policy, &labels, &mut course, call)?;
+        }
+        for call in self.requests_by_dominance(known, policy, &course.map) {
+            self.next_call(known, policy, &labels, &mut course, call)?;
         }
         Ok(())
+    }
+
+    /// The next call of a list, beside the plain machine.
+    fn next_call(
+        &mut self,
+        known: &Known,
+        policy: &Policy,
+        labels: &Labels,
+        course: &mut Course,
+        call: Call,
+    ) -> Outcome {
+        let Course { board, map } = course;
+        let found = by_engine(self.engine, board, known, labels, &call);
+        self.coverage.count_call(kind(&call), found.answer);
+        let (after, answer) = step(policy, map, &call);
+        let what = || format!("{call:?} on {map:?}: {}", known.shown());
+        same(&what, &found.answer, &number(answer))?;
+        if let Some(decided) = decided_on(policy, map, &call, answer) {
+            self.count_decision("request", known, decided);
+        }
+        same(&what, &sessions(&found.board), &after)?;
+        same(
+            &what,
+            &found.board,
+            &board_after(board, &call, found.answer, &after),
+        )?;
+        *board = found.board;
+        *map = after;
+        Ok(())
+    }
+
+    /// Requests of open sessions for actions in which a senior may dominate. Few of the
+    /// requests in a list are, and most of those of sessions that are not open.
+    fn requests_by_dominance(
+        &mut self,
+        known: &Known,
+        policy: &Policy,
+        map: &Sessions,
+    ) -> Vec<Call> {
+        let open: Vec<u32> = map.keys().copied().collect();
+        let actions: Vec<u32> = known.dominances().iter().map(|due| due.0).collect();
+        let objects: Vec<u32> = policy.objects.iter().map(|object| object.0).collect();
+        if open.is_empty() || actions.is_empty() || objects.is_empty() {
+            return Vec::new();
+        }
+        let rng = &mut self.rng;
+        let request = |_| Call::Request {
+            session: rng.pick(&open),
+            action: rng.pick(&actions),
+            object: rng.pick(&objects),
+        };
+        (0..4).map(request).collect()
     }
 
     /// The buffers that compiling fills, longer than they need to be.
@@ -210,24 +257,24 @@ impl Trial<'_> {
     }
 }
 
-/// Whether a request was granted by a pair and not by the action's formula.
-fn by_pair_alone(
-    known: &Known,
+/// The action, the held set and the object's set that a request was decided on; none where
+/// it was refused, or the call is another.
+fn decided_on(
     policy: &Policy,
     map: &Sessions,
     call: &Call,
     answer: Answer,
-) -> bool {
+) -> Option<(u32, u32, u32)> {
     match *call {
         Call::Request {
             session,
             action,
             object,
-        } if answer == Answer::Granted => {
+        } if !matches!(answer, Answer::Refused(_)) => {
             let object_set = policy.object_set(object).expect("a registered object");
-            known.by_pair_alone(action, map[&session].1, object_set)
+            Some((action, map[&session].1, object_set))
         }
-        _ => false,
+        _ => None,
     }
 }
 
@@ -281,16 +328,9 @@ fn by_buffers(
     call: &Call,
     answer: Answer,
 ) -> u32 {
-    match *call {
-        Call::Request {
-            session,
-            action,
-            object,
-        } if !matches!(answer, Answer::Refused(_)) => {
-            let object_set = policy.object_set(object).expect("a registered object");
-            looked_up(buffers, map[&session].1, object_set, action)
-        }
-        _ => number(answer),
+    match decided_on(policy, map, call, answer) {
+        Some((action, held, object)) => looked_up(buffers, held, object, action),
+        None => number(answer),
     }
 }
 

@@ -21,7 +21,8 @@ pub fn with_seniors(side: &SideValue, set: u32) -> u32 {
     })
 }
 
-/// A set, and what its side's holdings look at.
+/// A set, and what its side's holdings look at: a user's with juniors, as dominance
+/// does too, an object's with seniors.
 #[derive(Clone, Copy, Default)]
 pub struct Held {
     pub set: u32,
@@ -105,7 +106,7 @@ impl Evaluator {
             Word::User(value) => user.closed >> value & 1 == 1,
             Word::Object(value) => object.closed >> value & 1 == 1,
             Word::Within(i, j) => {
-                self.object.held(j, object.set) & !self.user.held(i, user.set) == 0
+                self.object.held(j, object.set) & !self.user.held(i, user.closed) == 0
             }
             Word::Same(i, j) => self.object.held(j, object.set) == self.user.held(i, user.set),
             _ => false,

@@ -1,5 +1,6 @@
 //! The comparison finds an engine that is wrong in one thing.
 
+mod compared;
 mod held;
 mod seen;
 
@@ -8,7 +9,7 @@ use helvemoik_compare::boundary::*;
 use helvemoik_compare::comparison::{compare, Plan};
 use helvemoik_compare::engine::{Engine, Labels};
 use helvemoik_compare::plain::Plain;
-use seen::{all_of, without_conflicts, without_pairs};
+use seen::{all_of, by_places, without_conflicts, without_pairs};
 
 /// The faults, and a list of them all.
 macro_rules! faults {
@@ -96,6 +97,14 @@ faults! {
     TakesABoardOverByOne,
     JudgesClosedEntries,
     JudgesBoardsWithJuniors,
+    DecidesByPlaces,
+    ListsByPlaces,
+    CompilesByPlaces,
+    TellsApartByPlaces,
+    DominatesByJuniors,
+    DominatesByOneLine,
+    DominatesByObjectSeniority,
+    SameBySeniority,
 }
 
 use Fault::*;
@@ -154,7 +163,8 @@ impl Engine for Faulty {
     fn decide(&self, policy: &PackedPolicy, action: u32, user: u32, object: u32) -> u32 {
         let seen = match self.0 {
             DecidesWithoutPairs => without_pairs(policy),
-            _ => *policy,
+            DecidesByPlaces => by_places(policy),
+            _ => self.compared(policy, user, object),
         };
         match Plain.decide(&seen, action, user, object) {
             19 if self.0 == DecidesAnySet => DENIED,
@@ -166,6 +176,7 @@ impl Engine for Faulty {
         let seen = match self.0 {
             ListsWithoutPairs => without_pairs(policy),
             ListsThePairsOfAll => all_of(policy, action),
+            ListsByPlaces => by_places(policy),
             _ => *policy,
         };
         let listed = Plain.list(&seen, action, buffer);
@@ -200,12 +211,14 @@ impl Engine for Faulty {
         let before = table.to_vec();
         let seen = match self.0 {
             CompilesWithoutPairs => without_pairs(policy),
+            CompilesByPlaces => by_places(policy),
             _ => *policy,
         };
         let mut counts = Plain.compile(&seen, users, objects, table);
         match self.0 {
             LabelPerSet if counts.refusal == 0 => counts.users += 1,
             LeavesTheTable => table.copy_from_slice(&before),
+            _ if counts.refusal == 0 => self.fill(policy, counts, users, objects, table),
             _ => {}
         }
         counts
@@ -214,6 +227,7 @@ impl Engine for Faulty {
     fn apart(&self, policy: &PackedPolicy, one: u32, other: u32) -> Separation {
         let seen = match self.0 {
             TellsApartWithoutPairs => without_pairs(policy),
+            TellsApartByPlaces => by_places(policy),
             _ => *policy,
         };
         let mut found = Plain.apart(&seen, one, other);

@@ -5,6 +5,8 @@ use super::Faulty;
 use helvemoik_compare::boundary::*;
 use helvemoik_compare::engine::Engine;
 use helvemoik_compare::plain::Plain;
+use helvemoik_compare::value::{packed, yielded};
+use reference::spelled::spelled_out;
 
 impl Faulty {
     /// The policy value as an engine with this fault sees it.
@@ -85,7 +87,7 @@ fn refill<T: Copy + Default>(places: &mut [T], entries: &[T]) -> usize {
 }
 
 /// A valid policy with something changed that leaves it valid; another as it is.
-fn changed(policy: &PackedPolicy, change: impl Fn(&mut PackedPolicy)) -> PackedPolicy {
+pub fn changed(policy: &PackedPolicy, change: impl Fn(&mut PackedPolicy)) -> PackedPolicy {
     let mut changed = *policy;
     if Plain.valid(policy) {
         change(&mut changed);
@@ -124,4 +126,17 @@ pub fn all_of(policy: &PackedPolicy, action: u32) -> PackedPolicy {
         pairs.dedup();
         *count = refill(entries, &pairs);
     })
+}
+
+/// With dominance by places alone; as it is where the seniors that hold do not fit in.
+pub fn by_places(policy: &PackedPolicy) -> PackedPolicy {
+    let spelled = yielded(policy).map(|policy| {
+        let mut spelled = spelled_out(&policy);
+        spelled.pairs.sort();
+        spelled.pairs.dedup();
+        packed(&spelled)
+    });
+    spelled
+        .filter(|spelled| Plain.valid(spelled))
+        .unwrap_or(*policy)
 }
