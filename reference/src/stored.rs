@@ -20,13 +20,9 @@ const SEED: u64 = 3;
 const CASES: u64 = 700;
 /// The most bytes of a file; a case larger than that is left out.
 const FILE: usize = 65_536;
-/// A little less for these files: so they keep their cases where answers got
-/// shorter.
-const WITHOUT_PAIRS: usize = 65_380;
-const ABOUT_CONFLICTS: usize = 65_480;
 /// A case of at most so many bytes is always taken, and larger ones up to a sum.
 const SMALL: usize = 2_400;
-const LARGE_SUM: usize = 348_000;
+const LARGE_SUM: usize = 350_000;
 /// A large case that is always taken: sets of it share labels only because `d`
 /// follows seniority.
 const ALIKE_BY_SENIORITY: u64 = 690;
@@ -90,16 +86,14 @@ const EDGES: [(&str, &str, &str); 16] = [
 pub fn files() -> Vec<Vec<u8>> {
     let mut files = vec![examples()];
     files.extend(without_pairs());
-    files.push(about(cases::text_without_conflicts, FILE, |text| {
+    files.push(about(cases::text_without_conflicts, |text| {
         much_of("pair", text, much_by_pairs)
     }));
     files.push(wrong::file());
-    files.push(about(
-        cases::text_without_dominance,
-        ABOUT_CONFLICTS,
-        |text| much_of("conflict", text, much_by_conflicts),
-    ));
-    files.push(about(cases::text, FILE, |text| {
+    files.push(about(cases::text_without_dominance, |text| {
+        much_of("conflict", text, much_by_conflicts)
+    }));
+    files.push(about(cases::text, |text| {
         read(text).is_ok_and(|policy| a_senior_decides(&policy))
     }));
     files
@@ -129,19 +123,19 @@ fn without_pairs() -> Vec<Vec<u8>> {
             large += lines.len();
         }
         match files.last_mut() {
-            Some(file) if file.len() + lines.len() <= WITHOUT_PAIRS => file.extend(lines),
+            Some(file) if file.len() + lines.len() <= FILE => file.extend(lines),
             _ => files.push(lines),
         }
     }
     files
 }
 
-/// The first small cases with a text that is wanted, as many as have room in a file.
-fn about(text: Making, room: usize, wanted: impl Fn(&[u8]) -> bool) -> Vec<u8> {
+/// The first small cases with a text that is wanted, as many as fit into a file.
+fn about(text: Making, wanted: impl Fn(&[u8]) -> bool) -> Vec<u8> {
     let mut file = Vec::new();
     for case in 0..CASES {
         let (text, lines) = made(text, case);
-        if lines.len() <= SMALL && file.len() + lines.len() <= room && wanted(&text) {
+        if lines.len() <= SMALL && file.len() + lines.len() <= FILE && wanted(&text) {
             file.extend(lines);
         }
     }
