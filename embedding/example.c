@@ -1,6 +1,6 @@
 /*
  * A screen's day: the hall's card is read, its policy compiled, and a member of staff opens a session, works and
- * closes it. At noon the card gains a pair, and in the evening a conflict.
+ * closes it. At noon the card gains a pair, and in the evening a conflict; the next morning there is another card.
  *
  * usage: example FILE, where FILE is a policy text such as examples/front-desk.txt.
  */
@@ -114,6 +114,22 @@ static void gain_conflict(size_t length) {
     took("close 2 5", helvemoik_close(board, policy, 2, 5));
 }
 
+/* Three clearances, each senior to the one before: `d` grants to a senior too, `q` only at the same places. */
+static void next_card(void) {
+    static const uint8_t text[] = "policy,1\nuattr,3\noattr,3\nusen,1,0\nusen,2,1\n"
+                                  "user,0,4\nobject,0,3\nobject,1,4\nrule,0,d00\nrule,1,q00\nend\n";
+    policy = helvemoik_read(text, sizeof text - 1).policy;
+    compile();
+    decide(0, 4, 1);
+    decide(0, 1, 4);
+    board = helvemoik_fresh();
+    took("open 0 5 4", helvemoik_open(board, policy, 0, 5, 4));
+    request(5, 0, 0);
+    request(5, 1, 0);
+    request(5, 1, 1);
+    took("close 0 5", helvemoik_close(board, policy, 0, 5));
+}
+
 int main(int argc, char **argv) {
     size_t length = argc > 1 ? load(argv[1]) : 0;
     struct helvemoik_reading reading = helvemoik_read(card, length);
@@ -149,6 +165,7 @@ int main(int argc, char **argv) {
     request(5, 0, 0);
     gain_pair(length);
     gain_conflict(length);
+    next_card();
 
     /* A word that no policy has: check 11 refuses the policy. */
     policy.rules.entries[0].words[0] = 9 * 65536;
