@@ -8,7 +8,7 @@ pub enum Holding {
     Object(u8),
 }
 
-// A user attribute and an object attribute: each place held in the second is held in the first, or the same places are.
+// A user attribute and an object attribute: the first covers each place held in the second, or both hold the same.
 pub enum Comparison {
     Dominates(u8, u8),
     Equals(u8, u8),
