@@ -1,12 +1,14 @@
 -- The limits of a form are within the most of any form, and its number is short.
 use Prim.Native.Nat.{ℕ, _^_, _≤_, _<_}
-use mathlib.Core.Path.{_≡_}
-use mathlib.Core.Bool.{true}
+use mathlib.Core.Path.{_≡_, refl}
+use mathlib.Core.Bool.{Bool, true, false, cond, _||_}
+use mathlib.Core.Logic.{⊎-elim}
 use native.Mathlib.Omega.{arith}
-use lib.Dec.{lit≤}
+use lib.Dec.{eqb, lit≤}
 use borrow.Author.Tests.{eqb-true}
+use Rattle.basis.proofs.Bools.{or-cases}
 use Rattle.text.specs.Number.{mostDigits}
-use Rattle.policy.specs.Limits.{isForm, values, actions, mostValues, mostActions}
+use Rattle.policy.specs.Limits.{isForm, values, actions, bits, storedWidths, mostValues, mostActions}
 
 pub values-most : (form : ℕ) → values form ≤ mostValues
 unfolding values
@@ -14,7 +16,21 @@ values-most form = lit≤ tt
 
 pub actions-most : (form : ℕ) → actions form ≤ mostActions
 unfolding actions
-actions-most form = lit≤ tt
+actions-most form = most (eqb form 1)
+  where
+    most : (b : Bool) → cond b 8 16 ≤ mostActions
+    most true = lit≤ tt
+    most false = lit≤ tt
+
+-- an entry has a bit for each action
+pub actions-stored : (form : ℕ) → actions form ≤ storedWidths form .entry
+unfolding actions storedWidths
+actions-stored form = stored (eqb form 1)
+  where
+    stored : (b : Bool) → cond b 8 16 ≤ cond b (bits 8 8) (bits 8 16) .entry
+    stored true = lit≤ tt
+    stored false = lit≤ tt
 
 pub form-few : (form : ℕ) → isForm form ≡ true → form < 10 ^ mostDigits
-form-few form e = omega (arith, eqb-true form 1 e)
+form-few form e =
+    ⊎-elim (λ h. omega (arith, eqb-true form 1 h)) (λ h. omega (arith, eqb-true form 2 h)) (or-cases (eqb form 1) (eqb form 2) e)

@@ -1,7 +1,8 @@
 -- The limits of documents 01 and 02, each in one place; whatever else is bounded is bounded by these, by name.
 use Prim.Native.Nat.{ℕ, _*_, _-_, _/_, _^_}
-use mathlib.Core.Bool.{Bool}
+use mathlib.Core.Bool.{Bool, cond, _&&_, _||_}
 use lib.Dec.{eqb}
+use Rattle.policy.specs.declared.limits.Widths.{Widths}
 
 -- "The text is longer than 8,192 bytes."
 abbrev pub textBytes : ℕ
@@ -9,24 +10,37 @@ textBytes = 8192
 
 -- ---- by form
 
--- "`policy,1`: the form's number"
+-- "`policy,1`: the form's number", and document 02: "A text beginning `policy,2`"
 abbrev pub isForm : ℕ → Bool
-isForm form = eqb form 1
+isForm form = eqb form 1 || eqb form 2
 
 -- "Each W is 1 to 7; U, the sum of the W, is 1 to 7": the greatest width and sum of a side in a text of this form
 unfoldable pub values : ℕ → ℕ
 values form = 7
 
--- "the formula of action A, 0 to 7": how many actions a text of this form has
+-- "the formula of action A, 0 to 7", to which "a `policy,1` text keeps"; "a text beginning `policy,2` may have actions 0
+-- to 15": how many actions a text of this form has
 unfoldable pub actions : ℕ → ℕ
-actions form = 8
+actions form = cond (eqb form 1) 8 16
+
+-- in how many bits a label is stored, and a table's entry
+abbrev pub bits : ℕ → ℕ → Widths
+bits label entry = record { label = label; entry = entry }
+
+-- "three byte buffers"; "table entries are 16 bits wide. A `policy,1` text keeps byte tables": the stored widths of a form
+unfoldable pub storedWidths : ℕ → Widths
+storedWidths form = cond (eqb form 1) (bits 8 8) (bits 8 16)
+
+-- a call is made for these widths, and they are not "stored widths other than those of the policy's form"
+unfoldable pub ownWidths : ℕ → Widths → Bool
+ownWidths form w = eqb (w .label) (storedWidths form .label) && eqb (w .entry) (storedWidths form .entry)
 
 -- the most of any form, for which arrays have places; the laws `values-most` and `actions-most` say so
 abbrev pub mostValues : ℕ
 mostValues = 7
 
 abbrev pub mostActions : ℕ
-mostActions = 8
+mostActions = 16
 
 -- ---- of every form
 

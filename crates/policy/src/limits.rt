@@ -6,17 +6,21 @@ ghost use Rattle.policy.specs.Limits as limits;
 // The most bytes of a text.
 pub const TEXT_BYTES: usize = 8192;
 
-// The one form, with the greatest sum of a side and the number of its actions.
-const FORM: u32 = 1;
+// The forms. All have the same greatest sum of a side; the second has more actions.
+const FORM_1: u32 = 1;
+
+const FORM_2: u32 = 2;
 
 const FORM_VALUES: u32 = 7;
 
-const FORM_ACTIONS: u32 = 8;
+const FORM_1_ACTIONS: u32 = 8;
+
+const FORM_2_ACTIONS: u32 = 16;
 
 // The most of any form, for which arrays have places.
 pub const MOST_VALUES: usize = 7;
 
-pub const MOST_ACTIONS: usize = 8;
+pub const MOST_ACTIONS: usize = 16;
 
 pub const USER_NUMBERS: u32 = 32;
 
@@ -43,10 +47,19 @@ pub const MOST_TUPLES: usize = MOST_SETS * MOST_SETS;
 // The most seniority lines of a side: one for each two values.
 pub const MOST_LINES: usize = MOST_VALUES * (MOST_VALUES - 1) / 2;
 
+// In how many bits a label is stored, and a table's entry.
+pub struct Widths {
+    pub label: u32,
+    pub entry: u32,
+}
+
 pub fn is_form(form: u32) -> bool
     ensures { λ r. ⌜ r ≡ limits.isForm form ⌝ }
 {
-    form == FORM
+    if form == FORM_1 {
+        return true;
+    }
+    form == FORM_2
 }
 
 // The greatest width and sum of a side.
@@ -59,5 +72,34 @@ pub fn values(form: u32) -> u32
 pub fn actions(form: u32) -> u32
     ensures { λ r. ⌜ r ≡ limits.actions form ⌝ }
 {
-    FORM_ACTIONS
+    if form == FORM_1 {
+        FORM_1_ACTIONS
+    } else {
+        FORM_2_ACTIONS
+    }
+}
+
+// The stored widths of a form.
+fn stored_widths(form: u32) -> Widths
+    ensures { λ r. ⌜ r ≡ limits.storedWidths form ⌝ }
+{
+    if form == FORM_1 {
+        Widths { label: 8, entry: 8 }
+    } else {
+        Widths {
+            label: 8,
+            entry: 16,
+        }
+    }
+}
+
+// Whether a call that is made for these widths is made for the form's own.
+pub fn own_widths(form: u32, asked: Widths) -> bool
+    ensures { λ r. ⌜ r ≡ limits.ownWidths form asked ⌝ }
+{
+    let own = stored_widths(form);
+    if asked.label == own.label {
+        return asked.entry == own.entry;
+    }
+    false
 }
