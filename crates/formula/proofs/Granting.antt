@@ -1,23 +1,21 @@
--- What rules say of an action, going from one to the next, and the entry of one lane, summed bit by bit.
-use Prim.Native.Nat.{ℕ, suc, _+_, _*_, _^_, _%_, _≤_, _<_}
+-- What rules say of an action, going from one to the next.
+use Prim.Native.Nat.{ℕ, _+_, _≤_, _<_}
 use mathlib.Core.Path.{_≡_, refl, sym, ap, _∙_, subst}
 use mathlib.Core.Bool.{Bool, true, false, cond}
 use mathlib.Core.List.{List, [], _∷_, map, List·Memᴰ, List·Memᴰ·head, List·Memᴰ·tail}
 use mathlib.Core.Option.{Option, some}
-use native.Mathlib.Nat.{lt-of-lt-of-le, one-mul, pow-suc}
-use native.Mathlib.Numerals.{add-one}
+use native.Mathlib.Nat.{lt-of-lt-of-le}
 use native.Mathlib.Decide.{ℕ-discrete}
 use native.Mathlib.Omega.{arith}
-use lib.Dec.{eqb, lit<}
+use lib.Dec.{eqb}
 use lib.ListN.{length, getD, set, take, drop, replicate, getD-replicate}
-use lib.Pow.{pow-mono, shl-exact}
 use lib.Seq.{getD-set-same, getD-set-other}
 use borrow.Author.Tests.{eq-eqb, ne-eqb}
 use Rattle.basis.specs.Choice.{given, there}
 use Rattle.basis.proofs.Places.{taken-in}
 use Rattle.basis.proofs.Walk.{part-next}
-use Rattle.sets.specs.Set.{has, setOf}
-use Rattle.sets.proofs.Laws.{has-zero, setOf-lt}
+use Rattle.sets.specs.Set.{has}
+use Rattle.sets.proofs.Laws.{has-zero}
 use Rattle.words.specs.declared.Word.{Word}
 use Rattle.policy.specs.Policy.{Policy, formulaIn}
 use Rattle.policy.specs.Value.{ruleOf, rulesOf, wordsIn}
@@ -26,7 +24,6 @@ use Rattle.policy.specs.declared.value.RuleValue.{RuleValue}
 use Rattle.policy.specs.declared.value.Rules.{Rules}
 use Rattle.policy.proofs.Forms.{actions-most}
 use Rattle.formula.specs.Truth.{Sets, run, truth}
-use Rattle.formula.specs.Inner.Lane.{entryBits}
 use Rattle.formula.specs.Inner.Fits.{RuleFits, RulesFit}
 use Rattle.formula.specs.Inner.Grant.{ruleTrue, GrantsOf}
 use Rattle.formula.specs.declared.grant.Grants.{Grants}
@@ -141,15 +138,3 @@ says-next p s rs n i h l f vectors x k m e old =
     set-seen (λ a y. a < mostActions → has y k ≡ outcome p s (drop i (take n rs)) a) vectors (r .action) x (omega (arith, f .action, m))
     (λ b. e ∙ outcome-found p s rs n i (r .action) h l refl)
     (λ a q b. old a b ∙ outcome-passed p s rs n i a h l q)
-
--- ---- entries
-
-pub bit-fits : (f : ℕ → Bool) (a : ℕ) → a < mostActions → setOf f a + 2 ^ a < 2 ^ entryBits
-bit-fits f a h = let l : suc a ≤ entryBits = omega arith in omega (arith, setOf-lt f a, pow-suc 2 a, pow-mono l)
-
-pub bit-shifted : (a : ℕ) → a < mostActions → (1 * 2 ^ a) % 2 ^ entryBits ≡ 2 ^ a
-bit-shifted a h = shl-exact 1 a entryBits (lit< tt) (omega arith) ∙ one-mul (2 ^ a)
-
-pub setOf-next : (f : ℕ → Bool) (a : ℕ) → setOf f (a + 1) ≡ setOf f a + cond (f a) (2 ^ a) 0
-unfolding setOf
-setOf-next f a = rw (add-one a)

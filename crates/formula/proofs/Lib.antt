@@ -2,6 +2,7 @@ pub mod Widths
 pub mod Vectors
 pub mod Stack
 pub mod Granting
+pub mod Grouping
 pub mod Pairing
 pub mod Numbering
 pub mod Checked

@@ -2,4 +2,5 @@
 pub mod Lane
 pub mod Fits
 pub mod Grant
+pub mod Group
 pub mod Source

@@ -1,5 +1,5 @@
 // Where every action is granted among 64 pairs of sets, and the same as table entries.
-ghost use Prim.Native.Nat.{ℕ, _<_};
+ghost use Prim.Native.Nat.{ℕ, _+_, _≤_, _<_};
 ghost use mathlib.Core.Path.{_≡_};
 ghost use mathlib.Core.Bool.{false, _&&_, _||_};
 ghost use lib.Dec.{eqb};
@@ -15,6 +15,7 @@ ghost use Rattle.formula.specs.Truth.{Sets, truth as trueAt, pairHolds};
 ghost use Rattle.formula.specs.Inner.Fits.{RulesFit, PairsFit};
 ghost use Rattle.formula.specs.Inner.Grant.{GrantsOf};
 ghost use Rattle.formula.specs.Inner.Lane.{lanes, AttributesOf, InLane};
+ghost use Rattle.formula.specs.Inner.Group.{groupSize, grouped};
 use crate::attributes::Attributes;
 use crate::grant;
 use crate::grant::Grants;
@@ -90,17 +91,32 @@ pub fn of_lanes(
     )
 }
 
-// The table entry of lane k: bit a is set where action a is granted. The loop goes over as many actions as any form
-// has, so that the compiler knows how many.
-pub fn entry(granted: &[u64; MOST_ACTIONS], k: usize) -> u8
-    requires { ⌜ k < lanes ⌝ }
-    ensures { λ r. ⌜ r ≡ setOf (λ a. has (getD (now (granted .entry)) a 0) k) mostActions ⌝ }
+// Entries are worked out eight actions at a time, so that the compiler knows how many.
+const GROUP: usize = 8;
+
+// Which of the eight actions from one on are granted in lane k, the first at bit 0.
+fn group(granted: &[u64; MOST_ACTIONS], from: usize, k: usize) -> u16
+    requires { ⌜ (from + groupSize ≤ mostActions) × (k < lanes) ⌝ }
+    ensures { λ r. ⌜ r ≡ setOf (λ a. has (getD (now (granted .entry)) (from + a) 0) k) groupSize ⌝ }
 {
-    let mut r: u8 = 0;
-    for a in 0..MOST_ACTIONS {
-        if (granted[a] >> k) % 2 == 1 {
+    let mut r: u16 = 0;
+    for a in 0..GROUP {
+        if (granted[from + a] >> k) % 2 == 1 {
             r += 1 << a;
         }
     }
     r
+}
+
+// The table entry of lane k: bit a is set where action a is granted. Past so many actions none is, and the groups behind
+// them are not looked at.
+pub fn entry(granted: &[u64; MOST_ACTIONS], actions: u32, k: usize) -> u16
+    requires { ⌜ k < lanes ⌝ }
+    ensures { λ r. ⌜ r ≡ setOf (λ a. has (getD (now (granted .entry)) a 0) k) (grouped actions) ⌝ }
+{
+    let low = group(granted, 0, k);
+    if actions <= GROUP as u32 {
+        return low;
+    }
+    low + (group(granted, GROUP, k) << GROUP)
 }

@@ -23,6 +23,8 @@ use Rattle.policy.proofs.Forms.{actions-most}
 use Rattle.formula.specs.Truth.{Sets, at, grants}
 use Rattle.formula.specs.Inner.Grant.{GrantsOf}
 use Rattle.formula.specs.declared.grant.Grants.{Grants}
+use Rattle.formula.specs.Inner.Group.{grouped}
+use Rattle.formula.proofs.Grouping.{grouped-all, grouped-most}
 use Rattle.formula.proofs.Pairing.{grants-past}
 use Rattle.labels.specs.Compile.{entryOf}
 use Rattle.labels.specs.Compile.{likeUsers}
@@ -39,15 +41,17 @@ setOf-within f g n m h same past =
       | no b ↦ has-setOf-none g n v (omega arith) ∙ sym (same v l ∙ past v (omega arith))
     ])
 
--- the entry of lane k, from the vectors of all actions
-abbrev pub laneEntry : List ℕ → ℕ → ℕ
-laneEntry vectors k = setOf (λ a. has (getD vectors a 0) k) mostActions
+-- the entry of lane k, from the vectors of all actions, where there are n
+abbrev pub laneEntry : List ℕ → ℕ → ℕ → ℕ
+laneEntry vectors n k = setOf (λ a. has (getD vectors a 0) k) (grouped n)
 
 pub lane-entry : (p : Policy) (g : Grants) → GrantsOf p g → (vectors : List ℕ) (k : ℕ) (s : Sets)
-    → ((a : ℕ) → a < mostActions → has (getD vectors a 0) k ≡ grants p a s) → laneEntry vectors k ≡ entryOf p s
+    → ((a : ℕ) → a < mostActions → has (getD vectors a 0) k ≡ grants p a s) → laneEntry vectors (actions (p .form)) k ≡ entryOf p s
 unfolding entryOf
 lane-entry p g x vectors k s h =
-    setOf-within _ (λ a. grants p a s) (actions (p .form)) mostActions (actions-most (p .form)) h (λ a l. grants-past p s g a x l)
+    let n = actions (p .form) in
+    setOf-within _ (λ a. grants p a s) n (grouped n) (grouped-all n (actions-most (p .form)))
+    (λ a l. h a (lt-of-lt-of-le l (grouped-most n))) (λ a l. grants-past p s g a x l)
 
 -- ---- the first action at which two entries differ
 

@@ -1,7 +1,9 @@
--- Compiling: "three byte buffers: 2^U user labels, 2^O object labels, and a table of NU × NO bytes".
+-- Compiling: "three byte buffers: 2^U user labels, 2^O object labels, and a table of NU × NO bytes"; in later forms the
+-- buffers have other widths. Over the widths of a label and of an entry, whatever they are, and over the number of
+-- actions of the form.
 use Prim.Native.Nat.{ℕ, _+_, _*_, _/_, _%_}
 use mathlib.Core.Path.{_≡_}
-use mathlib.Core.Bool.{Bool, not, _||_}
+use mathlib.Core.Bool.{Bool, not, _&&_, _||_}
 use mathlib.Core.List.{List, [], _∷_}
 use lib.Dec.{ltb}
 use lib.ListN.{length, getD}
@@ -9,11 +11,12 @@ use Rattle.basis.specs.Choice.{given, Result, gives, refuses, Check, check, fir
 use Rattle.basis.specs.Lists.{over}
 use Rattle.basis.specs.Numbers.{upTo}
 use Rattle.sets.specs.Set.{has, setOf}
-use Rattle.policy.specs.Limits.{actions}
+use Rattle.policy.specs.Limits.{actions, ownWidths}
 use Rattle.policy.specs.Policy.{Policy, sets}
 use Rattle.policy.specs.Value.{policyOf}
 use Rattle.policy.specs.Valid.{valid}
 use Rattle.policy.specs.Answers.{numberOf}
+use Rattle.policy.specs.declared.limits.Widths.{Widths}
 use Rattle.policy.specs.declared.value.PolicyValue.{PolicyValue}
 use Rattle.formula.specs.Truth.{Sets, at, grants}
 use Rattle.labels.specs.Labels.{label, labelCount, leader}
@@ -54,7 +57,7 @@ entryOf p s = setOf (λ a. grants p a s) (actions (p .form))
 unfoldable pub entry : Policy → ℕ → ℕ → ℕ
 entry p ul ol = entryOf p (at (leader (likeUsers p) (sets (p .user)) ul) (leader (likeObjects p) (sets (p .object)) ol))
 
--- the three results; "byte at ul × NO + ol"
+-- the three results; "byte at ul × NO + ol", or an entry of another width
 unfoldable pub userResult : Policy → List ℕ
 userResult p = upTo (userLabel p) (sets (p .user))
 
@@ -64,14 +67,15 @@ objectResult p = upTo (objectLabel p) (sets (p .object))
 unfoldable pub tableResult : Policy → List ℕ
 tableResult p = upTo (λ i. entry p (i / NO p) (i % NO p)) (NU p * NO p)
 
--- the three lent buffers
+-- the three lent buffers, and the widths of what they store: those that the call is made for
 pub record Buffers : Type 0 where
+  pub widths : Widths
   pub users : List ℕ
   pub objects : List ℕ
   pub table : List ℕ
 
-abbrev pub lent : List ℕ → List ℕ → List ℕ → Buffers
-lent us os ts = record { users = us; objects = os; table = ts }
+abbrev pub lent : Widths → List ℕ → List ℕ → List ℕ → Buffers
+lent w us os ts = record { widths = w; users = us; objects = os; table = ts }
 
 -- "The compiled labelling is these labels with this table, read by its bits": what stands in the three buffers, with NO
 -- entries to a row of the table.
@@ -89,9 +93,14 @@ tooShort p b =
     ltb (length (b .users)) (length (userResult p))
     || (ltb (length (b .objects)) (length (objectResult p)) || ltb (length (b .table)) (length (tableResult p)))
 
+-- 11: the policy value is not what reading some accepted text yields, or "a call made for stored widths other than those
+-- of the policy's form"
+abbrev pub fitsWidths : PolicyValue → Buffers → Bool
+fitsWidths v b = valid v && ownWidths (v .form) (b .widths)
+
 -- "It returns NU and NO (refusals 11, 20)."
 abbrev pub compileChecks : PolicyValue → Buffers → List Check
-compileChecks v b = check 11 (not (valid v)) ∷ check 20 (tooShort (policyOf v) b) ∷ []
+compileChecks v b = check 11 (not (fitsWidths v b)) ∷ check 20 (tooShort (policyOf v) b) ∷ []
 
 -- what the code's answer stands for
 abbrev pub stored : Compiled → Result Counts
@@ -103,7 +112,8 @@ compile v b = unlessRefused (compileChecks v b) (counts (policyOf v))
 
 -- "what lies past a result in a longer buffer stays"
 abbrev pub filled : Policy → Buffers → Buffers
-filled p b = lent (over (userResult p) (b .users)) (over (objectResult p) (b .objects)) (over (tableResult p) (b .table))
+filled p b =
+    lent (b .widths) (over (userResult p) (b .users)) (over (objectResult p) (b .objects)) (over (tableResult p) (b .table))
 
 -- the buffers afterwards; a refusal changes nothing
 unfoldable pub compileBuffers : PolicyValue → Buffers → Buffers

@@ -1,4 +1,4 @@
--- Two rows of entries: "unlike as soon as one object set's byte differs".
+-- Two rows of entries: "unlike as soon as one object set's byte differs", or entry of another width.
 use Prim.Native.Nat.{ℕ}
 use mathlib.Core.Bool.{Bool, not}
 use lib.Dec.{eqb}

@@ -19,6 +19,7 @@ use crate::grid::View;
 use crate::sorts;
 use crate::sorts::ObjectClasses;
 use crate::sorts::UserClasses;
+use crate::tables;
 use policy::limits::MOST_TUPLES;
 use policy::refusal::Refusal;
 
@@ -48,8 +49,10 @@ fn put_object_labels(buffer: &mut [u8], objects: ObjectClasses, n: usize)
 
 // Puts the table at the start of a lent buffer: at two labels, the entry of their leaders.
 fn put_table(
-    buffer: &mut [u8],
-    grid: &[u8; MOST_TUPLES],
+    entry: u32,
+    bytes: &mut [u8],
+    wide: &mut [u16],
+    grid: &[u16; MOST_TUPLES],
     view: View,
     users: UserClasses,
     objects: ObjectClasses,
@@ -72,18 +75,21 @@ fn put_table(
             let o = grid::wide(object_leaders[l as usize]);
             let ol = sorts::object_label(&object_labels, o);
             let at = crate::place(ul, ol, no);
-            buffer[at] = grid::entry(grid, view, u, o);
+            let x = grid::entry(grid, view, u, o);
+            tables::put(entry, bytes, wide, at, x);
         }
     }
 }
 
 // The labels of a valid policy's grid and their table, into the three buffers if these are long enough.
 pub fn store(
-    grid: &[u8; MOST_TUPLES],
+    grid: &[u16; MOST_TUPLES],
     view: View,
+    entry: u32,
     users: &mut [u8],
     objects: &mut [u8],
-    table: &mut [u8],
+    bytes: &mut [u8],
+    wide: &mut [u16],
 ) -> Compiled
     requires { ⌜ Inside view ⌝ }
     ensures { λ r. ⌜ ((v : PolicyValue) → valid v ≡ true → GridOf (policyOf v) (now (grid .entry)) view → Compiles v (lent (now (users .entry)) (now (objects .entry)) (now (table .entry))) r (lent (now (users .exit)) (now (objects .exit)) (now (table .exit)))) ⌝ }
@@ -99,7 +105,7 @@ pub fn store(
         return Compiled::Refused(Refusal::BufferTooShort);
     }
     let places = nu * no;
-    if table.len() < places {
+    if tables::length(entry, bytes, wide) < places {
         return Compiled::Refused(Refusal::BufferTooShort);
     }
     let counts = Counts {
@@ -110,6 +116,6 @@ pub fn store(
     put_user_labels(users, user, view.rows);
     let object = ObjectClasses(columns);
     put_object_labels(objects, object, view.columns);
-    put_table(table, grid, view, user, object, counts);
+    put_table(entry, bytes, wide, grid, view, user, object, counts);
     Compiled::Stored(counts)
 }

@@ -19,7 +19,7 @@ pub struct Classes {
 
 // The first of `count` labels whose leader is like row u, or `count` where none is.
 fn label_of(
-    grid: &[u8; MOST_TUPLES],
+    grid: &[u16; MOST_TUPLES],
     view: View,
     leaders: &[u8; MOST_SETS],
     count: usize,
@@ -41,7 +41,7 @@ fn label_of(
     count
 }
 
-pub fn classify(grid: &[u8; MOST_TUPLES], view: View) -> Classes
+pub fn classify(grid: &[u16; MOST_TUPLES], view: View) -> Classes
     requires { ⌜ Inside view ⌝ }
     ensures { λ r. ⌜ Labelled (likeRows (now (grid .entry)) view) (view .rows) (r .labels) (r .leaders) (r .count) ⌝ }
 {

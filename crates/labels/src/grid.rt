@@ -52,7 +52,7 @@ pub fn turned(view: View) -> View
 }
 
 // Fills a grid, which the caller owns because it is large, with the entries of a policy.
-pub fn fill(grid: &mut [u8; MOST_TUPLES], from: Rows, view: View)
+pub fn fill(grid: &mut [u16; MOST_TUPLES], from: Rows, view: View)
     requires { ⌜ ((p : Policy) × RowsOf p from × ViewOf p view) × (length (now grid) ≡ mostTuples) ⌝ }
     ensures { λ _. ⌜ ((p : Policy) → RowsOf p from → ViewOf p view → GridOf p (now (grid .exit)) view) ⌝ }
 {
@@ -74,7 +74,7 @@ pub fn wide(x: u8) -> usize
 }
 
 // The entry in row u and column o.
-pub fn entry(grid: &[u8; MOST_TUPLES], view: View, u: usize, o: usize) -> u8
+pub fn entry(grid: &[u16; MOST_TUPLES], view: View, u: usize, o: usize) -> u16
     requires { ⌜ Inside view × (u < view .rows) × (o < view .columns) ⌝ }
     ensures { λ r. ⌜ r ≡ cell (now (grid .entry)) view u o ⌝ }
 {

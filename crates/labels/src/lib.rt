@@ -9,9 +9,12 @@ mod classify;
 mod grid;
 mod rows;
 mod sorts;
+mod tables;
 mod telling;
 
+use policy::limits;
 use policy::limits::MOST_TUPLES;
+use policy::limits::Widths;
 use policy::refusal::Refusal;
 use policy::value::PolicyValue;
 
@@ -52,25 +55,73 @@ pub fn place(user: UserLabel, object: ObjectLabel, objects: u32) -> usize
     user.0 as usize * objects as usize + object.0 as usize
 }
 
-// Fills the three lent buffers with the user labels, the object labels and the table of a policy.
-pub fn compile(
+// Fills the lent buffers with the user labels, the object labels and the table of a policy. Of the two that a table may
+// be lent as, the one of these widths is the table.
+fn compile(
     policy: PolicyValue,
+    widths: Widths,
     users: &mut [u8],
     objects: &mut [u8],
-    table: &mut [u8],
+    bytes: &mut [u8],
+    wide: &mut [u16],
 ) -> Compiled
-    ensures { λ r. ⌜ Compiles policy (lent (now (users .entry)) (now (objects .entry)) (now (table .entry))) r (lent (now (users .exit)) (now (objects .exit)) (now (table .exit))) ⌝ }
 {
     if !validity::check(policy) {
+        return Compiled::Refused(Refusal::InvalidState);
+    }
+    if !limits::own_widths(policy.form, widths) {
         return Compiled::Refused(Refusal::InvalidState);
     }
     let from = rows::rows_of(policy);
     let source = from.source;
     let sides = source.sides;
     let view = grid::view_of(sides);
-    let mut entries = [0u8; MOST_TUPLES];
+    let mut entries = [0u16; MOST_TUPLES];
     grid::fill(&mut entries, from, view);
-    buffers::store(&entries, view, users, objects, table)
+    buffers::store(&entries, view, widths.entry, users, objects, bytes, wide)
+}
+
+// Fills the three lent buffers, labels and table in bytes, of a policy whose form has these widths.
+pub fn compile_8_8(
+    policy: PolicyValue,
+    users: &mut [u8],
+    objects: &mut [u8],
+    table: &mut [u8],
+) -> Compiled
+    ensures { λ r. ⌜ Compiles policy (lent (bits 8 8) (now (users .entry)) (now (objects .entry)) (now (table .entry))) r (lent (bits 8 8) (now (users .exit)) (now (objects .exit)) (now (table .exit))) ⌝ }
+{
+    let mut none = [0u16; 0];
+    compile(
+        policy,
+        Widths { label: 8, entry: 8 },
+        users,
+        objects,
+        table,
+        &mut none,
+    )
+}
+
+// The same with labels in bytes and a table of 16-bit entries.
+pub fn compile_8_16(
+    policy: PolicyValue,
+    users: &mut [u8],
+    objects: &mut [u8],
+    table: &mut [u16],
+) -> Compiled
+    ensures { λ r. ⌜ Compiles policy (lent (bits 8 16) (now (users .entry)) (now (objects .entry)) (now (table .entry))) r (lent (bits 8 16) (now (users .exit)) (now (objects .exit)) (now (table .exit))) ⌝ }
+{
+    let mut none = [0u8; 0];
+    compile(
+        policy,
+        Widths {
+            label: 8,
+            entry: 16,
+        },
+        users,
+        objects,
+        &mut none,
+        table,
+    )
 }
 
 // Whether no action and no object set tells two user sets apart, or else some that do: the lowest object set, and at it

@@ -18,7 +18,7 @@ use policy::limits::MOST_ACTIONS;
 const ACTIONS: u32 = MOST_ACTIONS as u32;
 
 // The first action that one of two entries has and the other lacks, or ACTIONS where there is none.
-fn first_action(x: u8, y: u8) -> u32
+fn first_action(x: u16, y: u16) -> u32
     ensures { λ r. ⌜ r ≡ firstAction x y ⌝ }
 {
     for a in 0..ACTIONS {

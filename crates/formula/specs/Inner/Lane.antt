@@ -83,4 +83,4 @@ column stack (suc d) k = has (getD stack d 0) k ∷ column stack d k
 
 -- the width of a table entry, which has a bit for each action
 abbrev pub entryBits : ℕ
-entryBits = 8
+entryBits = 16

@@ -5,7 +5,7 @@ use mathlib.Core.List.{List}
 use lib.ListN.{getD}
 use Rattle.basis.specs.Numbers.{first, agree}
 use Rattle.sets.specs.Set.{has}
-use Rattle.policy.specs.Limits.{mostActions}
+use Rattle.policy.specs.Limits.{actions, mostActions}
 use Rattle.policy.specs.Policy.{Policy}
 use Rattle.formula.specs.Inner.Grant.{GrantsOf}
 use Rattle.formula.specs.Inner.Source.{SourceOf}
@@ -14,6 +14,7 @@ use Rattle.labels.specs.declared.rows.Rows.{Rows}
 pub record RowsOf (p : Policy) (x : Rows) : Type 0 where
   pub source : SourceOf p (x .source)
   pub grants : GrantsOf p (x .grants)
+  pub actions : x .actions ≡ actions (p .form)
 
 -- the entry in column o of a row
 abbrev pub entryAt : List ℕ → ℕ → ℕ

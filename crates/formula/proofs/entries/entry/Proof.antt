@@ -1,85 +1,52 @@
--- `formula::entries::entry` meets its contract: r has the bits of the actions below a.
-use Prim.Native.Nat.{ℕ, _-_, _≤_, _<_}
-use mathlib.Core.Path.{_≡_, refl}
+-- `formula::entries::entry` meets its contract: one group of actions, or two.
+use Prim.Native.Nat.{ℕ}
 use mathlib.Core.Bool.{Bool}
-use mathlib.Core.Logic.{⊎-elim}
+use borrow.Author.Needs.{needs}
 use native.Mathlib.Omega.{arith}
 use lib.ListN.{getD}
-use borrow.Author.Tests.{eq-eqb, ne-eqb}
-use borrow.Author.Needs.{needs}
-use Rattle.sets.specs.Set.{has, setOf}
-use Rattle.policy.specs.Limits.{mostActions}
-use Rattle.formula.proofs.Granting.{bit-fits, bit-shifted, setOf-next}
+use Rattle.sets.specs.Set.{has}
+use Rattle.formula.proofs.Grouping.{one-group, two-groups, joined-fits}
 use Rattle.formula.proofs.entries.entry.Statement.{statement}
 use Rattle.formula.proofs.entries.entry.Tie as tie
 
-abbrev Inv-loop : tie.InvT-loop
-Inv-loop granted k r₀ a₀ r a = (a ≤ mostActions) × (r ≡ setOf (λ b. has (getD granted b 0) k) a)
+-- an action is granted in the lane
+abbrev bit : tie.Start → ℕ → Bool
+bit s a = has (getD (s .args .granted .now) a 0) (s .args .k)
 
-abbrev μ-loop : tie.MeasureT-loop
-μ-loop granted k r₀ a₀ r a = mostActions - a
+group-requires : tie.Need-group-requires
+group-requires c κs = search needs
 
-loop-holds : tie.Need-loop-holds Inv-loop μ-loop
-unfolding setOf
-loop-holds c = (omega arith, refl)
+cast-if1 : tie.Need-cast-if1
+cast-if1 c = search needs
 
-mul-if1 : tie.Need-mul-if1 Inv-loop μ-loop
-mul-if1 c = search needs
+returns : tie.Need-returns
+returns c = one-group (bit (c .before .before)) (c .before .group .ensures) _ (c .if1 .taken)
 
-element-copy-out-if1 : tie.Need-element-copy-out-if1 Inv-loop μ-loop
-element-copy-out-if1 c = search needs
+group-requires-2 : tie.Need-group-requires-2
+group-requires-2 c κs = search needs
 
-shr-if1 : tie.Need-shr-if1 Inv-loop μ-loop
-shr-if1 c = search needs
+cast-result : tie.Need-cast-result
+cast-result c = search needs
 
-cast-r : tie.Need-cast-r Inv-loop μ-loop
-cast-r c = search needs
+shl-result : tie.Need-shl-result
+shl-result c = search needs
 
-shl-r : tie.Need-shl-r Inv-loop μ-loop
-shl-r c = search needs
+add-result : tie.Need-add-result
+add-result c =
+    omega (arith, joined-fits (bit (c .before .before .before)) (c .before .before .group .ensures) (c .group2 .ensures))
 
-add-r : tie.Need-add-r Inv-loop μ-loop
-add-r c =
-    let l = c .before .before .before .loop in let b = c .before .before .before .before .args in
-    let h : l .a < mostActions = omega arith in
-    omega (arith, l .inv .1, bit-shifted (l .a) h, bit-fits (λ i. has (getD (b .granted .now) i 0) (b .k)) (l .a) h)
-
-add-a : tie.Need-add-a Inv-loop μ-loop
-add-a c = search needs
-
-loop-less : tie.Need-loop-less Inv-loop μ-loop
-loop-less c = search needs
-
-loop-again : tie.Need-loop-again Inv-loop μ-loop
-loop-again c =
-    let l = c .before .before .before .loop in let b = c .before .before .before .before .args in
-    let f : ℕ → Bool = λ i. has (getD (b .granted .now) i 0) (b .k) in
-    let h : l .a < mostActions = omega arith in (
-      omega arith,
-      rw (setOf-next f (l .a))
-          (⊎-elim
-          (λ t. rw (eq-eqb _ 1 (t .0 .taken)) (omega (arith, t .1, l .inv .1, bit-shifted (l .a) h)))
-          (λ t. rw (ne-eqb _ 1 (t .0 .left)) (omega (arith, t .1, l .inv .1)))
-          (c .if1 .came)),
-    )
-
-returns : tie.Need-returns Inv-loop μ-loop
-returns c = let e : c .before .loop .a ≡ mostActions = omega arith in rw e at (c .before .loop .inv .1)
+returns-2 : tie.Need-returns-2
+returns-2 c = two-groups (bit (c .before .before .before)) (c .before .before .group .ensures) (c .group2 .ensures) _ (c .before .if1 .left)
 
 pub entry-spec : {M : Type 1} → statement M
 entry-spec =
     tie.close
     (tie.spec
-    Inv-loop
-    μ-loop
-    loop-holds
-    mul-if1
-    element-copy-out-if1
-    shr-if1
-    cast-r
-    shl-r
-    add-r
-    add-a
-    loop-less
-    loop-again
-    returns)
+    group-requires
+    cast-if1
+    returns
+    group-requires-2
+    cast-result
+    shl-result
+    add-result
+    returns-2)
