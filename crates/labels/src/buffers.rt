@@ -5,12 +5,13 @@ ghost use mathlib.Core.Bool.{true};
 ghost use lib.ListN.{length, getD};
 ghost use Rattle.basis.specs.Lists.{over};
 ghost use Rattle.basis.specs.Numbers.{upTo};
-ghost use Rattle.policy.specs.Limits.{mostSets};
+ghost use Rattle.policy.specs.Limits.{mostSets, ownWidths};
 ghost use Rattle.policy.specs.Value.{policyOf};
 ghost use Rattle.policy.specs.Valid.{valid};
 ghost use Rattle.policy.specs.declared.value.PolicyValue.{PolicyValue};
 ghost use Rattle.labels.specs.Compile.{lent, Compiles};
-ghost use Rattle.labels.specs.Inner.Grid.{cell, Inside, GridOf, Leading, Puts};
+ghost use Rattle.labels.specs.Inner.Grid.{cell, Inside, Narrow, GridOf, Leading, Puts};
+ghost use Rattle.labels.specs.Inner.Table.{tableIn};
 use crate::Compiled;
 use crate::Counts;
 use crate::classify::classify;
@@ -21,6 +22,7 @@ use crate::sorts::ObjectClasses;
 use crate::sorts::UserClasses;
 use crate::tables;
 use policy::limits::MOST_TUPLES;
+use policy::limits::Widths;
 use policy::refusal::Refusal;
 
 // Puts the labels of the first n user sets at the start of a lent buffer.
@@ -58,9 +60,9 @@ fn put_table(
     objects: ObjectClasses,
     counts: Counts,
 )
-    requires { ⌜ Inside view × (counts .users ≤ mostSets) × (counts .objects ≤ mostSets) × (counts .users * counts .objects ≤ length (now buffer)) ⌝ }
+    requires { ⌜ Inside view × (counts .users ≤ mostSets) × (counts .objects ≤ mostSets) × (counts .users * counts .objects ≤ length (tableIn entry (now bytes) (now wide))) × Narrow entry (now grid) view ⌝ }
     requires { ⌜ Leading (view .rows) (users .0 .labels) (users .0 .leaders) (counts .users) × Leading (view .columns) (objects .0 .labels) (objects .0 .leaders) (counts .objects) ⌝ }
-    ensures { λ _. ⌜ ((f : ℕ → ℕ → ℕ) → ((ul ol : ℕ) → ul < counts .users → ol < counts .objects → cell (now (grid .entry)) view (getD (users .0 .leaders) ul 0) (getD (objects .0 .leaders) ol 0) ≡ f ul ol) → now (buffer .exit) ≡ over (upTo (λ i. f (i / counts .objects) (i % counts .objects)) (counts .users * counts .objects)) (now (buffer .entry))) ⌝ }
+    ensures { λ _. ⌜ ((f : ℕ → ℕ → ℕ) → ((ul ol : ℕ) → ul < counts .users → ol < counts .objects → cell (now (grid .entry)) view (getD (users .0 .leaders) ul 0) (getD (objects .0 .leaders) ol 0) ≡ f ul ol) → tableIn entry (now (bytes .exit)) (now (wide .exit)) ≡ over (upTo (λ i. f (i / counts .objects) (i % counts .objects)) (counts .users * counts .objects)) (tableIn entry (now (bytes .entry)) (now (wide .entry)))) ⌝ }
 {
     let user_labels = users.0.labels;
     let user_leaders = users.0.leaders;
@@ -85,14 +87,14 @@ fn put_table(
 pub fn store(
     grid: &[u16; MOST_TUPLES],
     view: View,
-    entry: u32,
+    widths: Widths,
     users: &mut [u8],
     objects: &mut [u8],
     bytes: &mut [u8],
     wide: &mut [u16],
 ) -> Compiled
-    requires { ⌜ Inside view ⌝ }
-    ensures { λ r. ⌜ ((v : PolicyValue) → valid v ≡ true → GridOf (policyOf v) (now (grid .entry)) view → Compiles v (lent (now (users .entry)) (now (objects .entry)) (now (table .entry))) r (lent (now (users .exit)) (now (objects .exit)) (now (table .exit)))) ⌝ }
+    requires { ⌜ Inside view × Narrow (widths .entry) (now grid) view ⌝ }
+    ensures { λ r. ⌜ ((v : PolicyValue) → valid v ≡ true → ownWidths (v .form) widths ≡ true → GridOf (policyOf v) (now (grid .entry)) view → Compiles v (lent widths (now (users .entry)) (now (objects .entry)) (tableIn (widths .entry) (now (bytes .entry)) (now (wide .entry)))) r (lent widths (now (users .exit)) (now (objects .exit)) (tableIn (widths .entry) (now (bytes .exit)) (now (wide .exit))))) ⌝ }
 {
     let rows = classify(grid, view);
     let columns = classify(grid, grid::turned(view));
@@ -105,6 +107,7 @@ pub fn store(
         return Compiled::Refused(Refusal::BufferTooShort);
     }
     let places = nu * no;
+    let entry = widths.entry;
     if tables::length(entry, bytes, wide) < places {
         return Compiled::Refused(Refusal::BufferTooShort);
     }

@@ -1,8 +1,10 @@
 // Labels: sets that no formula and no pair parts share one.
 ghost use Prim.Native.Nat.{_+_, _*_};
 ghost use mathlib.Core.Path.{_≡_};
+ghost use Rattle.policy.specs.Limits.{bits};
 ghost use Rattle.labels.specs.Compile.{lent, Compiles};
 ghost use Rattle.labels.specs.Apart.{Tells};
+ghost use Rattle.labels.specs.Inner.Table.{tableIn};
 
 mod buffers;
 mod classify;
@@ -65,6 +67,7 @@ fn compile(
     bytes: &mut [u8],
     wide: &mut [u16],
 ) -> Compiled
+    ensures { λ r. ⌜ Compiles policy (lent widths (now (users .entry)) (now (objects .entry)) (tableIn (widths .entry) (now (bytes .entry)) (now (wide .entry)))) r (lent widths (now (users .exit)) (now (objects .exit)) (tableIn (widths .entry) (now (bytes .exit)) (now (wide .exit)))) ⌝ }
 {
     if !validity::check(policy) {
         return Compiled::Refused(Refusal::InvalidState);
@@ -78,7 +81,7 @@ fn compile(
     let view = grid::view_of(sides);
     let mut entries = [0u16; MOST_TUPLES];
     grid::fill(&mut entries, from, view);
-    buffers::store(&entries, view, widths.entry, users, objects, bytes, wide)
+    buffers::store(&entries, view, widths, users, objects, bytes, wide)
 }
 
 // Fills the three lent buffers, labels and table in bytes, of a policy whose form has these widths.

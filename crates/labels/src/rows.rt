@@ -84,6 +84,7 @@ pub fn row(from: Rows, u: u32, n: usize) -> [u16; MOST_SETS]
 {
     let source = from.source;
     let grants = from.grants;
+    let actions = from.actions;
     let user = source.user;
     let lines = user.seniority;
     let users = side::with_juniors(side::spread(u), lines, user.lines);
@@ -101,7 +102,7 @@ pub fn row(from: Rows, u: u32, n: usize) -> [u16; MOST_SETS]
             &users,
             &objects,
             grants,
-            from.actions,
+            actions,
             start,
             in_block(n - start),
         );

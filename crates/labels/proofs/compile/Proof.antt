@@ -5,13 +5,13 @@ use mathlib.Core.Bool.{true}
 use lib.ListN.{length-replicate}
 use borrow.Author.Needs.{needs}
 use borrow.Author.Tests.{not-true, not-false}
-use Rattle.policy.specs.Limits.{mostTuples}
+use Rattle.policy.specs.Limits.{mostTuples, ownWidths}
 use Rattle.policy.specs.Value.{policyOf}
 use Rattle.policy.specs.Valid.{valid}
 use Rattle.formula.proofs.Checked.{valid-fits}
 use Rattle.labels.specs.Inner.Grid.{ViewOf}
 use Rattle.labels.proofs.Grids.{view-inside}
-use Rattle.labels.proofs.Storing.{refused-value}
+use Rattle.labels.proofs.Storing.{narrow, refused-value, refused-widths}
 use Rattle.labels.proofs.compile.Statement.{statement}
 use Rattle.labels.proofs.compile.Tie as tie
 
@@ -19,25 +19,39 @@ check-requires : tie.Need-check-requires
 check-requires c κs = search needs
 
 returns : tie.Need-returns
-returns c = refused-value _ _ _ _ (sym (c .before .check .ensures) ∙ not-true (c .before .check .result) (c .if1 .taken))
+returns c = refused-value _ _ _ _ _ (sym (c .before .check .ensures) ∙ not-true (c .before .check .result) (c .if1 .taken))
 
-ok : (c : tie.Else1) → valid (c .before .before .before .before .before .args .policy) ≡ true
+ok : (c : tie.Else1) → valid (c .before .before .before .before .before .before .args .policy) ≡ true
 ok c = sym (c .before .check .ensures) ∙ not-false (c .before .check .result) (c .if1 .left)
 
+own-widths-requires : tie.Need-own-widths-requires
+own-widths-requires c κs = search needs
+
+returns-2 : tie.Need-returns-2
+returns-2 c = refused-widths _ _ _ _ _ (sym (c .before .own-widths .ensures) ∙ not-true (c .before .own-widths .result) (c .if2 .taken))
+
+own : (c : tie.Else2) → let a = c .before .before .before .before .before .before .before .before .args in ownWidths (a .policy .form) (a .widths) ≡ true
+own c = sym (c .before .own-widths .ensures) ∙ not-false (c .before .own-widths .result) (c .if2 .left)
+
 rows-of-requires : tie.Need-rows-of-requires
-rows-of-requires c κs = valid-fits _ (ok c)
+rows-of-requires c κs = valid-fits _ (ok (c .before .before))
 
 view-of-requires : tie.Need-view-of-requires
 view-of-requires c κs = search needs
 
-seen : (c : tie.After-view-of) → ViewOf (policyOf (c .before .before .before .before .before .before .before .before .before .args .policy)) (c .view-of .result)
+seen : (c : tie.After-view-of) → ViewOf (policyOf (c .before .before .before .before .before .before .before .before .before .before .before .before .args .policy)) (c .view-of .result)
 seen c = c .view-of .ensures _ (c .before .before .before .rows-of .ensures .source .sides)
 
 fill-requires : tie.Need-fill-requires
 fill-requires c κs = ((policyOf _, c .before .before .before .before .rows-of .ensures, seen (c .before)), length-replicate {A = ℕ} mostTuples 0)
 
 store-requires : tie.Need-store-requires
-store-requires c κs = view-inside (seen (c .before .before .before .before .before .before))
+unfolding policyOf
+store-requires c κs =
+    let f = c .before .before .before .before .before in
+    let e = f .before .before .before .before .before .before in
+    let g = f .fill .ensures _ (f .before .before .before .before .before .rows-of .ensures) (seen (f .before .before)) in
+    (view-inside (seen (f .before .before)), narrow _ (own e) g)
 
 same-length : tie.Need-same-length
 same-length c = search needs
@@ -48,11 +62,14 @@ same-length-2 c = search needs
 same-length-3 : tie.Need-same-length-3
 same-length-3 c = search needs
 
-returns-2 : tie.Need-returns-2
-returns-2 c =
-    let f = c .before .before .before .before .before .before .before .before .before .before .before in
+same-length-4 : tie.Need-same-length-4
+same-length-4 c = search needs
+
+returns-3 : tie.Need-returns-3
+returns-3 c =
+    let f = c .before .before .before .before .before .before .before .before .before .before .before .before .before .before in
     let e = f .before .before .before .before .before .before in
-    c .before .before .before .before .before .before .store .ensures _ (ok e) (f .fill .ensures _ (f .before .before .before .before .before .rows-of .ensures) (seen (f .before .before)))
+    c .before .before .before .before .before .before .before .before .store .ensures _ (ok (e .before .before)) (own e) (f .fill .ensures _ (f .before .before .before .before .before .rows-of .ensures) (seen (f .before .before)))
 
 pub compile-spec : {M : Type 1} → statement M
 compile-spec =
@@ -60,6 +77,8 @@ compile-spec =
     (tie.spec
     check-requires
     returns
+    own-widths-requires
+    returns-2
     rows-of-requires
     view-of-requires
     fill-requires
@@ -67,4 +86,5 @@ compile-spec =
     same-length
     same-length-2
     same-length-3
-    returns-2)
+    same-length-4
+    returns-3)

@@ -1,5 +1,5 @@
 -- A grid lists the entries of all user sets and object sets; either side's sets can be taken as its rows.
-use Prim.Native.Nat.{ℕ, _+_, _*_, _≤_, _<_}
+use Prim.Native.Nat.{ℕ, _+_, _*_, _^_, _≤_, _<_}
 use mathlib.Core.Path.{_≡_}
 use mathlib.Core.Bool.{Bool}
 use mathlib.Core.List.{List}
@@ -31,6 +31,10 @@ pub record Inside (view : View) : Type 0 where
   pub few-rows : view .rows ≤ mostSets
   pub few-columns : view .columns ≤ mostSets
   pub inside : (u o : ℕ) → u < view .rows → o < view .columns → u * view .down + o * view .along < mostTuples
+
+-- each entry fits so many bits
+abbrev pub Narrow : ℕ → List ℕ → View → Type 0
+Narrow bits grid view = (u o : ℕ) → u < view .rows → o < view .columns → cell grid view u o < 2 ^ bits
 
 -- the user sets of a policy are the rows
 pub record ViewOf (p : Policy) (view : View) : Type 0 where

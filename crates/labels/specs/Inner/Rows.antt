@@ -1,5 +1,6 @@
 -- What the rows of a policy are worked out from, and what is looked for in two entries.
 use Prim.Native.Nat.{ℕ}
+use mathlib.Core.Path.{_≡_}
 use mathlib.Core.Bool.{not}
 use mathlib.Core.List.{List}
 use lib.ListN.{getD}

@@ -13,6 +13,9 @@ mul-i-2 c = let s = c .before .before .pre in omega (arith, s .0 .inside _ _ (s 
 add-i : tie.Need-add-i
 add-i c = let s = c .before .before .pre in omega (arith, s .0 .inside _ _ (s .1) (s .2))
 
+mul-result : tie.Need-mul-result
+mul-result c = let s = c .before .before .pre in omega (arith, s .0 .inside _ _ (s .1) (s .2))
+
 element-copy-out-result : tie.Need-element-copy-out-result
 element-copy-out-result c = let s = c .before .before .pre in s .0 .inside _ _ (s .1) (s .2)
 
@@ -20,4 +23,4 @@ returns : tie.Need-returns
 returns c = search needs
 
 pub entry-spec : {M : Type 1} → statement M
-entry-spec = tie.close (tie.spec mul-i mul-i-2 add-i element-copy-out-result returns)
+entry-spec = tie.close (tie.spec mul-i mul-i-2 add-i mul-result element-copy-out-result returns)

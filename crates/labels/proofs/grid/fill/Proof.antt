@@ -34,6 +34,9 @@ row-requires c κs =
 loop2-holds : tie.Need-loop2-holds Inv-loop2 μ-loop2 Inv-loop μ-loop
 loop2-holds c = (search needs, entered-count (c .before .before .loop .inv .1) (omega arith))
 
+mul-grid : tie.Need-mul-grid Inv-loop2 μ-loop2 Inv-loop μ-loop
+mul-grid c = search needs
+
 array-read-grid : tie.Need-array-read-grid Inv-loop2 μ-loop2 Inv-loop μ-loop
 array-read-grid c = search needs
 
@@ -46,11 +49,14 @@ room c =
     let v = l .before .before .pre .0 .2 in
     place-below _ _ _ _ (v .few-users) (v .few-objects) (l .loop-test .taken) (c .loop2-test .taken)
 
-mul-grid : tie.Need-mul-grid Inv-loop2 μ-loop2 Inv-loop μ-loop
-mul-grid c = omega (arith, room c)
+mul-grid-2 : tie.Need-mul-grid-2 Inv-loop2 μ-loop2 Inv-loop μ-loop
+mul-grid-2 c = omega (arith, room c)
 
 add-grid : tie.Need-add-grid Inv-loop2 μ-loop2 Inv-loop μ-loop
 add-grid c = omega (arith, room c)
+
+mul-grid-3 : tie.Need-mul-grid-3 Inv-loop2 μ-loop2 Inv-loop μ-loop
+mul-grid-3 c = omega (arith, room c)
 
 element-write-grid : tie.Need-element-write-grid Inv-loop2 μ-loop2 Inv-loop μ-loop
 element-write-grid c = room c
@@ -90,9 +96,11 @@ fill-spec =
     cast-row
     row-requires
     loop2-holds
-    array-read-grid
     mul-grid
+    array-read-grid
+    mul-grid-2
     add-grid
+    mul-grid-3
     element-write-grid
     add-o
     loop2-less

@@ -13,13 +13,13 @@ use Rattle.labels.proofs.rows.put_block.Statement.{statement}
 use Rattle.labels.proofs.rows.put_block.Tie as tie
 
 abbrev Inv-loop : tie.InvT-loop
-Inv-loop row₀ users objects start count granted k₀ row k =
+Inv-loop row₀ users objects actions start count granted k₀ row k =
     (k ≤ count) × (length row ≡ mostSets)
-    × ((f : ℕ → ℕ) → ((o : ℕ) → o < start → getD row₀ o 0 ≡ f o) → ((i : ℕ) → i < count → laneEntry granted i ≡ f (start + i))
+    × ((f : ℕ → ℕ) → ((o : ℕ) → o < start → getD row₀ o 0 ≡ f o) → ((i : ℕ) → i < count → laneEntry granted actions i ≡ f (start + i))
     → (o : ℕ) → o < start + k → getD row o 0 ≡ f o)
 
 abbrev μ-loop : tie.MeasureT-loop
-μ-loop row₀ users objects start count granted k₀ row k = count - k
+μ-loop row₀ users objects actions start count granted k₀ row k = count - k
 
 of-lanes-requires : tie.Need-of-lanes-requires Inv-loop μ-loop
 of-lanes-requires c κs = search needs
@@ -33,6 +33,9 @@ entry-requires c κs = search needs
 
 add-row : tie.Need-add-row Inv-loop μ-loop
 add-row c = search needs
+
+mul-row : tie.Need-mul-row Inv-loop μ-loop
+mul-row c = search needs
 
 element-write-row : tie.Need-element-write-row Inv-loop μ-loop
 element-write-row c = search needs
@@ -57,10 +60,10 @@ loop-again c =
 returns : tie.Need-returns Inv-loop μ-loop
 returns c = (
   c .before .loop .inv .1,
-  λ p u sides grants lane old o h.
+  λ p u sides grants e lane old o h.
       let g = c .before .before .of-lanes in
       c .before .loop .inv .2 (λ i. entryOf p (at u i)) old
-      (λ k l. lane-entry p _ grants (g .result) k _ (g .ensures p k _ sides grants (lane k l))) o (omega arith),
+      (λ k l. rw e (lane-entry p _ grants (g .result) k _ (g .ensures p k _ sides grants (lane k l)))) o (omega arith),
 )
 
 pub put-block-spec : {M : Type 1} → statement M
@@ -73,6 +76,7 @@ put-block-spec =
     loop-holds
     entry-requires
     add-row
+    mul-row
     element-write-row
     add-k
     loop-less

@@ -10,7 +10,7 @@ use lib.ListN.{length, getD, take, length-replicate}
 use lib.Pow.{pow-mono}
 use borrow.Author.Needs.{needs}
 use Rattle.seniority.specs.Seniority.{heldOrSenior}
-use Rattle.policy.specs.Limits.{mostSets}
+use Rattle.policy.specs.Limits.{mostSets, actions as actionsOf}
 use Rattle.policy.specs.Policy.{Side, Policy, total, sets}
 use Rattle.policy.specs.Value.{sideOf}
 use Rattle.formula.specs.Truth.{at}
@@ -35,13 +35,13 @@ lanes-stand p x s users u n few stand b k h g =
     record { lane = g; user = rw (ap (λ (y : Side). y .lines) (s .user)) (stand k g); object = rw e at (s .objects b k w g) }
 
 abbrev Inv-loop : tie.InvT-loop
-Inv-loop u n grants users sides blocks r₀ start₀ b₀ r start b =
+Inv-loop u n grants actions users sides blocks r₀ start₀ b₀ r start b =
     (start ≡ b * lanes) × (n ≤ mostSets) × (length r ≡ mostSets)
-    × ((p : Policy) → AttributesOf p sides → GrantsOf p grants → ((c k : ℕ) → c * lanes + k < n → k < lanes → InLane p users (getD blocks c noBlock .vectors) k (at u (c * lanes + k)))
+    × ((p : Policy) → AttributesOf p sides → GrantsOf p grants → actions ≡ actionsOf (p .form) → ((c k : ℕ) → c * lanes + k < n → k < lanes → InLane p users (getD blocks c noBlock .vectors) k (at u (c * lanes + k)))
     → (o : ℕ) → o < start → o < n → getD r o 0 ≡ entryOf p (at u o))
 
 abbrev μ-loop : tie.MeasureT-loop
-μ-loop u n grants users sides blocks r₀ start₀ b₀ r start b = n - start
+μ-loop u n grants actions users sides blocks r₀ start₀ b₀ r start b = n - start
 
 spread-requires : tie.Need-spread-requires Inv-loop μ-loop
 spread-requires c κs = search needs
@@ -55,7 +55,7 @@ loop-holds c =
       refl,
       le-trans (h .2) (pow-mono (h .1 .source .sides .object .most)),
       length-replicate {A = ℕ} mostSets 0,
-      λ p x g l o b. absurd (not-suc-le-zero b),
+      λ p x g e l o b. absurd (not-suc-le-zero b),
     )
 
 mul-block : tie.Need-mul-block Inv-loop μ-loop
@@ -74,7 +74,7 @@ put-block-requires : tie.Need-put-block-requires Inv-loop μ-loop
 put-block-requires c κs =
     let s = c .before .before .before .before .before .before .before in
     let h = s .before .before .before .before .before .before .before .before .before .pre .0 in
-    ((h .0, h .1 .source .sides, h .1 .grants), omega (arith, c .in-block .ensures), omega (arith, c .in-block .ensures, s .loop .inv .1), s .loop .inv .2)
+    ((h .0, h .1 .source .sides, h .1 .grants, h .1 .actions), omega (arith, c .in-block .ensures), omega (arith, c .in-block .ensures, s .loop .inv .1), s .loop .inv .2)
 
 add-start : tie.Need-add-start Inv-loop μ-loop
 add-start c = search needs
@@ -93,16 +93,16 @@ loop-again c =
       omega (arith, l .inv .0),
       l .inv .1,
       c .put-block .ensures .0,
-      λ p x g y o a b.
-          c .put-block .ensures .1 p _ x g (λ k h. rw (l .inv .0) (y (l .b) k (omega (arith, l .inv .0)) (omega arith)))
-          (λ i h. l .inv .3 p x g y i h (omega (arith, c .before .before .before .before .before .before .before .loop-test .taken))) o (omega (arith, m)),
+      λ p x g e′ y o a b.
+          c .put-block .ensures .1 p _ x g e′ (λ k h. rw (l .inv .0) (y (l .b) k (omega (arith, l .inv .0)) (omega arith)))
+          (λ i h. l .inv .3 p x g e′ y i h (omega (arith, c .before .before .before .before .before .before .before .loop-test .taken))) o (omega (arith, m)),
     )
 
 returns : tie.Need-returns Inv-loop μ-loop
 returns c p o x few h =
     let w = c .before .before .before .before in
     let a = w .before .before .before .before .before .before .args in
-    c .before .loop .inv .3 p (x .source .sides) (x .grants)
+    c .before .loop .inv .3 p (x .source .sides) (x .grants) (x .actions)
     (lanes-stand p (a .from .source) (x .source) (w .with-juniors .result) (a .u) (a .n) few
     (λ k g. w .with-juniors .ensures k _ (w .before .spread .ensures k g))) o (omega arith) h
 

@@ -11,11 +11,14 @@ source-of-requires c κs = search needs
 of-policy-requires : tie.Need-of-policy-requires
 of-policy-requires c κs = search needs
 
+actions-requires : tie.Need-actions-requires
+actions-requires c κs = search needs
+
 returns : tie.Need-returns
 unfolding policyOf
 returns c =
-    let v = c .before .before .before .before .args .policy in
-    record { source = c .before .source-of .ensures (policyOf v) refl refl; grants = c .of-policy .ensures }
+    let v = c .before .before .before .before .before .args .policy in
+    record { source = c .before .before .source-of .ensures (policyOf v) refl refl; grants = c .before .of-policy .ensures; actions = c .actions .ensures }
 
 pub rows-of-spec : {M : Type 1} → statement M
-rows-of-spec = tie.close (tie.spec source-of-requires of-policy-requires returns)
+rows-of-spec = tie.close (tie.spec source-of-requires of-policy-requires actions-requires returns)

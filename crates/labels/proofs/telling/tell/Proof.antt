@@ -31,8 +31,14 @@ returns c = λ v e s q.
 column-below : (c : tie.Else1) → c .before .first-unlike .result < mostSets
 column-below c = lt-of-lt-of-le (unlike-below _ _ _ _ (c .before .first-unlike .ensures) (c .if1 .left)) (let h = c .before .before .before .before .before .before .pre .0 in columns-few (h .0) _ (h .1) _ (h .2))
 
+mul-first-action : tie.Need-mul-first-action
+mul-first-action c = omega (arith, column-below c)
+
 array-read-first-action : tie.Need-array-read-first-action
 array-read-first-action c = column-below c
+
+mul-first-action-2 : tie.Need-mul-first-action-2
+mul-first-action-2 c = omega (arith, column-below c)
 
 array-read-first-action-2 : tie.Need-array-read-first-action-2
 array-read-first-action-2 c = column-below c
@@ -40,8 +46,8 @@ array-read-first-action-2 c = column-below c
 first-action-requires : tie.Need-first-action-requires
 first-action-requires c κs = search needs
 
-cast-t19 : tie.Need-cast-t19
-cast-t19 c = omega (arith, column-below (c .before))
+cast-t21 : tie.Need-cast-t21
+cast-t21 c = omega (arith, column-below (c .before))
 
 returns-2 : tie.Need-returns-2
 returns-2 c = λ v e s q.
@@ -60,8 +66,10 @@ tell-spec =
     row-requires-2
     first-unlike-requires
     returns
+    mul-first-action
     array-read-first-action
+    mul-first-action-2
     array-read-first-action-2
     first-action-requires
-    cast-t19
+    cast-t21
     returns-2)

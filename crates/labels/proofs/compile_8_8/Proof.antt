@@ -1,0 +1,34 @@
+-- `labels::compile_8_8` meets its contract: the table is the buffer that is lent.
+use mathlib.Core.Path.{refl}
+use borrow.Author.Needs.{needs}
+use Rattle.labels.proofs.compile_8_8.Statement.{statement}
+use Rattle.labels.proofs.compile_8_8.Tie as tie
+
+slice-aggregate-compile : tie.Need-slice-aggregate-compile
+slice-aggregate-compile c = refl
+
+compile-requires : tie.Need-compile-requires
+compile-requires c κs = search needs
+
+same-length : tie.Need-same-length
+same-length c = search needs
+
+same-length-2 : tie.Need-same-length-2
+same-length-2 c = search needs
+
+same-length-3 : tie.Need-same-length-3
+same-length-3 c = search needs
+
+returns : tie.Need-returns
+returns c = c .before .before .before .before .before .before .before .compile .ensures
+
+pub compile-8-8-spec : {M : Type 1} → statement M
+compile-8-8-spec =
+    tie.close
+    (tie.spec
+    slice-aggregate-compile
+    compile-requires
+    same-length
+    same-length-2
+    same-length-3
+    returns)
