@@ -20,7 +20,7 @@ use Rattle.basis.proofs.Lists.{all-getD, all-set, all-replicate, getD-blank}
 use Rattle.sets.specs.Set.{union, minus, within}
 use Rattle.sets.proofs.Laws.{setOf-lt, within-union, within-minus, within-le}
 use Rattle.seniority.specs.Seniority.{reach, heldOrSenior}
-use Rattle.policy.specs.Limits.{actions, sessionNumbers}
+use Rattle.policy.specs.Limits.{actions, sessionNumbers, ownWidths}
 use Rattle.policy.specs.Policy.{Policy, total, sets, setOfNumber}
 use Rattle.policy.specs.Value.{policyOf}
 use Rattle.policy.specs.Valid.{valid}
@@ -29,7 +29,7 @@ use Rattle.policy.specs.declared.value.PolicyValue.{PolicyValue}
 use Rattle.formula.specs.Truth.{Sets, grants}
 use Rattle.board.specs.declared.Board.{Board}
 use Rattle.board.specs.Machine.{Entry, empty, put, Call, opens, adds, drops, closes, requests, sessionOf, reachOf, objectSet, tooMany, checks, entry, entryAfter, heldIn, setsAsked, reply, Out, step, run}
-use Rattle.board.specs.Board.{closed, entryOf, sessionFor, entryAt, store, fresh, entryFits, boardFits, fits, Labels, pastEnd, grantsByLabels, lookUp, boardReply, boardAfter, boardStep}
+use Rattle.board.specs.Board.{closed, entryOf, sessionFor, entryAt, store, fresh, entryFits, boardFits, fits, Labels, pastEnd, grantsByLabels, lookUp, otherWidths, boardReply, boardAfter, boardStep}
 use Rattle.board.proofs.Judging.{fewer-kept}
 use Rattle.board.proofs.Refusals.{allowed, step-is, lower-good}
 use Rattle.board.proofs.Run.{RanAlike}
@@ -37,6 +37,7 @@ use Rattle.board.proofs.OneEntry.{ended, entryStep, ByEntry, put-same, 
 
 -- the labels lead all sets to what the formulas say
 pub record Serves (p : Policy) (l : Labels) : Type 0 where
+  pub widths : ownWidths (p .form) (l .buffers .widths) ≡ true
   pub inside : (s : Sets) → s .user < sets (p .user) → s .object < sets (p .object) → pastEnd l s ≡ false
   pub decides : (a : ℕ) (s : Sets) → a < actions (p .form) → s .user < sets (p .user) → s .object < sets (p .object)
       → grantsByLabels l a s ≡ grants p a s
@@ -198,6 +199,15 @@ module _ (p : Policy) (b : Board) (h : Sound p b) where
 -- ---- one call
 
 module _ (p : Policy) (l : Labels) (objects : ObjectsFit p) (serves : Serves p l) where
+  -- each is made for the form's own widths
+  own : (c : Call) → otherWidths p l c ≡ false
+  unfolding otherWidths
+  own (opens u s set) = refl
+  own (adds u s set) = refl
+  own (drops u s set) = refl
+  own (closes u s) = refl
+  own (requests s a n) = rw (serves .widths)
+
   -- a call that the machine does not refuse finds its places, and is answered alike
   found : (c : Call) (e : Option Entry) → fitting p e ≡ true → firstBroken (lookUp p l c e) ≡ none
   unfolding lookUp firstBroken
@@ -230,7 +240,7 @@ module _ (p : Policy) (l : Labels) (objects : ObjectsFit p) (serves : Serves p l
       -- a step is its machine's refusal, or let through
       stepped : (r : Option ℕ) → firstBroken (checks p c (entryAt b (sessionOf c))) ≡ r
           → boardStep v l c b ≡ ended r (reply p c (entryAt b (sessionOf c))) (boardAfter c b) b
-      stepped r q = step-is v l c b ∙ rw (lower-good v c b (sound-fits p b h v e ok), e, q) (go r q)
+      stepped r q = step-is v l c b (rw e (own c)) ∙ rw (lower-good v c b (sound-fits p b h v e ok), e, q) (go r q)
         where
           go : (r : Option ℕ) → firstBroken (checks p c (entryAt b (sessionOf c))) ≡ r
               → given {B = Out Board} r (allowed v l c b) (λ n. record { reply = refused n; state = b })

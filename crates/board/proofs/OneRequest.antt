@@ -10,16 +10,16 @@ use lib.Dec.{leb}
 use lib.ListN.{length}
 use borrow.Author.Tests.{le-leb, leb-true}
 use Rattle.basis.specs.Choice.{given, firstBroken}
-use Rattle.basis.proofs.Bools.{or-cases, or-left, or-right}
+use Rattle.basis.proofs.Bools.{or-cases, or-left, or-right, fails}
 use Rattle.policy.specs.Value.{policyOf}
 use Rattle.policy.specs.Answers.{Reply, granted, refused, decided}
 use Rattle.policy.specs.declared.value.PolicyValue.{PolicyValue}
 use Rattle.formula.specs.Truth.{Sets}
 use Rattle.board.specs.declared.Board.{Board}
-use Rattle.board.proofs.Refusals.{allowed, step-is}
+use Rattle.board.proofs.Refusals.{allowed, step-other, step-is}
 use Rattle.board.specs.Inner.{lower, lookedUp}
 use Rattle.board.specs.Machine.{requests, setsAsked, Out}
-use Rattle.board.specs.Board.{entryAt, Labels, placeAt, pastEnd, grantsByLabels, lookUp, boardReply, boardStep}
+use Rattle.board.specs.Board.{entryAt, Labels, placeAt, pastEnd, grantsByLabels, lookUp, otherWidths, boardReply, boardStep}
 
 -- the answer to a request, and the sets that it is decided on
 abbrev pub answer : PolicyValue → Labels → Board → ℕ → ℕ → ℕ → Reply
@@ -74,9 +74,10 @@ module _ (v : PolicyValue) (l : Labels) (b : Board) (s a n : ℕ) where
   looked-up false e = rw e
 
   -- the whole answer
-  pub answer-is : answer v l b s a n ≡ given (lower v (requests s a n) b) (lookedUp l a (setsOf v b s n)) refused
+  pub answer-is : otherWidths (policyOf v) l (requests s a n) ≡ false
+      → answer v l b s a n ≡ given (lower v (requests s a n) b) (lookedUp l a (setsOf v b s n)) refused
   unfolding lookedUp
-  answer-is = ap (λ (o : Out Board). o .reply) (step-is v l (requests s a n) b) ∙ go (lower v (requests s a n) b)
+  answer-is own = ap (λ (o : Out Board). o .reply) (step-is v l (requests s a n) b own) ∙ go (lower v (requests s a n) b)
     where
       go : (r : Option ℕ)
           → given {B = Out Board} r (allowed v l (requests s a n) b) (λ k. record { reply = refused k; state = b }) .reply
@@ -85,12 +86,13 @@ module _ (v : PolicyValue) (l : Labels) (b : Board) (s a n : ℕ) where
       go (some k) = refl
 
   -- where no lower refusal applies, 20 is the answer exactly where some place lies past its buffer's end
-  pub refused-iff : lower v (requests s a n) b ≡ none → (answer v l b s a n ≡ refused 20) ↔ Past l (setsOf v b s n)
+  pub refused-iff : otherWidths (policyOf v) l (requests s a n) ≡ false → lower v (requests s a n) b ≡ none
+      → (answer v l b s a n ≡ refused 20) ↔ Past l (setsOf v b s n)
   unfolding lookedUp
-  refused-iff e =
+  refused-iff own e =
       let t = pastEnd l (setsOf v b s n) in
       let g = grantsByLabels l a (setsOf v b s n) in
-      let q : answer v l b s a n ≡ cond t (refused 20) (decided g) = answer-is ∙ rw e in
+      let q : answer v l b s a n ≡ cond t (refused 20) (decided g) = answer-is own ∙ rw e in
       (λ f. past-iff l (setsOf v b s n) .0 (past-only t g (sym q ∙ f)), λ f. q ∙ rw (past-iff l (setsOf v b s n) .1 f))
 
   -- "It grants action a exactly when bit a there is set."
@@ -98,7 +100,8 @@ module _ (v : PolicyValue) (l : Labels) (b : Board) (s a n : ℕ) where
       → (answer v l b s a n ≡ granted) ↔ (grantsByLabels l a (setsOf v b s n) ≡ true)
   unfolding lookedUp
   granted-iff h =
+      let own = fails (otherWidths (policyOf v) l (requests s a n)) (λ e. h 11 (ap (λ (o : Out Board). o .reply) (step-other v l (requests s a n) b e))) in
       let t = pastEnd l (setsOf v b s n) in
       let g = grantsByLabels l a (setsOf v b s n) in
-      let q : answer v l b s a n ≡ decided g = answer-is ∙ decided-only (lower v (requests s a n) b) t g (λ k f. h k (answer-is ∙ f)) in
+      let q : answer v l b s a n ≡ decided g = answer-is own ∙ decided-only (lower v (requests s a n) b) t g (λ k f. h k (answer-is own ∙ f)) in
       (λ f. bit-only g (sym q ∙ f), λ f. q ∙ rw f)

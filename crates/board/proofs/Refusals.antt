@@ -11,8 +11,8 @@ use Rattle.policy.specs.Answers.{refused}
 use Rattle.policy.specs.declared.value.PolicyValue.{PolicyValue}
 use Rattle.board.specs.declared.Board.{Board}
 use Rattle.board.specs.Machine.{Call, sessionOf, checks, Out}
-use Rattle.board.specs.Inner.{lower}
-use Rattle.board.specs.Board.{entryAt, fits, Labels, lookUp, boardReply, boardChecks, boardAfter, boardStep}
+use Rattle.board.specs.Inner.{lower, invalid}
+use Rattle.board.specs.Board.{entryAt, fits, Labels, lookUp, boardReply, otherWidths, boardChecks, boardAfter, boardStep}
 
 module _ (v : PolicyValue) (c : Call) (b : Board) where
   pub lower-bad : fits v b ≡ false → lower v c b ≡ some 11
@@ -34,12 +34,19 @@ then : {A : Type 0} (r s : Option ℕ) (a : A) (f : ℕ → A) → given (given 
 then none s a f = refl
 then (some n) s a f = refl
 
-pub step-is : (v : PolicyValue) (l : Labels) (c : Call) (b : Board)
+-- a call made for other widths than the form's
+pub step-other : (v : PolicyValue) (l : Labels) (c : Call) (b : Board) → otherWidths (policyOf v) l c ≡ true → boardStep v l c b ≡ invalid b
+unfolding boardStep boardChecks firstBroken
+step-other v l c b e = rw e
+
+-- and one made for its own
+pub step-is : (v : PolicyValue) (l : Labels) (c : Call) (b : Board) → otherWidths (policyOf v) l c ≡ false
     → boardStep v l c b ≡ given (lower v c b) (allowed v l c b) (λ n. record { reply = refused n; state = b })
 unfolding boardStep boardChecks lower allowed
-step-is v l c b =
-    ap
+step-is v l c b own =
+    rw own
+    (ap
     (λ (r : Option ℕ).
     given r (record { reply = boardReply (policyOf v) l c (entryAt b (sessionOf c)); state = boardAfter c b }) (λ n. record { reply = refused n; state = b }))
     (first-broken-append (check 11 (not (fits v b)) ∷ checks (policyOf v) c (entryAt b (sessionOf c))) (lookUp (policyOf v) l c (entryAt b (sessionOf c))))
-    ∙ then (lower v c b) (firstBroken (lookUp (policyOf v) l c (entryAt b (sessionOf c)))) _ _
+    ∙ then (lower v c b) (firstBroken (lookUp (policyOf v) l c (entryAt b (sessionOf c)))) _ _)

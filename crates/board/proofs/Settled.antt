@@ -11,7 +11,7 @@ use lib.ListN.{getD, set}
 use Rattle.basis.specs.Choice.{given, there, firstBroken}
 use Rattle.basis.proofs.Choice.{unbroken}
 use Rattle.sets.specs.Set.{union, minus}
-use Rattle.policy.specs.Limits.{sessionNumbers}
+use Rattle.policy.specs.Limits.{sessionNumbers, ownWidths}
 use Rattle.policy.specs.Policy.{Policy, setOfNumber}
 use Rattle.policy.specs.Value.{entryPlaces, conflictPlaces, entriesOf, conflictsOf, sideOf, policyOf}
 use Rattle.policy.specs.Answers.{done, refused}
@@ -20,10 +20,10 @@ use Rattle.board.specs.declared.Session.{Session}
 use Rattle.board.specs.declared.Board.{Board}
 use Rattle.board.specs.declared.reach.Found.{Found}
 use Rattle.board.specs.declared.rulings.Ruling.{Ruling}
-use Rattle.board.specs.Machine.{Entry, Call, opens, adds, drops, closes, sessionOf, tooMany, checks, entryAfter, Out}
-use Rattle.board.specs.Board.{closed, entryOf, entryAt, sessionFor, store, fits, Labels, lookUp, boardReply, boardAfter, boardStep}
+use Rattle.board.specs.Machine.{Entry, Call, opens, adds, drops, closes, requests, sessionOf, tooMany, checks, entryAfter, Out}
+use Rattle.board.specs.Board.{closed, entryOf, entryAt, sessionFor, store, fits, Labels, lookUp, otherWidths, boardReply, boardAfter, boardStep}
 use Rattle.board.specs.Inner.{refusalOf, FoundAs, Reaches, Reachable, over, lower, invalid, settled}
-use Rattle.board.proofs.Refusals.{allowed, step-is, lower-bad, lower-good}
+use Rattle.board.proofs.Refusals.{allowed, step-other, step-is, lower-bad, lower-good}
 use Rattle.board.proofs.Fitting.{fits-valid}
 use Rattle.board.proofs.Agreement.{near}
 use Rattle.board.proofs.Judging.{judges-one, conflicts-within}
@@ -47,10 +47,10 @@ module _ (v : PolicyValue) (c : Call) (b : Board) (r : Option ℕ) (h : r ≡ lo
   abbrev Done : Labels → Type 0
   Done l = allowed v l c b ≡ record { reply = done; state = store b (sessionOf c) (entryAfter c (entryAt b (sessionOf c))) }
 
-  settled-step : (l : Labels) → Done l → (x : Session) → (r ≡ none → x ≡ sessionFor (entryAfter c (entryAt b (sessionOf c))))
+  settled-step : (l : Labels) → otherWidths (policyOf v) l c ≡ false → Done l → (x : Session) → (r ≡ none → x ≡ sessionFor (entryAfter c (entryAt b (sessionOf c))))
       → settled b (sessionOf c) r x ≡ boardStep v l c b
   unfolding settled store
-  settled-step l d x e = rw (step-is v l c b, ← h) (go r refl)
+  settled-step l own d x e = rw (step-is v l c b own, ← h) (go r refl)
     where
       go : (q : Option ℕ) → r ≡ q
           → given {B = Out Board} q (record { reply = done; state = record { sessions = set (b .sessions) (sessionOf c) x } })
@@ -89,33 +89,43 @@ module _ (v : PolicyValue) (b : Board) (u s set : ℕ) (x : Session) (hx : x ≡
 module _ (l : Labels) (v : PolicyValue) (b : Board) (u s : ℕ) (r : Option ℕ) where
   pub opened : (set : ℕ) → r ≡ lower v (opens u s set) b
       → settled b s r (record { live = 1; user = u; held = set }) ≡ boardStep v l (opens u s set) b
-  unfolding allowed lookUp boardReply boardAfter entryAfter firstBroken
-  opened set h = settled-step v (opens u s set) b r h l refl _ (λ e. refl)
+  unfolding allowed lookUp otherWidths boardReply boardAfter entryAfter firstBroken
+  opened set h = settled-step v (opens u s set) b r h l refl refl _ (λ e. refl)
 
   pub closed-again : r ≡ lower v (closes u s) b → (x : Session) → x ≡ closed → settled b s r x ≡ boardStep v l (closes u s) b
-  unfolding allowed lookUp boardReply boardAfter entryAfter firstBroken
-  closed-again h x e = settled-step v (closes u s) b r h l refl x (λ q. e)
+  unfolding allowed lookUp otherWidths boardReply boardAfter entryAfter firstBroken
+  closed-again h x e = settled-step v (closes u s) b r h l refl refl x (λ q. e)
 
   module _ (set : ℕ) (x : Session) (hx : x ≡ getD (b .sessions) s closed) (held : ℕ) where
     pub added : r ≡ lower v (adds u s set) b → held ≡ union (x .held) set
         → settled b s r (record { live = 1; user = x .user; held = held }) ≡ boardStep v l (adds u s set) b
-    unfolding allowed lookUp boardReply boardAfter entryAfter firstBroken
+    unfolding allowed lookUp otherWidths boardReply boardAfter entryAfter firstBroken
     added h e =
-        settled-step v (adds u s set) b r h l refl _
+        settled-step v (adds u s set) b r h l refl refl _
         (λ q. rw (← at-entry v b u s set x hx, live-add v b u s set x hx (sym h ∙ q), e))
 
     pub dropped : r ≡ lower v (drops u s set) b → held ≡ minus (x .held) set
         → settled b s r (record { live = 1; user = x .user; held = held }) ≡ boardStep v l (drops u s set) b
-    unfolding allowed lookUp boardReply boardAfter entryAfter firstBroken
+    unfolding allowed lookUp otherWidths boardReply boardAfter entryAfter firstBroken
     dropped h e =
-        settled-step v (drops u s set) b r h l refl _
+        settled-step v (drops u s set) b r h l refl refl _
         (λ q. rw (← at-entry v b u s set x hx, live-drop v b u s set x hx (sym h ∙ q), e))
 
 -- ---- check 11 first
 
+-- the widths that a request is made for
+pub stopped-widths : (v : PolicyValue) (l : Labels) (b : Board) (s a n : ℕ) (t : Bool) → t ≡ ownWidths (v .form) (l .buffers .widths) → not t ≡ true
+    → (o : Out Board) → o ≡ invalid b → o ≡ boardStep v l (requests s a n) b
+unfolding policyOf otherWidths
+stopped-widths v l b s a n t ht q o e = e ∙ sym (step-other v l (requests s a n) b (rw (← ht) q))
+
 module _ (v : PolicyValue) (b : Board) (t : Bool) (ht : t ≡ fits v b) where
   pub stopped : (l : Labels) (c : Call) → not t ≡ true → (o : Out Board) → o ≡ invalid b → o ≡ boardStep v l c b
-  stopped l c n o e = e ∙ sym (step-is v l c b ∙ rw (lower-bad v c b (sym ht ∙ not-true t n)))
+  stopped l c n o e = e ∙ sym (go (otherWidths (policyOf v) l c) refl)
+    where
+      go : (q : Bool) → otherWidths (policyOf v) l c ≡ q → boardStep v l c b ≡ invalid b
+      go true q = step-other v l c b q
+      go false q = step-is v l c b q ∙ rw (lower-bad v c b (sym ht ∙ not-true t n))
 
   module _ (n : not t ≡ false) where
     pub ready : Reachable (v .user) (v .users)

@@ -1,6 +1,6 @@
 -- The board: what each of the five calls answers and leaves, whatever board, policy value and buffers it is handed.
 use Prim.Native.Nat.{ℕ, _+_, _*_}
-use mathlib.Core.Bool.{Bool, true, cond, not, _&&_, _||_}
+use mathlib.Core.Bool.{Bool, true, false, cond, not, _&&_, _||_}
 use mathlib.Core.List.{List, [], _∷_, _++_}
 use mathlib.Core.Option.{Option, none, some}
 use lib.Dec.{eqb, leb}
@@ -8,7 +8,7 @@ use lib.ListN.{length, getD, set, replicate}
 use Rattle.basis.specs.Choice.{given, there, Check, check, firstBroken}
 use Rattle.basis.specs.Lists.{all}
 use Rattle.sets.specs.Set.{has, within}
-use Rattle.policy.specs.Limits.{sessionNumbers}
+use Rattle.policy.specs.Limits.{sessionNumbers, ownWidths}
 use Rattle.policy.specs.Policy.{Policy, setOfNumber}
 use Rattle.policy.specs.Value.{policyOf}
 use Rattle.policy.specs.Valid.{valid}
@@ -83,9 +83,9 @@ boardFits p b = sessionsFit p (b .sessions)
 unfoldable pub fits : PolicyValue → Board → Bool
 fits v b = valid v && boardFits (policyOf v) b
 
--- ---- what a request reads: "one byte of each lent buffer"
+-- ---- what a request reads: "one byte of each lent buffer", or one entry of another width
 
--- the lent buffers with NU and NO as handed in
+-- the lent buffers, of the widths that the request is made for, with NU and NO as handed in
 pub record Labels : Type 0 where
   pub counts : Counts
   pub buffers : Buffers
@@ -130,10 +130,22 @@ boardReply p l (drops u s set) e = done
 boardReply p l (closes u s) e = done
 boardReply p l (requests s a n) e = decided (grantsByLabels l a (setsAsked p n e))
 
+-- "a call made for stored widths other than those of the policy's form": only a request is made for any
+unfoldable pub otherWidths : Policy → Labels → Call → Bool
+otherWidths p l (opens u s set) = false
+otherWidths p l (adds u s set) = false
+otherWidths p l (drops u s set) = false
+otherWidths p l (closes u s) = false
+otherWidths p l (requests s a n) = not (ownWidths (p .form) (l .buffers .widths))
+
+-- 11, whichever of its conditions holds
+abbrev pub unfit : PolicyValue → Labels → Call → Board → Bool
+unfit v l c b = otherWidths (policyOf v) l c || not (fits v b)
+
 -- 11, then the machine's refusals, then 20
 unfoldable pub boardChecks : PolicyValue → Labels → Call → Board → List Check
 boardChecks v l c b =
-    check 11 (not (fits v b))
+    check 11 (unfit v l c b)
     ∷ checks (policyOf v) c (entryAt b (sessionOf c))
     ++ lookUp (policyOf v) l c (entryAt b (sessionOf c))
 

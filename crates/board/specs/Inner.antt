@@ -33,6 +33,8 @@ use Rattle.board.specs.declared.asking.Asked.{Asked}
 use Rattle.board.specs.declared.asking.Asked.the-variants.{Of, Refused as AskedRefused}
 use Rattle.board.specs.declared.buffers.Byte.{Byte}
 use Rattle.board.specs.declared.buffers.Byte.the-variants.{Past, At}
+use Rattle.board.specs.declared.buffers.EntryRead.{EntryRead}
+use Rattle.board.specs.declared.buffers.EntryRead.the-variants.{Past as EntryPast, At as EntryAt}
 use Rattle.board.specs.declared.buffers.UserRead.{UserRead}
 use Rattle.board.specs.declared.buffers.UserRead.the-variants.{Past as UserPast, At as UserAt}
 use Rattle.board.specs.declared.buffers.ObjectRead.{ObjectRead}
@@ -51,6 +53,10 @@ askedOf (AskedRefused r) = refuses (numberOf r)
 abbrev pub byteOf : Byte → Option ℕ
 byteOf Past = none
 byteOf (At b) = some b
+
+abbrev pub entryReadOf : EntryRead → Option ℕ
+entryReadOf EntryPast = none
+entryReadOf (EntryAt x) = some x
 
 abbrev pub userOf : UserRead → Option ℕ
 userOf UserPast = none
@@ -85,9 +91,9 @@ pub record Reaches (p : Policy) (u : ℕ) (f : Found) : Type 0 where
   pub registered : f .registered ≡ there (setOfNumber (p .users) u)
   pub set : f .set ≡ reachOf p u
 
--- the byte at a place of a buffer
-unfoldable pub byteAt : List ℕ → ℕ → Option ℕ
-byteAt buffer place = cond (ltb place (length buffer)) (some (getD buffer place 0)) none
+-- what stands at a place of a buffer, whatever its width
+unfoldable pub readAt : List ℕ → ℕ → Option ℕ
+readAt buffer place = cond (ltb place (length buffer)) (some (getD buffer place 0)) none
 
 -- what the labels of two sets say
 unfoldable pub lookedUp : Labels → ℕ → Sets → Reply
@@ -129,7 +135,7 @@ abbrev pub answered : Labels → ℕ → Result Sets → Reply
 answered l a (gives s) = lookedUp l a s
 answered l a (refuses n) = refused n
 
--- the first refusal of a call but 20: 11, then the machine's
+-- the first refusal but 20 of a call that is made for the form's own widths: 11, then the machine's
 unfoldable pub lower : PolicyValue → Call → Board → Option ℕ
 lower v c b = firstBroken (check 11 (not (fits v b)) ∷ checks (policyOf v) c (entryAt b (sessionOf c)))
 

@@ -1,15 +1,21 @@
-// The three lent buffers of a request: each is read at one place.
+// The three lent buffers of a request: each is read at one place. The table is lent in one of two buffers, of bytes or of
+// 16-bit entries; only here is it told how an entry is looked up.
 ghost use mathlib.Core.Path.{_≡_};
 ghost use Rattle.formula.specs.Truth.{at};
 ghost use Rattle.labels.specs.Compile.{lent};
+ghost use Rattle.labels.specs.Inner.Table.{tableIn};
 ghost use Rattle.board.specs.Board.{labelsOf, replyOf};
-ghost use Rattle.board.specs.Inner.{askedOf, answered, byteOf, userOf, objectOf, byteAt, lookedUp};
+ghost use Rattle.board.specs.Inner.{askedOf, answered, byteOf, entryReadOf, userOf, objectOf, readAt, lookedUp};
 use crate::Answer;
 use crate::asking::Asked;
 use labels::Counts;
 use labels::ObjectLabel;
 use labels::UserLabel;
+use policy::limits::Widths;
 use policy::refusal::Refusal;
+
+// The width of an entry that is a byte.
+const BYTE: u32 = 8;
 
 // The byte at a place of a buffer, where the place is in it.
 pub enum Byte {
@@ -17,14 +23,45 @@ pub enum Byte {
     At(u8),
 }
 
-// The one way in which a lent buffer is read.
+// The same of a table's entry, whatever its width.
+pub enum EntryRead {
+    Past,
+    At(u16),
+}
+
+// The one way in which a lent buffer of bytes is read.
 fn byte_at(buffer: &[u8], place: usize) -> Byte
-    ensures { λ r. ⌜ byteOf r ≡ byteAt (now (buffer .entry)) place ⌝ }
+    ensures { λ r. ⌜ byteOf r ≡ readAt (now (buffer .entry)) place ⌝ }
 {
     if place < buffer.len() {
         Byte::At(buffer[place])
     } else {
         Byte::Past
+    }
+}
+
+// The one way in which a lent buffer of 16-bit entries is read.
+fn wide_at(buffer: &[u16], place: usize) -> EntryRead
+    ensures { λ r. ⌜ entryReadOf r ≡ readAt (now (buffer .entry)) place ⌝ }
+{
+    if place < buffer.len() {
+        EntryRead::At(buffer[place])
+    } else {
+        EntryRead::Past
+    }
+}
+
+// The entry at a place of the table that is lent.
+fn entry_at(entry: u32, bytes: &[u8], wide: &[u16], place: usize) -> EntryRead
+    ensures { λ r. ⌜ entryReadOf r ≡ readAt (tableIn entry (now (bytes .entry)) (now (wide .entry))) place ⌝ }
+{
+    if entry == BYTE {
+        match byte_at(bytes, place) {
+            Byte::Past => EntryRead::Past,
+            Byte::At(x) => EntryRead::At(x as u16),
+        }
+    } else {
+        wide_at(wide, place)
     }
 }
 
@@ -41,7 +78,7 @@ pub enum ObjectRead {
 
 // The held set's label.
 fn user_label(users: &[u8], held: u32) -> UserRead
-    ensures { λ r. ⌜ userOf r ≡ byteAt (now (users .entry)) held ⌝ }
+    ensures { λ r. ⌜ userOf r ≡ readAt (now (users .entry)) held ⌝ }
 {
     match byte_at(users, held as usize) {
         Byte::Past => UserRead::Past,
@@ -51,7 +88,7 @@ fn user_label(users: &[u8], held: u32) -> UserRead
 
 // The object set's label.
 fn object_label(objects: &[u8], object: u32) -> ObjectRead
-    ensures { λ r. ⌜ objectOf r ≡ byteAt (now (objects .entry)) object ⌝ }
+    ensures { λ r. ⌜ objectOf r ≡ readAt (now (objects .entry)) object ⌝ }
 {
     match byte_at(objects, object as usize) {
         Byte::Past => ObjectRead::Past,
@@ -62,14 +99,16 @@ fn object_label(objects: &[u8], object: u32) -> ObjectRead
 // What the labels of two sets say of an action.
 fn look_up(
     counts: Counts,
+    widths: Widths,
     users: &[u8],
     objects: &[u8],
-    table: &[u8],
+    bytes: &[u8],
+    wide: &[u16],
     action: u32,
     held: u32,
     object: u32,
 ) -> Answer
-    ensures { λ r. ⌜ replyOf r ≡ lookedUp (labelsOf counts (lent (now (users .entry)) (now (objects .entry)) (now (table .entry)))) action (at held object) ⌝ }
+    ensures { λ r. ⌜ replyOf r ≡ lookedUp (labelsOf counts (lent widths (now (users .entry)) (now (objects .entry)) (tableIn (widths .entry) (now (bytes .entry)) (now (wide .entry))))) action (at held object) ⌝ }
 {
     let UserRead::At(ul) = user_label(users, held) else {
         return Answer::Refused(Refusal::BufferTooShort);
@@ -77,10 +116,11 @@ fn look_up(
     let ObjectRead::At(ol) = object_label(objects, object) else {
         return Answer::Refused(Refusal::BufferTooShort);
     };
-    let Byte::At(entry) = byte_at(table, labels::place(ul, ol, counts.objects)) else {
+    let place = labels::place(ul, ol, counts.objects);
+    let EntryRead::At(x) = entry_at(widths.entry, bytes, wide, place) else {
         return Answer::Refused(Refusal::BufferTooShort);
     };
-    if sets::holds(entry as u32, action) {
+    if sets::holds(x as u32, action) {
         Answer::Granted
     } else {
         Answer::Denied
@@ -90,16 +130,20 @@ fn look_up(
 // The answer to a request: what the labels of its two sets say, or why it is refused.
 pub fn answer(
     counts: Counts,
+    widths: Widths,
     users: &[u8],
     objects: &[u8],
-    table: &[u8],
+    bytes: &[u8],
+    wide: &[u16],
     action: u32,
     asked: Asked,
 ) -> Answer
-    ensures { λ r. ⌜ replyOf r ≡ answered (labelsOf counts (lent (now (users .entry)) (now (objects .entry)) (now (table .entry)))) action (askedOf asked) ⌝ }
+    ensures { λ r. ⌜ replyOf r ≡ answered (labelsOf counts (lent widths (now (users .entry)) (now (objects .entry)) (tableIn (widths .entry) (now (bytes .entry)) (now (wide .entry))))) action (askedOf asked) ⌝ }
 {
     match asked {
-        Asked::Of(held, object) => look_up(counts, users, objects, table, action, held, object),
+        Asked::Of(held, object) => look_up(
+            counts, widths, users, objects, bytes, wide, action, held, object,
+        ),
         Asked::Refused(why) => Answer::Refused(why),
     }
 }

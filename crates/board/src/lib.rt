@@ -1,9 +1,10 @@
 // The board of staff sessions: its five calls.
 ghost use mathlib.Core.Path.{_≡_};
 ghost use Rattle.policy.specs.Answers.{replyNumber};
+ghost use Rattle.policy.specs.Limits.{bits};
 ghost use Rattle.labels.specs.Compile.{lent};
 ghost use Rattle.board.specs.Machine.{opens, adds, drops, closes, requests};
-ghost use Rattle.board.specs.Board.{Labels, labelsOf, callOf, replyOf, outOf, fresh, boardStep};
+ghost use Rattle.board.specs.Board.{Labels, labelsOf, replyOf, outOf, fresh, boardStep};
 
 mod asking;
 mod assigned;
@@ -15,9 +16,11 @@ mod juniors;
 mod reach;
 mod rulings;
 mod steps;
+pub mod tables;
 
 use labels::Counts;
 use policy::limits::SESSION_NUMBERS;
+use policy::limits::Widths;
 use policy::refusal;
 use policy::refusal::Refusal;
 use policy::value::PolicyValue;
@@ -169,8 +172,9 @@ pub fn close(board: Board, policy: PolicyValue, user: u32, session: u32) -> Step
     steps::settle(board, session, ruling, gone)
 }
 
-// Grants or denies by the labels of the held set and the object's set: reads one byte of each lent buffer.
-pub fn request(
+// Grants or denies by the labels of the held set and the object's set, of a policy whose form has labels and table in
+// bytes: reads one byte of each lent buffer.
+pub fn request_8_8(
     board: Board,
     policy: PolicyValue,
     counts: Counts,
@@ -181,49 +185,53 @@ pub fn request(
     action: u32,
     object: u32,
 ) -> Step
-    ensures { λ r. ⌜ outOf r ≡ boardStep policy (labelsOf counts (lent (now (users .entry)) (now (objects .entry)) (now (table .entry)))) (requests session action object) board ⌝ }
+    ensures { λ r. ⌜ outOf r ≡ boardStep policy (labelsOf counts (lent (bits 8 8) (now (users .entry)) (now (objects .entry)) (now (table .entry)))) (requests session action object) board ⌝ }
 {
-    if !fit::fits(policy, board) {
-        return steps::invalid(board);
-    }
-    let sessions = board.sessions;
-    let registered = policy.objects;
-    let actions = policy::limits::actions(policy.form);
-    let asked = asking::ask(sessions, registered, actions, session, action, object);
-    let answer = buffers::answer(counts, users, objects, table, action, asked);
-    Step {
-        answer: answer,
-        board: board,
-    }
+    let none = [0u16; 0];
+    tables::request(
+        board,
+        policy,
+        counts,
+        Widths { label: 8, entry: 8 },
+        users,
+        objects,
+        table,
+        &none,
+        session,
+        action,
+        object,
+    )
 }
 
-// One call, by its case.
-pub fn take(
+// The same of a form with labels in bytes and a table of 16-bit entries: reads one entry of the table.
+pub fn request_8_16(
     board: Board,
     policy: PolicyValue,
     counts: Counts,
     users: &[u8],
     objects: &[u8],
-    table: &[u8],
-    call: Call,
+    table: &[u16],
+    session: u32,
+    action: u32,
+    object: u32,
 ) -> Step
-    ensures { λ r. ⌜ outOf r ≡ boardStep policy (labelsOf counts (lent (now (users .entry)) (now (objects .entry)) (now (table .entry)))) (callOf call) board ⌝ }
+    ensures { λ r. ⌜ outOf r ≡ boardStep policy (labelsOf counts (lent (bits 8 16) (now (users .entry)) (now (objects .entry)) (now (table .entry)))) (requests session action object) board ⌝ }
 {
-    match call {
-        Call::Open(user, session, set) => open(board, policy, user, session, set),
-        Call::Add(user, session, set) => add(board, policy, user, session, set),
-        Call::Drop(user, session, set) => drop(board, policy, user, session, set),
-        Call::Close(user, session) => close(board, policy, user, session),
-        Call::Request(session, action, object) => request(
-            board,
-            policy,
-            counts,
-            users,
-            objects,
-            table,
-            session,
-            action,
-            object,
-        ),
-    }
+    let none = [0u8; 0];
+    tables::request(
+        board,
+        policy,
+        counts,
+        Widths {
+            label: 8,
+            entry: 16,
+        },
+        users,
+        objects,
+        &none,
+        table,
+        session,
+        action,
+        object,
+    )
 }

@@ -1,7 +1,7 @@
 -- `board::buffers::byte_at` meets its contract: the test is the definition's.
 use borrow.Author.Needs.{needs}
 use borrow.Author.Tests.{lt-ltb, le-ltb}
-use Rattle.board.specs.Inner.{byteAt}
+use Rattle.board.specs.Inner.{readAt}
 use Rattle.board.proofs.buffers.byte_at.Statement.{statement}
 use Rattle.board.proofs.buffers.byte_at.Tie as tie
 
@@ -9,11 +9,11 @@ shared-slice-read-t7 : tie.Need-shared-slice-read-t7
 shared-slice-read-t7 c = search needs
 
 returns : tie.Need-returns
-unfolding byteAt
+unfolding readAt
 returns c = rw (lt-ltb _ _ (c .before .if1 .taken))
 
 returns-2 : tie.Need-returns-2
-unfolding byteAt
+unfolding readAt
 returns-2 c = rw (le-ltb _ _ (c .if1 .left))
 
 pub byte-at-spec : {M : Type 1} → statement M

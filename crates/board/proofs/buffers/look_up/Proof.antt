@@ -31,11 +31,11 @@ returns-2 c = search past-object
 place-requires : tie.Need-place-requires
 place-requires c κs = search needs
 
-byte-at-requires : tie.Need-byte-at-requires
-byte-at-requires c κs = search needs
+entry-at-requires : tie.Need-entry-at-requires
+entry-at-requires c κs = search needs
 
-enum-known-entry : tie.Need-enum-known-entry
-enum-known-entry c = search needs
+enum-known-x : tie.Need-enum-known-x
+enum-known-x c = search needs
 
 enum-told-3 : tie.Need-enum-told-3
 enum-told-3 c = search needs
@@ -68,8 +68,8 @@ look-up-spec =
     enum-told-2
     returns-2
     place-requires
-    byte-at-requires
-    enum-known-entry
+    entry-at-requires
+    enum-known-x
     enum-told-3
     returns-3
     cast-holds

@@ -1,0 +1,85 @@
+// Calls that are lent a table in either width: of its two buffers, the one of the widths that the call is made for.
+ghost use mathlib.Core.Path.{_≡_};
+ghost use Rattle.labels.specs.Compile.{lent};
+ghost use Rattle.labels.specs.Inner.Table.{tableIn};
+ghost use Rattle.board.specs.Machine.{requests};
+ghost use Rattle.board.specs.Board.{labelsOf, callOf, outOf, boardStep};
+use crate::Board;
+use crate::Call;
+use crate::Step;
+use crate::asking;
+use crate::buffers;
+use crate::fit;
+use crate::steps;
+use labels::Counts;
+use policy::limits;
+use policy::limits::Widths;
+use policy::value::PolicyValue;
+
+// A request: what it comes to, and then what the labels say. The board stays.
+pub fn request(
+    board: Board,
+    policy: PolicyValue,
+    counts: Counts,
+    widths: Widths,
+    users: &[u8],
+    objects: &[u8],
+    bytes: &[u8],
+    wide: &[u16],
+    session: u32,
+    action: u32,
+    object: u32,
+) -> Step
+    ensures { λ r. ⌜ outOf r ≡ boardStep policy (labelsOf counts (lent widths (now (users .entry)) (now (objects .entry)) (tableIn (widths .entry) (now (bytes .entry)) (now (wide .entry))))) (requests session action object) board ⌝ }
+{
+    if !limits::own_widths(policy.form, widths) {
+        return steps::invalid(board);
+    }
+    if !fit::fits(policy, board) {
+        return steps::invalid(board);
+    }
+    let sessions = board.sessions;
+    let registered = policy.objects;
+    let actions = limits::actions(policy.form);
+    let asked = asking::ask(sessions, registered, actions, session, action, object);
+    let answer = buffers::answer(counts, widths, users, objects, bytes, wide, action, asked);
+    Step {
+        answer: answer,
+        board: board,
+    }
+}
+
+// One call, by its case.
+pub fn take(
+    board: Board,
+    policy: PolicyValue,
+    counts: Counts,
+    widths: Widths,
+    users: &[u8],
+    objects: &[u8],
+    bytes: &[u8],
+    wide: &[u16],
+    call: Call,
+) -> Step
+    ensures { λ r. ⌜ outOf r ≡ boardStep policy (labelsOf counts (lent widths (now (users .entry)) (now (objects .entry)) (tableIn (widths .entry) (now (bytes .entry)) (now (wide .entry))))) (callOf call) board ⌝ }
+{
+    match call {
+        Call::Open(user, session, set) => crate::open(board, policy, user, session, set),
+        Call::Add(user, session, set) => crate::add(board, policy, user, session, set),
+        Call::Drop(user, session, set) => crate::drop(board, policy, user, session, set),
+        Call::Close(user, session) => crate::close(board, policy, user, session),
+        Call::Request(session, action, object) => request(
+            board,
+            policy,
+            counts,
+            widths,
+            users,
+            objects,
+            bytes,
+            wide,
+            session,
+            action,
+            object,
+        ),
+    }
+}
