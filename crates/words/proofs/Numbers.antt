@@ -2,12 +2,14 @@
 use Prim.Native.Nat.{ℕ, zero, suc, _+_, _-_, _*_, _/_, _%_, _≤_, _<_}
 use mathlib.Core.Path.{_≡_, refl, sym, ap, _∙_}
 use mathlib.Core.Bool.{true, _&&_, true≢false}
+use mathlib.Core.List.{List, [], _∷_, map}
 use mathlib.Core.Logic.{_⊎_, inl, inr, ⊎-elim}
 use native.Mathlib.Decide.{decLt}
 use native.Mathlib.Omega.{arith}
 use borrow.Author.Tests.{lt-ltb, le-ltb, ltb-true}
 use lib.Dec.{ltb, lit<}
 use lib.ListN.{getD}
+use Rattle.basis.specs.Lists.{all}
 use Rattle.basis.proofs.Bools.{and-left, and-right, and-both}
 use Rattle.words.specs.Word.{wordNumber, letters, missing, numbered}
 use Rattle.words.specs.Inner.{inDigits}
@@ -192,3 +194,15 @@ number-numbered n =
 pub number-back : (n : ℕ) → inDigits (numbered n) ≡ true → wordNumber (numbered n) ≡ n
 unfolding inDigits
 number-back n h = ⊎-elim (λ e. absurd (true≢false (sym h ∙ ap inDigits e))) (λ p. p .0) (number-numbered n)
+
+-- ---- lists of words
+
+pub words-back : (ws : List Word) → all inDigits ws ≡ true → map numbered (map wordNumber ws) ≡ ws
+unfolding all
+words-back [] h = refl
+words-back (w ∷ ws) h = rw (numbered-number w (and-left _ _ h), words-back ws (and-right (inDigits w) _ h))
+
+pub numbers-back : (ns : List ℕ) → all inDigits (map numbered ns) ≡ true → map wordNumber (map numbered ns) ≡ ns
+unfolding all
+numbers-back [] h = refl
+numbers-back (n ∷ ns) h = rw (number-back n (and-left _ _ h), numbers-back ns (and-right (inDigits (numbered n)) _ h))
