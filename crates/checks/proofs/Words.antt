@@ -11,15 +11,15 @@ use lib.ListN.{length, getD, take, drop, length-take, List·getD-eq-default}
 use lib.Seq.{getD-take}
 use Rattle.basis.specs.Lists.{all}
 use Rattle.basis.proofs.Walk.{part-next, part-end}
+use Rattle.words.specs.Word.{numbered}
 use Rattle.words.specs.declared.Word.{Word}
-use Rattle.words.specs.declared.Word.the-variants.{True, Holds, Compares}
+use Rattle.words.specs.declared.Word.the-variants.{Holds, Compares}
 use Rattle.words.specs.declared.Holding.{Holding}
 use Rattle.words.specs.declared.Holding.the-variants.{User, Object}
 use Rattle.words.specs.declared.Comparison.{Comparison}
 use Rattle.words.specs.declared.Comparison.the-variants.{Dominates, Equals}
 use Rattle.policy.specs.Checks.{Sizes, bothThere, wordFits, widthsEqual, equalWidth, takes, balanced}
-use Rattle.policy.specs.Value.{slot, wordsIn}
-use Rattle.policy.specs.declared.value.Slot.{Slot}
+use Rattle.policy.specs.Value.{wordsIn}
 use Rattle.checks.specs.Inner.{sizesIn, bothIn}
 use Rattle.checks.specs.declared.side.Shape.{Shape}
 
@@ -59,70 +59,73 @@ module _ (x : Shape) (i : ℕ) where
 
 -- ---- the first n words from place i on
 
-abbrev pub wordsFrom : List Slot → ℕ → ℕ → List Word
-wordsFrom slots n i = map (λ (x : Slot). x .word) (drop i (take n slots))
+abbrev pub wordsFrom : List ℕ → ℕ → ℕ → List Word
+wordsFrom numbers n i = map numbered (drop i (take n numbers))
 
-module _ (slots : List Slot) (n i : ℕ) where
-  word-next : i < n → n ≤ length slots → wordsFrom slots n i ≡ getD slots i (slot True) .word ∷ wordsFrom slots n (i + 1)
-  word-next h k = rw (part-next (slot True) slots i n h k)
+module _ (numbers : List ℕ) (n i : ℕ) where
+  word-next : i < n → n ≤ length numbers
+      → wordsFrom numbers n i ≡ numbered (getD numbers i 0) ∷ wordsFrom numbers n (i + 1)
+  word-next h k = rw (part-next 0 numbers i n h k)
 
-  word-end : n ≤ i → wordsFrom slots n i ≡ []
-  word-end h = rw (part-end slots n i h)
+  word-end : n ≤ i → wordsFrom numbers n i ≡ []
+  word-end h = rw (part-end numbers n i h)
 
 -- the words before place i pass a test
-pub record Passed (f : Word → Bool) (slots : List Slot) (n i : ℕ) : Type 0 where
+pub record Passed (f : Word → Bool) (numbers : List ℕ) (n i : ℕ) : Type 0 where
   pub before : i ≤ n
-  pub rest : all f (wordsIn n slots) ≡ all f (wordsFrom slots n i)
+  pub rest : all f (wordsIn n numbers) ≡ all f (wordsFrom numbers n i)
 
-module _ (f : Word → Bool) {slots : List Slot} {n : ℕ} where
-  pub passed-none : Passed f slots n 0
+module _ (f : Word → Bool) {numbers : List ℕ} {n : ℕ} where
+  pub passed-none : Passed f numbers n 0
   passed-none = record { before = omega arith; rest = refl }
 
-  module _ {i : ℕ} (q : Passed f slots n i) where
-    pub passed-all : n ≤ i → true ≡ all f (wordsIn n slots)
+  module _ {i : ℕ} (q : Passed f numbers n i) where
+    pub passed-all : n ≤ i → true ≡ all f (wordsIn n numbers)
     unfolding all
-    passed-all h = sym (q .rest ∙ rw (word-end slots n i h))
+    passed-all h = sym (q .rest ∙ rw (word-end numbers n i h))
 
-    module _ (h : i < n) (k : n ≤ length slots) {b : Bool} (t : b ≡ f (getD slots i (slot True) .word)) where
-      pub passed-more : b ≡ true → Passed f slots n (i + 1)
+    module _ (h : i < n) (k : n ≤ length numbers) {w : Word} (is : w ≡ numbered (getD numbers i 0))
+        {b : Bool} (t : b ≡ f w) where
+      pub passed-more : b ≡ true → Passed f numbers n (i + 1)
       unfolding all
-      passed-more e = record { before = omega arith; rest = q .rest ∙ rw (word-next slots n i h k, ← t, e) }
+      passed-more e = record { before = omega arith; rest = q .rest ∙ rw (word-next numbers n i h k, ← is, ← t, e) }
 
-      pub passed-not : b ≡ false → false ≡ all f (wordsIn n slots)
+      pub passed-not : b ≡ false → false ≡ all f (wordsIn n numbers)
       unfolding all
-      passed-not e = sym (q .rest ∙ rw (word-next slots n i h k, ← t, e))
+      passed-not e = sym (q .rest ∙ rw (word-next numbers n i h k, ← is, ← t, e))
 
 -- the words before place i leave d truth values
-pub record Leaves (slots : List Slot) (n d i : ℕ) : Type 0 where
+pub record Leaves (numbers : List ℕ) (n d i : ℕ) : Type 0 where
   pub before : i ≤ n
   pub few : d ≤ i
-  pub rest : balanced 0 (wordsIn n slots) ≡ balanced d (wordsFrom slots n i)
+  pub rest : balanced 0 (wordsIn n numbers) ≡ balanced d (wordsFrom numbers n i)
 
-module _ {slots : List Slot} {n : ℕ} where
-  pub leaves-none : Leaves slots n 0 0
+module _ {numbers : List ℕ} {n : ℕ} where
+  pub leaves-none : Leaves numbers n 0 0
   leaves-none = record { before = omega arith; few = omega arith; rest = refl }
 
-  module _ {d i : ℕ} (q : Leaves slots n d i) where
-    pub leaves-one : n ≤ i → eqb d 1 ≡ balanced 0 (wordsIn n slots)
+  module _ {d i : ℕ} (q : Leaves numbers n d i) where
+    pub leaves-one : n ≤ i → eqb d 1 ≡ balanced 0 (wordsIn n numbers)
     unfolding balanced
-    leaves-one h = sym (q .rest ∙ rw (word-end slots n i h))
+    leaves-one h = sym (q .rest ∙ rw (word-end numbers n i h))
 
-    module _ (h : i < n) (k : n ≤ length slots) {t : ℕ} (e : t ≡ takes (getD slots i (slot True) .word)) where
-      pub leaves-more : t ≤ d → Leaves slots n (d - t + 1) (i + 1)
+    module _ (h : i < n) (k : n ≤ length numbers) {w : Word} (is : w ≡ numbered (getD numbers i 0))
+        {t : ℕ} (e : t ≡ takes w) where
+      pub leaves-more : t ≤ d → Leaves numbers n (d - t + 1) (i + 1)
       unfolding balanced
       leaves-more g =
           record {
             before = omega arith;
             few = omega (arith, q .few);
-            rest = q .rest ∙ rw (word-next slots n i h k, ← e, le-leb t d g);
+            rest = q .rest ∙ rw (word-next numbers n i h k, ← is, ← e, le-leb t d g);
           }
 
-      pub leaves-few : d < t → false ≡ balanced 0 (wordsIn n slots)
+      pub leaves-few : d < t → false ≡ balanced 0 (wordsIn n numbers)
       unfolding balanced
-      leaves-few g = sym (q .rest ∙ rw (word-next slots n i h k, ← e, lt-leb t d g))
+      leaves-few g = sym (q .rest ∙ rw (word-next numbers n i h k, ← is, ← e, lt-leb t d g))
 
 -- the words before place i pass both tests and leave d truth values
-pub record Checked (s : Sizes) (slots : List Slot) (n d i : ℕ) : Type 0 where
-  pub fit : Passed (wordFits s) slots n i
-  pub equal : Passed (widthsEqual s) slots n i
-  pub stack : Leaves slots n d i
+pub record Checked (s : Sizes) (numbers : List ℕ) (n d i : ℕ) : Type 0 where
+  pub fit : Passed (wordFits s) numbers n i
+  pub equal : Passed (widthsEqual s) numbers n i
+  pub stack : Leaves numbers n d i

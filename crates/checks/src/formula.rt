@@ -1,4 +1,4 @@
-// The words of a rule against both sides, and against the stack.
+// The words of a rule, by their numbers, against both sides and against the stack.
 ghost use mathlib.Core.Path.{_≡_};
 ghost use mathlib.Core.Bool.{_&&_};
 ghost use Prim.Native.Nat.{_≤_};
@@ -9,7 +9,6 @@ ghost use Rattle.policy.specs.Checks as checks;
 ghost use Rattle.policy.specs.Value.{widthPlaces, wordPlaces, wordsIn};
 ghost use Rattle.checks.specs.Inner.{sizesIn, bothIn};
 use crate::side::Shape;
-use policy::value::Slot;
 use policy::value::WORD_PLACES;
 use words::Comparison;
 use words::Holding;
@@ -91,14 +90,13 @@ fn widths_equal(user: Shape, object: Shape, word: Word) -> bool
 }
 
 // Check 6 of the first n words.
-pub fn all_fit(user: Shape, object: Shape, slots: [Slot; WORD_PLACES], n: usize) -> bool
+pub fn all_fit(user: Shape, object: Shape, numbers: [u8; WORD_PLACES], n: usize) -> bool
     requires { ⌜ n ≤ wordPlaces ⌝ }
-    ensures { λ r. ⌜ r ≡ all (checks.wordFits (bothIn user object)) (wordsIn n slots) ⌝ }
+    ensures { λ r. ⌜ r ≡ all (checks.wordFits (bothIn user object)) (wordsIn n numbers) ⌝ }
 {
     let mut i = 0;
     while i < n {
-        let s = slots[i];
-        let w = s.word;
+        let w = words::of_number(numbers[i]);
         if word_fits(user, object, w) {
             i += 1;
         } else {
@@ -109,14 +107,13 @@ pub fn all_fit(user: Shape, object: Shape, slots: [Slot; WORD_PLACES], n: usize)
 }
 
 // Check 8 of the first n words.
-pub fn all_equal(user: Shape, object: Shape, slots: [Slot; WORD_PLACES], n: usize) -> bool
+pub fn all_equal(user: Shape, object: Shape, numbers: [u8; WORD_PLACES], n: usize) -> bool
     requires { ⌜ (n ≤ wordPlaces) × (user .attributes ≤ widthPlaces) × (object .attributes ≤ widthPlaces) ⌝ }
-    ensures { λ r. ⌜ r ≡ all (checks.widthsEqual (bothIn user object)) (wordsIn n slots) ⌝ }
+    ensures { λ r. ⌜ r ≡ all (checks.widthsEqual (bothIn user object)) (wordsIn n numbers) ⌝ }
 {
     let mut i = 0;
     while i < n {
-        let s = slots[i];
-        let w = s.word;
+        let w = words::of_number(numbers[i]);
         if widths_equal(user, object, w) {
             i += 1;
         } else {
@@ -142,15 +139,14 @@ fn takes(word: Word) -> usize
 }
 
 // Check 9 of the first n words.
-pub fn balanced(slots: [Slot; WORD_PLACES], n: usize) -> bool
+pub fn balanced(numbers: [u8; WORD_PLACES], n: usize) -> bool
     requires { ⌜ n ≤ wordPlaces ⌝ }
-    ensures { λ r. ⌜ r ≡ checks.balanced 0 (wordsIn n slots) ⌝ }
+    ensures { λ r. ⌜ r ≡ checks.balanced 0 (wordsIn n numbers) ⌝ }
 {
     let mut depth: usize = 0;
     let mut i = 0;
     while i < n {
-        let s = slots[i];
-        let w = s.word;
+        let w = words::of_number(numbers[i]);
         let k = takes(w);
         if depth < k {
             return false;
@@ -162,15 +158,14 @@ pub fn balanced(slots: [Slot; WORD_PLACES], n: usize) -> bool
 }
 
 // Checks 6, 8 and 9 of the first n words in one pass, for check 11, which does not tell which of them is broken.
-pub fn sound(user: Shape, object: Shape, slots: [Slot; WORD_PLACES], n: usize) -> bool
+pub fn sound(user: Shape, object: Shape, numbers: [u8; WORD_PLACES], n: usize) -> bool
     requires { ⌜ (n ≤ wordPlaces) × (user .attributes ≤ widthPlaces) × (object .attributes ≤ widthPlaces) ⌝ }
-    ensures { λ r. ⌜ r ≡ (all (checks.wordFits (bothIn user object)) (wordsIn n slots) && (all (checks.widthsEqual (bothIn user object)) (wordsIn n slots) && checks.balanced 0 (wordsIn n slots))) ⌝ }
+    ensures { λ r. ⌜ r ≡ (all (checks.wordFits (bothIn user object)) (wordsIn n numbers) && (all (checks.widthsEqual (bothIn user object)) (wordsIn n numbers) && checks.balanced 0 (wordsIn n numbers))) ⌝ }
 {
     let mut depth: usize = 0;
     let mut i = 0;
     while i < n {
-        let s = slots[i];
-        let w = s.word;
+        let w = words::of_number(numbers[i]);
         if !word_fits(user, object, w) {
             return false;
         }

@@ -219,7 +219,10 @@ module _ (p : Policy) (rs : List Rule) (h : rising (ruleFits p) actionAbove none
       rising-few (ruleFits p) actionAbove (λ r. r .action) (actions (p .form)) (λ r f. rule-parts p r f .action)
       (λ b r f a. ltb-true (b .action) (r .action) a) rs h
 
--- the numbers of a word of a rule are digits
+-- the numbers of a rule's words are digits
+abbrev pub ruleDigits : Rule → Bool
+ruleDigits r = all inDigits (r .words)
+
 module _ (p : Policy) (t : Parts p) where
   digit-user : (v : ℕ) → ltb v (total (p .user)) ≡ true → ltb v 10 ≡ true
   digit-user v e = lt-ltb v 10 (omega (arith, total-few (p .form) (p .user) (t .user), ltb-true v (total (p .user)) e))
@@ -247,8 +250,13 @@ module _ (p : Policy) (t : Parts p) where
   word-digits And e = refl
   word-digits Or e = refl
 
-  pub rule-digits : (r : Rule) → RuleParts p r → all inDigits (r .words) ≡ true
+  pub rule-digits : (r : Rule) → RuleParts p r → ruleDigits r ≡ true
   rule-digits r q = all-of inDigits (r .words) (λ w m. word-digits w (all-at (wordFits (sizes p)) (r .words) (q .fit) w m))
+
+  pub rules-digits : all ruleDigits (p .rules) ≡ true
+  rules-digits =
+      all-of ruleDigits (p .rules)
+      (λ r m. rule-digits r (rule-parts p r (rising-at (ruleFits p) actionAbove none (p .rules) (t .rules) r m)))
 
 -- ---- conflicts
 

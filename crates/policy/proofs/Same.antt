@@ -1,27 +1,16 @@
 -- `sameValue` passes exactly for equal values: each test of sameness is exact, from the numbers up.
-use Prim.Native.Nat.{ℕ, _+_}
 use mathlib.Core.Path.{_≡_, refl, sym, ap, _∙_}
-use mathlib.Core.Bool.{Bool, true, cond, _&&_}
-use mathlib.Core.List.{List, [], _∷_}
+use mathlib.Core.Bool.{Bool, true, _&&_}
 use mathlib.Core.Logic.{_↔_}
-use native.Mathlib.Omega.{arith}
 use lib.Dec.{eqb}
 use borrow.Author.Tests.{eqb-true, eq-eqb}
-use Rattle.basis.specs.Bytes.{byte}
 use Rattle.basis.specs.Lists.{same}
 use Rattle.basis.proofs.Bools.{and-left, and-right}
 use Rattle.basis.proofs.Same.{same-self, same-eq}
 use Rattle.seniority.specs.Seniority.{direct}
 use Rattle.seniority.specs.declared.Direct.{Direct}
-use Rattle.text.specs.Number.{digitOf}
-use Rattle.words.specs.Word.{written}
-use Rattle.words.specs.declared.Word.{Word}
-use Rattle.words.specs.declared.Word.the-variants.{True, False, Holds, Compares, Not, And, Or}
-use Rattle.words.specs.declared.Holding.the-variants.{User as UserValue, Object as ObjectValue}
-use Rattle.words.specs.declared.Comparison.the-variants.{Dominates, Equals}
 use Rattle.policy.specs.Policy.{conflict, pair}
-use Rattle.policy.specs.Value.{slot}
-use Rattle.policy.specs.Valid.{sameLine, sameEntry, sameConflict, samePair, sameSlot, sameSide, sameRegister, sameConflicts, sameRule, sameRules, samePairs, sameValue}
+use Rattle.policy.specs.Valid.{sameLine, sameEntry, sameConflict, samePair, sameSide, sameRegister, sameConflicts, sameRule, sameRules, samePairs, sameValue}
 use Rattle.policy.specs.declared.value.Entry.{Entry}
 use Rattle.policy.specs.declared.value.SideValue.{SideValue}
 use Rattle.policy.specs.declared.value.Register.{Register}
@@ -43,36 +32,6 @@ exact-number = record { equal = eqb-true; self = λ n. eq-eqb n n refl }
 
 pub exact-list : {A : Type 0} (e : A → A → Bool) → Exact e → Exact (same e)
 exact-list e x = record { equal = same-eq e (x .equal); self = same-self e (x .self) }
-
--- ---- words: the word that some bytes write
-
-wordFrom : List ℕ → Word
-wordFrom [] = True
-wordFrom (c ∷ []) = cond (eqb c (byte "t")) True (cond (eqb c (byte "f")) False (cond (eqb c (byte "n")) Not (cond (eqb c (byte "a")) And Or)))
-wordFrom (c ∷ v ∷ []) = Holds (cond (eqb c (byte "u")) (UserValue (digitOf v)) (ObjectValue (digitOf v)))
-wordFrom (c ∷ i ∷ j ∷ xs) = Compares (cond (eqb c (byte "d")) (Dominates (digitOf i) (digitOf j)) (Equals (digitOf i) (digitOf j)))
-
-digit-back : (v : ℕ) → digitOf (byte "0" + v) ≡ v
-digit-back v = omega arith
-
-word-back : (w : Word) → wordFrom (written w) ≡ w
-unfolding wordFrom written
-word-back True = refl
-word-back False = refl
-word-back (Holds (UserValue v)) = rw (digit-back v)
-word-back (Holds (ObjectValue v)) = rw (digit-back v)
-word-back (Compares (Dominates i j)) = rw (digit-back i, digit-back j)
-word-back (Compares (Equals i j)) = rw (digit-back i, digit-back j)
-word-back Not = refl
-word-back And = refl
-word-back Or = refl
-
-pub exact-slot : Exact sameSlot
-exact-slot =
-    record {
-      equal = λ x y e. ap slot (sym (word-back (x .word)) ∙ ap wordFrom (exact-list eqb exact-number .equal (written (x .word)) (written (y .word)) e) ∙ word-back (y .word));
-      self = λ x. exact-list eqb exact-number .self (written (x .word));
-    }
 
 -- ---- records, field by field
 
@@ -129,7 +88,7 @@ unfolding sameRule
 exact-rule =
     made (λ t. record { action = t .0; count = t .1 .0; words = t .1 .1 }) (λ x. refl)
     (both (part (λ (x : RuleValue). x .action) exact-number)
-    (both (part (λ (x : RuleValue). x .count) exact-number) (part (λ (x : RuleValue). x .words) (exact-list sameSlot exact-slot))))
+    (both (part (λ (x : RuleValue). x .count) exact-number) (part (λ (x : RuleValue). x .words) (exact-list eqb exact-number))))
 
 pub exact-rules : Exact sameRules
 unfolding sameRules

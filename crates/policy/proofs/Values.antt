@@ -1,23 +1,29 @@
--- The policy value gives its policy back, and what one user, object or rule more does to it.
+-- The policy value gives its policy back where the words of the rules are in digits, as those of a sound policy are;
+-- and what one user, object or rule more does to it.
 use Prim.Native.Nat.{ℕ, _+_, _<_}
-use mathlib.Core.Path.{_≡_, refl, ap}
+use mathlib.Core.Path.{_≡_, refl}
+use mathlib.Core.Bool.{true}
 use mathlib.Core.List.{List, [], _∷_, _++_, map}
 use lib.ListN.{length, set}
+use Rattle.basis.specs.Lists.{all}
+use Rattle.basis.proofs.Bools.{and-left, and-right}
 use Rattle.basis.proofs.Snoc.{length-snoc}
 use Rattle.basis.proofs.Padded.{take-padded, take-padded-map, padded-more, padded-more-map}
 use Rattle.seniority.specs.Seniority.{direct}
-use Rattle.words.specs.declared.Word.{Word}
-use Rattle.words.specs.declared.Word.the-variants.{True}
+use Rattle.words.specs.Word.{wordNumber}
+use Rattle.words.proofs.Numbers.{words-back}
 use Rattle.policy.specs.Policy.{Side, Rule, Policy, conflict, pair}
 use Rattle.policy.specs.Checks.{withEntry}
-use Rattle.policy.specs.Value.{widthPlaces, entryPlaces, conflictPlaces, wordPlaces, rulePlaces, pairPlaces, slot, noEntry, noRule, sideValue, register, conflictsValue, ruleValue, rulesValue, pairsValue, valueOf, sideOf, entriesOf, conflictsOf, ruleOf, rulesOf, pairsOf, policyOf, linePlaces}
+use Rattle.policy.specs.Value.{widthPlaces, entryPlaces, conflictPlaces, wordPlaces, rulePlaces, pairPlaces, noEntry, noRule, sideValue, register, conflictsValue, ruleValue, rulesValue, pairsValue, valueOf, sideOf, entriesOf, conflictsOf, ruleOf, rulesOf, pairsOf, policyOf, linePlaces}
+use Rattle.policy.specs.Inner.Sound.{sound}
 use Rattle.policy.specs.declared.value.Entry.{Entry}
-use Rattle.policy.specs.declared.value.Slot.{Slot}
 use Rattle.policy.specs.declared.value.Register.{Register}
 use Rattle.policy.specs.declared.value.RuleValue.{RuleValue}
 use Rattle.policy.specs.declared.value.Rules.{Rules}
 use Rattle.policy.specs.declared.value.Conflict.{Conflict}
 use Rattle.policy.specs.declared.value.Pair.{Pair}
+use Rattle.policy.proofs.Parts.{parts, whole}
+use Rattle.policy.proofs.Bounds.{ruleDigits, rules-digits}
 
 -- ---- the value gives the policy back
 
@@ -29,21 +35,18 @@ pub register-value : (es : List Entry) → entriesOf (register es) ≡ es
 unfolding entriesOf register
 register-value es = take-padded entryPlaces noEntry es
 
-words-back : (ws : List Word) → map (λ (x : Slot). x .word) (map slot ws) ≡ ws
-words-back [] = refl
-words-back (w ∷ ws) = ap (λ (l : List Word). w ∷ l) (words-back ws)
-
-pub rule-value : (r : Rule) → ruleOf (ruleValue r) ≡ r
+pub rule-value : (r : Rule) → ruleDigits r ≡ true → ruleOf (ruleValue r) ≡ r
 unfolding ruleOf ruleValue
-rule-value r = rw (take-padded-map slot wordPlaces (slot True) (r .words), words-back (r .words))
+rule-value r h = rw (take-padded-map wordNumber wordPlaces 0 (r .words), words-back (r .words) h)
 
-rules-back : (rs : List Rule) → map ruleOf (map ruleValue rs) ≡ rs
-rules-back [] = refl
-rules-back (r ∷ rs) = rw (rule-value r, rules-back rs)
+rules-back : (rs : List Rule) → all ruleDigits rs ≡ true → map ruleOf (map ruleValue rs) ≡ rs
+unfolding all
+rules-back [] h = refl
+rules-back (r ∷ rs) h = rw (rule-value r (and-left _ _ h), rules-back rs (and-right (ruleDigits r) _ h))
 
-pub rules-value : (rs : List Rule) → rulesOf (rulesValue rs) ≡ rs
+pub rules-value : (rs : List Rule) → all ruleDigits rs ≡ true → rulesOf (rulesValue rs) ≡ rs
 unfolding rulesOf rulesValue
-rules-value rs = rw (take-padded-map ruleValue rulePlaces noRule rs) (rules-back rs)
+rules-value rs h = rw (take-padded-map ruleValue rulePlaces noRule rs) (rules-back rs h)
 
 pub conflicts-value : (xs : List Conflict) → conflictsOf (conflictsValue xs) ≡ xs
 unfolding conflictsOf conflictsValue
@@ -53,9 +56,13 @@ pub pairs-value : (xs : List Pair) → pairsOf (pairsValue xs) ≡ xs
 unfolding pairsOf pairsValue
 pairs-value xs = take-padded pairPlaces (pair 0 0 0) xs
 
-pub policy-value : (p : Policy) → policyOf (valueOf p) ≡ p
+pub policy-value : (p : Policy) → all ruleDigits (p .rules) ≡ true → policyOf (valueOf p) ≡ p
 unfolding policyOf valueOf
-policy-value p = rw (side-value (p .user), side-value (p .object), register-value (p .users), register-value (p .objects), conflicts-value (p .conflicts), rules-value (p .rules), pairs-value (p .pairs))
+policy-value p h = rw (side-value (p .user), side-value (p .object), register-value (p .users), register-value (p .objects), conflicts-value (p .conflicts), rules-value (p .rules) h, pairs-value (p .pairs))
+
+-- of a sound policy
+pub sound-value : (p : Policy) → sound p ≡ true → policyOf (valueOf p) ≡ p
+sound-value p e = policy-value p (rules-digits p (parts p (whole p e .lists)))
 
 -- ---- one user, object or rule more is a store behind the last
 

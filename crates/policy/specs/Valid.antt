@@ -6,7 +6,6 @@ use mathlib.Core.List.{List}
 use lib.Dec.{eqb}
 use Rattle.basis.specs.Lists.{same}
 use Rattle.seniority.specs.declared.Direct.{Direct}
-use Rattle.words.specs.Word.{written}
 use Rattle.policy.specs.Policy.{Policy}
 use Rattle.policy.specs.Read.{Outcome, Accepted, Refused, readText}
 use Rattle.policy.specs.Text.{textOf}
@@ -14,7 +13,6 @@ use Rattle.policy.specs.Value.{valueOf, policyOf}
 use Rattle.policy.specs.declared.value.Entry.{Entry}
 use Rattle.policy.specs.declared.value.Conflict.{Conflict}
 use Rattle.policy.specs.declared.value.Conflicts.{Conflicts}
-use Rattle.policy.specs.declared.value.Slot.{Slot}
 use Rattle.policy.specs.declared.value.SideValue.{SideValue}
 use Rattle.policy.specs.declared.value.Register.{Register}
 use Rattle.policy.specs.declared.value.RuleValue.{RuleValue}
@@ -42,10 +40,6 @@ sameConflict x y = eqb (x .set) (y .set) && eqb (x .most) (y .most)
 abbrev pub samePair : Pair → Pair → Bool
 samePair x y = eqb (x .action) (y .action) && (eqb (x .user) (y .user) && eqb (x .object) (y .object))
 
--- two words are the same where they are written alike
-abbrev pub sameSlot : Slot → Slot → Bool
-sameSlot x y = same eqb (written (x .word)) (written (y .word))
-
 unfoldable pub sameSide : SideValue → SideValue → Bool
 sameSide x y =
     eqb (x .attributes) (y .attributes)
@@ -58,7 +52,7 @@ unfoldable pub sameConflicts : Conflicts → Conflicts → Bool
 sameConflicts x y = eqb (x .count) (y .count) && same sameConflict (x .entries) (y .entries)
 
 unfoldable pub sameRule : RuleValue → RuleValue → Bool
-sameRule x y = eqb (x .action) (y .action) && (eqb (x .count) (y .count) && same sameSlot (x .words) (y .words))
+sameRule x y = eqb (x .action) (y .action) && (eqb (x .count) (y .count) && same eqb (x .words) (y .words))
 
 unfoldable pub sameRules : Rules → Rules → Bool
 sameRules x y = eqb (x .count) (y .count) && same sameRule (x .entries) (y .entries)

@@ -4,14 +4,13 @@ use mathlib.Core.List.{List, [], map}
 use lib.ListN.{length, take}
 use Rattle.basis.specs.Lists.{padded}
 use Rattle.seniority.specs.Seniority.{direct}
+use Rattle.words.specs.Word.{wordNumber, numbered}
 use Rattle.words.specs.declared.Word.{Word}
-use Rattle.words.specs.declared.Word.the-variants.{True}
 use Rattle.policy.specs.Limits.{mostValues, mostActions, objectNumbers, mostWords, mostLines, mostConflicts, mostPairs}
 use Rattle.policy.specs.Policy.{Side, Rule, Policy, conflict, pair}
 use Rattle.policy.specs.declared.value.Entry.{Entry}
 use Rattle.policy.specs.declared.value.Conflict.{Conflict}
 use Rattle.policy.specs.declared.value.Conflicts.{Conflicts}
-use Rattle.policy.specs.declared.value.Slot.{Slot}
 use Rattle.policy.specs.declared.value.SideValue.{SideValue}
 use Rattle.policy.specs.declared.value.Register.{Register}
 use Rattle.policy.specs.declared.value.RuleValue.{RuleValue}
@@ -42,9 +41,6 @@ rulePlaces = mostActions
 abbrev pub pairPlaces : ℕ
 pairPlaces = mostPairs
 
-abbrev pub slot : Word → Slot
-slot w = record { word = w }
-
 abbrev pub noEntry : Entry
 noEntry = record { number = 0; set = 0 }
 
@@ -66,10 +62,11 @@ unfoldable pub conflictsValue : List Conflict → Conflicts
 conflictsValue xs = record { count = length xs; entries = padded conflictPlaces (conflict 0 0) xs }
 
 unfoldable pub noRule : RuleValue
-noRule = record { action = 0; count = 0; words = padded wordPlaces (slot True) [] }
+noRule = record { action = 0; count = 0; words = padded wordPlaces 0 [] }
 
+-- a rule, with each word by its number
 unfoldable pub ruleValue : Rule → RuleValue
-ruleValue r = record { action = r .action; count = length (r .words); words = padded wordPlaces (slot True) (map slot (r .words)) }
+ruleValue r = record { action = r .action; count = length (r .words); words = padded wordPlaces 0 (map wordNumber (r .words)) }
 
 unfoldable pub rulesValue : List Rule → Rules
 rulesValue rs = record { count = length rs; entries = padded rulePlaces noRule (map ruleValue rs) }
@@ -101,9 +98,9 @@ entriesOf r = take (r .count) (r .entries)
 unfoldable pub conflictsOf : Conflicts → List Conflict
 conflictsOf x = take (x .count) (x .entries)
 
--- the words in the first n places
-abbrev pub wordsIn : ℕ → List Slot → List Word
-wordsIn n slots = map (λ (x : Slot). x .word) (take n slots)
+-- the words whose numbers stand in the first n places
+abbrev pub wordsIn : ℕ → List ℕ → List Word
+wordsIn n numbers = map numbered (take n numbers)
 
 unfoldable pub ruleOf : RuleValue → Rule
 ruleOf r = record { action = r .action; words = wordsIn (r .count) (r .words) }

@@ -4,7 +4,6 @@ ghost use Rattle.policy.specs.Policy.{blank};
 ghost use Rattle.policy.specs.Value.{valueOf};
 use crate::limits;
 use seniority::Direct;
-use words::Word;
 
 // The places of each array of a policy value.
 pub const WIDTH_PLACES: usize = limits::MOST_VALUES;
@@ -57,18 +56,15 @@ pub struct Conflicts {
     pub entries: [Conflict; CONFLICT_PLACES],
 }
 
-// A word in a struct of its own: an array of enums cannot be a field.
-pub struct Slot {
-    pub word: Word,
-}
-
-// A rule: its action and the words of its formula.
+// A rule: its action and the words of its formula, each by its number.
+#[repr(C)]
 pub struct RuleValue {
     pub action: u32,
     pub count: usize,
-    pub words: [Slot; WORD_PLACES],
+    pub words: [u8; WORD_PLACES],
 }
 
+#[repr(C)]
 pub struct Rules {
     pub count: usize,
     pub entries: [RuleValue; RULE_PLACES],
@@ -88,6 +84,7 @@ pub struct Pairs {
     pub entries: [Pair; PAIR_PLACES],
 }
 
+#[repr(C)]
 pub struct PolicyValue {
     pub form: u32,
     pub user: SideValue,
@@ -121,11 +118,10 @@ pub fn blank() -> PolicyValue
         count: 0,
         entries: [Conflict { set: 0, most: 0 }; CONFLICT_PLACES],
     };
-    let words = [Slot { word: Word::True }; WORD_PLACES];
     let rule = RuleValue {
         action: 0,
         count: 0,
-        words,
+        words: [0; WORD_PLACES],
     };
     let rules = Rules {
         count: 0,

@@ -1,8 +1,9 @@
--- "A word is a truth value, a holding, a comparison or a connective": its form in a text, both ways.
-use Prim.Native.Nat.{ℕ, _+_}
+-- "A word is a truth value, a holding, a comparison or a connective": its form in a text and its number, both ways.
+use Prim.Native.Nat.{ℕ, _+_, _-_, _*_, _/_, _%_}
 use mathlib.Core.Bool.{Bool, true, false, cond, _&&_}
 use mathlib.Core.List.{List, [], _∷_}
-use lib.Dec.{eqb}
+use lib.Dec.{eqb, ltb}
+use lib.ListN.{getD}
 use Rattle.basis.specs.Bytes.{byte}
 use Rattle.text.specs.Number.{isDigit, digitOf}
 use Rattle.words.specs.declared.Holding.the-variants.{User, Object}
@@ -66,3 +67,35 @@ written (Compares (Equals i j)) = byte "q" ∷ (byte "0" + i) ∷ (byte "0" + j)
 written Not = byte "n" ∷ []
 written And = byte "a" ∷ []
 written Or = byte "r" ∷ []
+
+-- the number by which a policy value holds a word: below 256, since the numbers in a word are digits
+unfoldable pub wordNumber : Word → ℕ
+wordNumber True = 0
+wordNumber False = 1
+wordNumber Not = 2
+wordNumber And = 3
+wordNumber Or = 4
+wordNumber (Holds (User v)) = 10 + v
+wordNumber (Holds (Object v)) = 20 + v
+wordNumber (Compares (Dominates i j)) = 50 + 10 * i + j
+wordNumber (Compares (Equals i j)) = 150 + 10 * i + j
+
+-- the words of the numbers from 0 on
+abbrev pub letters : List Word
+letters = True ∷ False ∷ Not ∷ And ∷ Or ∷ []
+
+-- the word that a number stands for where it is no word's number: it names a value that no side has, so check 11
+-- refuses a policy with it
+abbrev pub missing : Word
+missing = Holds (User 255)
+
+-- the word that has a number, and else the missing word
+unfoldable pub numbered : ℕ → Word
+numbered n =
+    cond (ltb n 10) (getD letters n missing)
+    (cond (ltb n 20) (Holds (User (n - 10)))
+    (cond (ltb n 30) (Holds (Object (n - 20)))
+    (cond (ltb n 50) missing
+    (cond (ltb n 150) (Compares (Dominates ((n - 50) / 10) ((n - 50) % 10)))
+    (cond (ltb n 250) (Compares (Equals ((n - 150) / 10) ((n - 150) % 10)))
+    missing)))))

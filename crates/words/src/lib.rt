@@ -1,5 +1,8 @@
 // The words of a formula.
+ghost use mathlib.Core.Bool.{true};
 ghost use mathlib.Core.Path.{_≡_};
+ghost use lib.ListN.{getD};
+ghost use Rattle.words.specs.Inner.{inDigits};
 ghost use Rattle.words.specs.Word as word;
 
 // A side and a value of it.
@@ -106,4 +109,73 @@ pub fn parse(f: &[u8]) -> Parsed
         return parse_comparison(f[0], f[1], f[2]);
     }
     Parsed::Malformed
+}
+
+// The number of a word, a byte for each.
+pub fn number_of(w: Word) -> u8
+    requires { ⌜ inDigits w ≡ true ⌝ }
+    ensures { λ r. ⌜ r ≡ word.wordNumber w ⌝ }
+{
+    match w {
+        Word::True => 0,
+        Word::False => 1,
+        Word::Holds(h) => match h {
+            Holding::User(v) => 10 + v,
+            Holding::Object(v) => 20 + v,
+        },
+        Word::Compares(c) => match c {
+            Comparison::Dominates(i, j) => 50 + 10 * i + j,
+            Comparison::Equals(i, j) => 150 + 10 * i + j,
+        },
+        Word::Not => 2,
+        Word::And => 3,
+        Word::Or => 4,
+    }
+}
+
+// The word that stands for a number which is no word's.
+fn missing() -> Word
+    ensures { λ r. ⌜ r ≡ word.missing ⌝ }
+{
+    Word::Holds(Holding::User(255))
+}
+
+fn letter_of(n: u8) -> Word
+    ensures { λ r. ⌜ r ≡ getD word.letters n word.missing ⌝ }
+{
+    match n {
+        0 => Word::True,
+        1 => Word::False,
+        2 => Word::Not,
+        3 => Word::And,
+        4 => Word::Or,
+        _ => missing(),
+    }
+}
+
+// The word of a number.
+pub fn of_number(n: u8) -> Word
+    ensures { λ r. ⌜ r ≡ word.numbered n ⌝ }
+{
+    if n < 10 {
+        return letter_of(n);
+    }
+    if n < 20 {
+        return Word::Holds(Holding::User(n - 10));
+    }
+    if n < 30 {
+        return Word::Holds(Holding::Object(n - 20));
+    }
+    if n < 50 {
+        return missing();
+    }
+    if n < 150 {
+        let k = n - 50;
+        return Word::Compares(Comparison::Dominates(k / 10, k % 10));
+    }
+    if n < 250 {
+        let k = n - 150;
+        return Word::Compares(Comparison::Equals(k / 10, k % 10));
+    }
+    missing()
 }

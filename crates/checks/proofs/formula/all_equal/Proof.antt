@@ -8,19 +8,19 @@ use Rattle.checks.proofs.formula.all_equal.Statement.{statement}
 use Rattle.checks.proofs.formula.all_equal.Tie as tie
 
 abbrev Inv-loop : tie.InvT-loop
-Inv-loop user object n slots i₀ i = Passed (widthsEqual (bothIn user object)) slots n i
+Inv-loop user object n numbers i₀ i = Passed (widthsEqual (bothIn user object)) numbers n i
 
 abbrev μ-loop : tie.MeasureT-loop
-μ-loop user object n slots i₀ i = n - i
+μ-loop user object n numbers i₀ i = n - i
 
 loop-holds : tie.Need-loop-holds Inv-loop μ-loop
 loop-holds c = passed-none _
 
-mul-s : tie.Need-mul-s Inv-loop μ-loop
-mul-s c = search needs
+array-read-of-number : tie.Need-array-read-of-number Inv-loop μ-loop
+array-read-of-number c = search needs
 
-array-copy-out-s : tie.Need-array-copy-out-s Inv-loop μ-loop
-array-copy-out-s c = search needs
+of-number-requires : tie.Need-of-number-requires Inv-loop μ-loop
+of-number-requires c κs = search needs
 
 widths-equal-requires : tie.Need-widths-equal-requires Inv-loop μ-loop
 widths-equal-requires c κs = search needs
@@ -32,10 +32,14 @@ loop-less : tie.Need-loop-less Inv-loop μ-loop
 loop-less c = search needs
 
 loop-again : tie.Need-loop-again Inv-loop μ-loop
-loop-again c = passed-more _ (c .before .before .before .before .loop .inv) (search needs) (search needs) (c .before .widths-equal .ensures) (c .if1 .taken)
+loop-again c =
+    passed-more _ (c .before .before .before .before .loop .inv) (search needs) (search needs)
+    (c .before .before .of-number .ensures) (c .before .widths-equal .ensures) (c .if1 .taken)
 
 returns : tie.Need-returns Inv-loop μ-loop
-returns c = passed-not _ (c .before .before .before .before .loop .inv) (search needs) (search needs) (c .before .widths-equal .ensures) (c .if1 .left)
+returns c =
+    passed-not _ (c .before .before .before .before .loop .inv) (search needs) (search needs)
+    (c .before .before .of-number .ensures) (c .before .widths-equal .ensures) (c .if1 .left)
 
 returns-2 : tie.Need-returns-2 Inv-loop μ-loop
 returns-2 c = passed-all _ (c .before .loop .inv) (c .loop-test .left)
@@ -47,8 +51,8 @@ all-equal-spec =
     Inv-loop
     μ-loop
     loop-holds
-    mul-s
-    array-copy-out-s
+    array-read-of-number
+    of-number-requires
     widths-equal-requires
     add-i
     loop-less

@@ -10,19 +10,19 @@ use Rattle.checks.proofs.formula.sound.Statement.{statement}
 use Rattle.checks.proofs.formula.sound.Tie as tie
 
 abbrev Inv-loop : tie.InvT-loop
-Inv-loop user object n slots depth₀ i₀ depth i = Checked (bothIn user object) slots n depth i
+Inv-loop user object n numbers depth₀ i₀ depth i = Checked (bothIn user object) numbers n depth i
 
 abbrev μ-loop : tie.MeasureT-loop
-μ-loop user object n slots depth₀ i₀ depth i = n - i
+μ-loop user object n numbers depth₀ i₀ depth i = n - i
 
 loop-holds : tie.Need-loop-holds Inv-loop μ-loop
 loop-holds c = record { fit = passed-none _; equal = passed-none _; stack = leaves-none }
 
-mul-s : tie.Need-mul-s Inv-loop μ-loop
-mul-s c = search needs
+array-read-of-number : tie.Need-array-read-of-number Inv-loop μ-loop
+array-read-of-number c = search needs
 
-array-copy-out-s : tie.Need-array-copy-out-s Inv-loop μ-loop
-array-copy-out-s c = search needs
+of-number-requires : tie.Need-of-number-requires Inv-loop μ-loop
+of-number-requires c κs = search needs
 
 word-fits-requires : tie.Need-word-fits-requires Inv-loop μ-loop
 word-fits-requires c κs = search needs
@@ -30,7 +30,8 @@ word-fits-requires c κs = search needs
 returns : tie.Need-returns Inv-loop μ-loop
 returns c =
     let q = c .before .before .before .before .loop .inv in
-    rw (← passed-not _ (q .fit) (search needs) (search needs) (c .before .word-fits .ensures) (not-true _ (c .if1 .taken)))
+    let is = c .before .before .of-number .ensures in
+    rw (← passed-not _ (q .fit) (search needs) (search needs) is (c .before .word-fits .ensures) (not-true _ (c .if1 .taken)))
 
 widths-equal-requires : tie.Need-widths-equal-requires Inv-loop μ-loop
 widths-equal-requires c κs = search needs
@@ -38,7 +39,8 @@ widths-equal-requires c κs = search needs
 returns-2 : tie.Need-returns-2 Inv-loop μ-loop
 returns-2 c =
     let q = c .before .before .before .before .before .before .loop .inv in
-    rw (← passed-not _ (q .equal) (search needs) (search needs) (c .before .widths-equal .ensures) (not-true _ (c .if2 .taken)), and-false)
+    let is = c .before .before .before .before .of-number .ensures in
+    rw (← passed-not _ (q .equal) (search needs) (search needs) is (c .before .widths-equal .ensures) (not-true _ (c .if2 .taken)), and-false)
 
 takes-requires : tie.Need-takes-requires Inv-loop μ-loop
 takes-requires c κs = search needs
@@ -46,7 +48,8 @@ takes-requires c κs = search needs
 returns-3 : tie.Need-returns-3 Inv-loop μ-loop
 returns-3 c =
     let q = c .before .before .before .before .before .before .before .before .loop .inv in
-    rw (← leaves-few (q .stack) (search needs) (search needs) (c .before .takes .ensures) (c .if3 .taken), and-false, and-false)
+    let is = c .before .before .before .before .before .before .of-number .ensures in
+    rw (← leaves-few (q .stack) (search needs) (search needs) is (c .before .takes .ensures) (c .if3 .taken), and-false, and-false)
 
 add-depth : tie.Need-add-depth Inv-loop μ-loop
 add-depth c = search needs
@@ -60,10 +63,11 @@ loop-less c = search needs
 loop-again : tie.Need-loop-again Inv-loop μ-loop
 loop-again c =
     let q = c .before .before .before .before .before .before .before .before .loop .inv in
+    let is = c .before .before .before .before .before .before .of-number .ensures in
     record {
-      fit = passed-more _ (q .fit) (search needs) (search needs) (c .before .before .before .before .before .word-fits .ensures) (not-false _ (c .before .before .before .before .if1 .left));
-      equal = passed-more _ (q .equal) (search needs) (search needs) (c .before .before .before .widths-equal .ensures) (not-false _ (c .before .before .if2 .left));
-      stack = leaves-more (q .stack) (search needs) (search needs) (c .before .takes .ensures) (c .if3 .left);
+      fit = passed-more _ (q .fit) (search needs) (search needs) is (c .before .before .before .before .before .word-fits .ensures) (not-false _ (c .before .before .before .before .if1 .left));
+      equal = passed-more _ (q .equal) (search needs) (search needs) is (c .before .before .before .widths-equal .ensures) (not-false _ (c .before .before .if2 .left));
+      stack = leaves-more (q .stack) (search needs) (search needs) is (c .before .takes .ensures) (c .if3 .left);
     }
 
 returns-4 : tie.Need-returns-4 Inv-loop μ-loop
@@ -78,8 +82,8 @@ sound-spec =
     Inv-loop
     μ-loop
     loop-holds
-    mul-s
-    array-copy-out-s
+    array-read-of-number
+    of-number-requires
     word-fits-requires
     returns
     widths-equal-requires
