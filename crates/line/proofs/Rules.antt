@@ -16,19 +16,19 @@ use Rattle.text.specs.Inner.{Found}
 use Rattle.text.specs.declared.kind.Kind.the-variants.{Rule as RuleKind}
 use Rattle.text.specs.declared.kind.Layout.the-variants.{Formula}
 use Rattle.text.proofs.Split.{split-pos}
-use Rattle.words.specs.Word.{parsed, wordIn}
+use Rattle.words.specs.Inner.{inDigits}
+use Rattle.words.specs.Word.{parsed, wordIn, wordNumber}
 use Rattle.words.specs.declared.Word.{Word}
-use Rattle.words.specs.declared.Word.the-variants.{True}
 use Rattle.words.specs.declared.Parsed.{Parsed}
 use Rattle.words.specs.declared.Parsed.the-variants.{Is as IsWord, Malformed}
+use Rattle.words.proofs.RoundTrip.{written-parsed}
 use Rattle.policy.specs.Limits.{actions, mostWords}
 use Rattle.policy.specs.Policy.{Rule}
 use Rattle.policy.specs.Line.{oneNumber, countFits}
 use Rattle.policy.specs.Checks.{Sizes, inRange, wordFits, widthsEqual, balanced}
-use Rattle.policy.specs.Value.{wordPlaces, slot, ruleValue, wordsIn, ruleOf}
+use Rattle.policy.specs.Value.{wordPlaces, ruleValue, wordsIn, ruleOf}
 use Rattle.policy.specs.declared.refusal.Refusal.{Refusal}
 use Rattle.policy.specs.declared.refusal.Refusal.the-variants.{MalformedField, OutOfRange, NotRising, UnequalWidths, UnbalancedFormula}
-use Rattle.policy.specs.declared.value.Slot.{Slot}
 use Rattle.policy.specs.declared.value.RuleValue.{RuleValue}
 use Rattle.policy.proofs.Values.{rule-value}
 use Rattle.line.specs.Inner.Head.{between}
@@ -66,19 +66,33 @@ words-few l e = omega (arith, rule-count (length (fields l)) e .1, length-drop 2
 abbrev wordsOf : List (List ℕ) → List Word
 wordsOf fs = map (λ f. wordIn (parsed f)) fs
 
+-- what is parsed is in digits
+pub word-digits : (f : List ℕ) (x : Parsed) → x ≡ parsed f → (w : Word) → x ≡ IsWord w → inDigits w ≡ true
+word-digits f x p w h = written-parsed f w (sym p ∙ h) .digits
+
+field-digits : (f : List ℕ) (x : Parsed) → x ≡ parsed f → inDigits (wordIn x) ≡ true
+unfolding inDigits
+field-digits f (IsWord w) p = word-digits f (IsWord w) p w refl
+field-digits f Malformed p = refl
+
+words-digits : (fs : List (List ℕ)) → all inDigits (wordsOf fs) ≡ true
+unfolding all
+words-digits [] = refl
+words-digits (f ∷ fs) = rw (field-digits f (parsed f) refl, words-digits fs)
+
 -- n words are done, and those from `at` are left
-pub record Sofar (l : List ℕ) (from : ℕ) (slots : List Slot) (n at : ℕ) : Type 0 where
+pub record Sofar (l : List ℕ) (from : ℕ) (numbers : List ℕ) (n at : ℕ) : Type 0 where
   pub within : at ≤ length l
   pub done : List Word
   pub count : n ≡ length done
-  pub stored : slots ≡ padded wordPlaces (slot True) (map slot done)
+  pub stored : numbers ≡ padded wordPlaces 0 (map wordNumber done)
   pub words : wordsOf (fields (drop from l)) ≡ done ++ wordsOf (fields (drop at l))
   pub are : areWords (fields (drop from l)) ≡ areWords (fields (drop at l))
 
-pub none-done : (l : List ℕ) (from : ℕ) → from ≤ length l → Sofar l from (padded wordPlaces (slot True) []) 0 from
+pub none-done : (l : List ℕ) (from : ℕ) → from ≤ length l → Sofar l from (padded wordPlaces 0 []) 0 from
 none-done l from h = record { within = h; done = []; count = refl; stored = refl; words = refl; are = refl }
 
-module _ {l : List ℕ} {from : ℕ} {slots : List Slot} {n at : ℕ} (s : Sofar l from slots n at) where
+module _ {l : List ℕ} {from : ℕ} {numbers : List ℕ} {n at : ℕ} (s : Sofar l from numbers n at) where
   pub room : length (fields (drop from l)) ≤ wordPlaces → n < wordPlaces
   room h =
       let d = s .done in
@@ -92,12 +106,14 @@ module _ {l : List ℕ} {from : ℕ} {slots : List Slot} {n at : ℕ} (s : Sofar
     unfolding ruleIn all
     stops h a r q = rw (s .are, some-field l at e f .1, sym p ∙ h) q
 
-    module _ (w : Word) (h : x ≡ IsWord w) (k : n < wordPlaces) where
-      stored-more : set slots n (slot w) ≡ padded wordPlaces (slot True) (map slot (s .done ++ (w ∷ [])))
-      stored-more = rw (s .stored, s .count) (sym (padded-more-map slot wordPlaces (slot True) (s .done) w (omega (arith, s .count))))
+    module _ (w : Word) (h : x ≡ IsWord w) (v : ℕ) (g : v ≡ wordNumber w) (k : n < wordPlaces) where
+      stored-more : set numbers n v ≡ padded wordPlaces 0 (map wordNumber (s .done ++ (w ∷ [])))
+      stored-more =
+          let m : length (s .done) < wordPlaces = omega (arith, s .count) in
+          rw (g, s .stored, s .count) (sym (padded-more-map wordNumber wordPlaces 0 (s .done) w m))
 
       -- it is a word, and not the last
-      pub goes-on : (e ≡ length l → ⊥) → Sofar l from (set slots n (slot w)) (n + 1) (e + 1)
+      pub goes-on : (e ≡ length l → ⊥) → Sofar l from (set numbers n v) (n + 1) (e + 1)
       unfolding all
       goes-on z =
           let q = next-field l at e f z in
@@ -111,13 +127,15 @@ module _ {l : List ℕ} {from : ℕ} {slots : List Slot} {n at : ℕ} (s : Sofar
           }
 
       -- and the last
-      pub ends : e ≡ length l → (a : ℕ) → record { fault = None; rule = record { action = a; count = n + 1; words = set slots n (slot w) } } ≡ ruleIn a (fields (drop from l))
+      pub ends : e ≡ length l → (a : ℕ)
+          → record { fault = None; rule = record { action = a; count = n + 1; words = set numbers n v } }
+          ≡ ruleIn a (fields (drop from l))
       unfolding ruleIn ruleValue all
       ends z a =
           let q = last-field l at e f z in
-          let v : wordsOf (fields (drop from l)) ≡ s .done ++ (w ∷ []) = s .words ∙ (rw (q, sym p ∙ h)) in
+          let ws : wordsOf (fields (drop from l)) ≡ s .done ++ (w ∷ []) = s .words ∙ (rw (q, sym p ∙ h)) in
           let m : length (s .done ++ (w ∷ [])) ≡ n + 1 = omega (arith, length-append (s .done) (w ∷ []), s .count) in
-          rw (s .are, q, sym p ∙ h, v, m, ← stored-more)
+          rw (s .are, q, sym p ∙ h, ws, m, ← stored-more)
 
 -- ---- a rule against the lines before it
 
@@ -187,7 +205,8 @@ module _ (a : ℕ) (fs : List (List ℕ)) (z : RuleLine) (e : z ≡ ruleIn a (dr
     pub admitted-now : (f : Fault) → z .fault ≡ None → f ≡ ruleFault least form s (ruleOf (z .rule)) → record { fault = f; rule = z .rule } ≡ admittedRule least form s a fs
     unfolding admittedRule
     admitted-now f h q =
-        let w : ruleOf (z .rule) ≡ ruleFrom a (drop 2 fs) = ap ruleOf (rule-held h) ∙ rule-value (ruleFrom a (drop 2 fs)) in
+        let v = rule-value (ruleFrom a (drop 2 fs)) (words-digits (drop 2 fs)) in
+        let w : ruleOf (z .rule) ≡ ruleFrom a (drop 2 fs) = ap ruleOf (rule-held h) ∙ v in
         rw (← e, h, q ∙ ap (ruleFault least form s) w)
 
 -- the rule of a line in which nothing is broken

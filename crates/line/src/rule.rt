@@ -14,10 +14,8 @@ ghost use Rattle.line.specs.Inner.Rule.{faultyRule, ruleIn, formulaFault
 use checks::side::Shape;
 use policy::refusal::Refusal;
 use policy::value::RuleValue;
-use policy::value::Slot;
 use policy::value::WORD_PLACES;
 use words::Parsed;
-use words::Word;
 
 // What a rule's line breaks.
 pub enum Fault {
@@ -34,7 +32,7 @@ pub struct RuleLine {
 fn refused(r: Refusal) -> RuleLine
     ensures { λ x. ⌜ x ≡ faultyRule r ⌝ }
 {
-    let words = [Slot { word: Word::True }; WORD_PLACES];
+    let words = [0u8; WORD_PLACES];
     RuleLine {
         fault: Fault::Is(r),
         rule: RuleValue {
@@ -50,7 +48,7 @@ fn words(action: u32, line: &[u8], from: usize) -> RuleLine
     requires { ⌜ (from ≤ length (now line)) × (length (fields (drop from (now line))) ≤ wordPlaces) ⌝ }
     ensures { λ r. ⌜ r ≡ ruleIn action (fields (drop from (now (line .entry)))) ⌝ }
 {
-    let mut words = [Slot { word: Word::True }; WORD_PLACES];
+    let mut words = [0u8; WORD_PLACES];
     let mut n: usize = 0;
     let mut at = from;
     loop {
@@ -59,7 +57,7 @@ fn words(action: u32, line: &[u8], from: usize) -> RuleLine
         let Parsed::Is(w) = x else {
             return refused(Refusal::MalformedField);
         };
-        words[n] = Slot { word: w };
+        words[n] = words::number_of(w);
         n += 1;
         if e == line.len() {
             return RuleLine {
@@ -89,9 +87,9 @@ fn in_range(form: u32, user: Shape, object: Shape, rule: RuleValue) -> bool
     ensures { λ r. ⌜ r ≡ inRange kind.Rule form (bothIn user object) (oneNumber (rule .action)) (ruleOf rule .words) ⌝ }
 {
     let n = rule.count;
-    let slots = rule.words;
+    let numbers = rule.words;
     if rule.action < policy::limits::actions(form) {
-        return checks::formula::all_fit(user, object, slots, n);
+        return checks::formula::all_fit(user, object, numbers, n);
     }
     false
 }
@@ -101,9 +99,9 @@ fn formula(user: Shape, object: Shape, rule: RuleValue) -> Fault
     ensures { λ r. ⌜ r ≡ formulaFault (bothIn user object) (ruleOf rule) ⌝ }
 {
     let n = rule.count;
-    let slots = rule.words;
-    if checks::formula::all_equal(user, object, slots, n) {
-        if checks::formula::balanced(slots, n) {
+    let numbers = rule.words;
+    if checks::formula::all_equal(user, object, numbers, n) {
+        if checks::formula::balanced(numbers, n) {
             return Fault::None;
         }
         return Fault::Is(Refusal::UnbalancedFormula);

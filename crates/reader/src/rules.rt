@@ -9,10 +9,8 @@ use line::rule::Fault;
 use policy::value::RULE_PLACES;
 use policy::value::RuleValue;
 use policy::value::Rules;
-use policy::value::Slot;
 use policy::value::WORD_PLACES;
 use text::kind::Kind;
-use words::Word;
 
 pub struct RulesRead {
     pub rules: Rules,
@@ -24,7 +22,7 @@ pub fn read(text: &[u8], cursor: Cursor, form: u32, user: Shape, object: Shape) 
     requires { ⌜ Stands (now text) cursor × (user .attributes ≤ widthPlaces) × (object .attributes ≤ widthPlaces) ⌝ }
     ensures { λ r. ⌜ RulesFrom (now (text .entry)) form user object cursor r ⌝ }
 {
-    let words = [Slot { word: Word::True }; WORD_PLACES];
+    let words = [0u8; WORD_PLACES];
     let mut entries = [RuleValue {
         action: 0,
         count: 0,

@@ -10,7 +10,7 @@ use borrow.Author.Tests.{ltb-false}
 use lib.Dec.{eqb, ltb}
 use lib.ListN.{length}
 use Rattle.basis.specs.Choice.{given}
-use Rattle.basis.specs.Lists.{any, sum}
+use Rattle.basis.specs.Lists.{all, any, sum}
 use Rattle.basis.specs.Numbers.{select}
 use Rattle.text.specs.Kind.{isKind}
 use Rattle.text.specs.Parts.{TextLine, lineFeed, onto, split, linesOf, lines, textOf}
@@ -24,7 +24,7 @@ use Rattle.policy.specs.Value.{sideValue, rulesValue, pairsValue, valueOf, side
 use Rattle.policy.specs.declared.refusal.Refusal.{Refusal}
 use Rattle.policy.specs.declared.value.Reading.{Reading}
 use Rattle.policy.specs.declared.value.Verdict.the-variants.{Accepted as AcceptedText, Refused as RefusedText}
-use Rattle.policy.proofs.Valid.{yielded-valid}
+use Rattle.policy.proofs.Valid.{yielded-policy, yielded-valid}
 use Rattle.policy.proofs.Values.{policy-value}
 use Rattle.formula.specs.Inner.Fits.{SideFits, ValueFits}
 use Rattle.formula.proofs.Checked.{valid-fits}
@@ -106,19 +106,7 @@ module _ {r : Reading} where
   read-value (Accepted p) x = x .value
   read-value (Refused n l) x = x .value
 
-  pub read-policy : (o : Outcome) → ReadAs o r → policyOf (r .policy) ≡ policyIn o
-  read-policy o x = ap policyOf (read-value o x) ∙ policy-value (policyIn o)
-
-  -- the first line
-  pub accepted-first : (o : Outcome) → ReadAs o r → r .verdict ≡ AcceptedText
-      → {users objects : ℕ} → users ≡ NU (policyOf (r .policy)) → objects ≡ NO (policyOf (r .policy)) → labelsLine users objects ≡ firstLine o
-  unfolding firstLine
-  accepted-first (Accepted p) x h u o = rw (u, o, read-policy (Accepted p) x)
-  accepted-first (Refused n l) x h u o =
-      let k = rw h at (x .verdict) in
-      let z : _≡_ {A = ℕ} 0 1 = cc in
-      absurd (omega arith)
-
+  -- the first line beside a refusal
   pub refused-first : (o : Outcome) → ReadAs o r → {q : Refusal} {l : ℕ} → r .verdict ≡ RefusedText q l → refusalLine (numberOf q) l ≡ firstLine o
   unfolding firstLine
   refused-first (Accepted p) x h =
@@ -145,6 +133,30 @@ blank-fits =
     }
 
 module _ (t : List ℕ) {r : Reading} where
+  policy-cases : (o : Outcome) → readText t ≡ o → ReadAs o r → policyOf (r .policy) ≡ policyIn o
+  unfolding blank all
+  policy-cases (Accepted p) e x = ap policyOf (read-value (Accepted p) x) ∙ yielded-policy t p e
+  policy-cases (Refused n l) e x = ap policyOf (read-value (Refused n l) x) ∙ policy-value blank refl
+
+  -- the policy value stands for the policy that is read
+  pub read-policy : ReadAs (readText t) r → policyOf (r .policy) ≡ policyIn (readText t)
+  read-policy x = policy-cases (readText t) refl x
+
+  first-cases : (o : Outcome) → readText t ≡ o → ReadAs o r → r .verdict ≡ AcceptedText → {users objects : ℕ}
+      → users ≡ NU (policyOf (r .policy)) → objects ≡ NO (policyOf (r .policy)) → labelsLine users objects ≡ firstLine o
+  unfolding firstLine
+  first-cases (Accepted p) e x h u o = rw (u, o, policy-cases (Accepted p) e x)
+  first-cases (Refused n l) e x h u o =
+      let k = rw h at (x .verdict) in
+      let z : _≡_ {A = ℕ} 0 1 = cc in
+      absurd (omega arith)
+
+  -- the first line of an accepted text
+  pub accepted-first : ReadAs (readText t) r → r .verdict ≡ AcceptedText → {users objects : ℕ}
+      → users ≡ NU (policyOf (r .policy)) → objects ≡ NO (policyOf (r .policy))
+      → labelsLine users objects ≡ firstLine (readText t)
+  accepted-first x h u o = first-cases (readText t) refl x h u o
+
   valid-cases : (o : Outcome) → readText t ≡ o → ReadAs o r → r .verdict ≡ AcceptedText → valid (r .policy) ≡ true
   unfolding valueIn
   valid-cases (Accepted p) e x h = rw (x .value) (yielded-valid t p e)

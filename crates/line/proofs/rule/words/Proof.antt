@@ -3,7 +3,7 @@ use Prim.Native.Nat.{_-_}
 use native.Mathlib.Omega.{arith}
 use lib.ListN.{length}
 use Rattle.basis.specs.Lists.{padded}
-use Rattle.line.proofs.Rules.{Sofar, none-done, room, stops, goes-on, ends}
+use Rattle.line.proofs.Rules.{Sofar, none-done, word-digits, room, stops, goes-on, ends}
 use borrow.Author.Needs.{needs}
 use Rattle.line.proofs.rule.words.Statement.{statement}
 use Rattle.line.proofs.rule.words.Tie as tie
@@ -45,17 +45,26 @@ refused-requires c κs = search needs
 returns : tie.Need-returns Inv-loop μ-loop
 returns c = search stops
 
-mul-words : tie.Need-mul-words Inv-loop μ-loop
-mul-words c = let k = room (c .before .before .before .before .before .before .loop .inv) (c .before .before .before .before .before .before .before .before .pre .1) in search needs
+number-of-requires : tie.Need-number-of-requires Inv-loop μ-loop
+number-of-requires c κs = search word-digits
 
-array-set-from-words : tie.Need-array-set-from-words Inv-loop μ-loop
-array-set-from-words c = let k = room (c .before .before .before .before .before .before .loop .inv) (c .before .before .before .before .before .before .before .before .pre .1) in search needs
+array-write-words : tie.Need-array-write-words Inv-loop μ-loop
+array-write-words c =
+    let s = c .before .before .before .before .before .before .before .loop .inv in
+    let k = room s (c .before .before .before .before .before .before .before .before .before .pre .1) in
+    search needs
 
 add-n : tie.Need-add-n Inv-loop μ-loop
-add-n c = let k = room (c .before .before .before .before .before .before .loop .inv) (c .before .before .before .before .before .before .before .before .pre .1) in omega arith
+add-n c =
+    let s = c .before .before .before .before .before .before .before .loop .inv in
+    let k = room s (c .before .before .before .before .before .before .before .before .before .pre .1) in
+    omega arith
 
 returns-2 : tie.Need-returns-2 Inv-loop μ-loop
-returns-2 c = let k = room (c .before .before .before .before .before .before .before .loop .inv) (c .before .before .before .before .before .before .before .before .before .pre .1) in search ends
+returns-2 c =
+    let s = c .before .before .before .before .before .before .before .before .loop .inv in
+    let k = room s (c .before .before .before .before .before .before .before .before .before .before .pre .1) in
+    search ends
 
 add-at : tie.Need-add-at Inv-loop μ-loop
 add-at c = search needs
@@ -64,7 +73,10 @@ loop-less : tie.Need-loop-less Inv-loop μ-loop
 loop-less c = search needs
 
 loop-again : tie.Need-loop-again Inv-loop μ-loop
-loop-again c = let k = room (c .before .before .before .before .before .before .before .loop .inv) (c .before .before .before .before .before .before .before .before .before .pre .1) in search goes-on
+loop-again c =
+    let s = c .before .before .before .before .before .before .before .before .loop .inv in
+    let k = room s (c .before .before .before .before .before .before .before .before .before .before .pre .1) in
+    search goes-on
 
 pub words-spec : {M : Type 1} → statement M
 words-spec =
@@ -82,8 +94,8 @@ words-spec =
     enum-told
     refused-requires
     returns
-    mul-words
-    array-set-from-words
+    number-of-requires
+    array-write-words
     add-n
     returns-2
     add-at

@@ -48,9 +48,10 @@ refusal-line-requires c κs = omega (arith, c .before .before .before .before .b
 returns : tie.Need-returns
 returns c =
     let y = c .before .labels-line .ensures in
-    let n = c .before .before .before .count-labels .ensures in (
+    let n = c .before .before .before .count-labels .ensures in
+    let v = c .before .before .before .before .enum-told .given .1 in (
       held-fits y (c .before .before .before .before .before .before .blank .ensures),
-      λ t x. held-put y ∙ ap ended (accepted-first (readText t) x (c .before .before .before .before .enum-told .given .1) (n .0) (n .1)),
+      λ t x. held-put y ∙ ap ended (accepted-first t x v (n .0) (n .1)),
     )
 
 returns-2 : tie.Need-returns-2

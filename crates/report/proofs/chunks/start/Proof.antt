@@ -55,7 +55,7 @@ returns c =
         tuples = record { values = c .before .before .before .before .total .ensures (p .object) (source .sides .object); blocks = omega (arith, none); within = omega arith };
         held = held .0;
       },
-      report-is (readText t) ∙ start-left p _ none refl refl (held .1 t (r .ensures)) (read-policy (readText t) (r .ensures)),
+      report-is (readText t) ∙ start-left p _ none refl refl (held .1 t (r .ensures)) (read-policy t (r .ensures)),
     )
 
 pub start-spec : {M : Type 1} → statement M
