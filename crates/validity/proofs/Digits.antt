@@ -26,7 +26,8 @@ digit v n h e = lt-ltb v 10 (omega (arith, ltb-true v n e))
 module _ (s : Sizes) (u : s .user .values ≤ mostValues) (o : s .object .values ≤ mostValues)
     (a : s .user .attributes ≤ widthPlaces) (b : s .object .attributes ≤ widthPlaces) where
   digits-both : (i j : ℕ) → bothThere s i j ≡ true → (ltb i 10 && ltb j 10) ≡ true
-  digits-both i j e = and-both _ _ (digit i _ a (and-left _ _ e)) (digit j _ b (and-right (ltb i (s .user .attributes)) _ e))
+  digits-both i j e =
+      and-both _ _ (digit i _ a (and-left _ _ e)) (digit j _ b (and-right (ltb i (s .user .attributes)) _ e))
 
   word-digits : (w : Word) → wordFits s w ≡ true → inDigits w ≡ true
   unfolding inDigits
@@ -43,5 +44,6 @@ module _ (s : Sizes) (u : s .user .values ≤ mostValues) (o : s .object .values
   pub sound-digits : (n : ℕ) (r : Rule) → ruleSound n s r ≡ true → all inDigits (r .words) ≡ true
   unfolding ruleSound
   sound-digits n r e =
-      let fit = and-left (all (wordFits s) (r .words)) _ (and-right (ltb (r .action) n) _ (and-right (leb (length (r .words)) mostWords) _ e)) in
+      let e₁ = and-right (leb (length (r .words)) mostWords) _ e in
+      let fit = and-left (all (wordFits s) (r .words)) _ (and-right (ltb (r .action) n) _ e₁) in
       all-of inDigits (r .words) (λ w m. word-digits w (all-at (wordFits s) (r .words) fit w m))

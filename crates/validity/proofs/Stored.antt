@@ -1,7 +1,7 @@
 -- A list stored in an array, blank behind it: what each test of the code says of it. One law for each answer of the
 -- tests of a whole list.
 use Prim.Native.Nat.{ℕ, _≤_, _<_}
-use mathlib.Core.Path.{_≡_, refl, sym, _∙_}
+use mathlib.Core.Path.{_≡_, sym}
 use mathlib.Core.Bool.{Bool, true, false, _&&_, and-false}
 use mathlib.Core.List.{List, []}
 use mathlib.Core.Option.{none}
@@ -124,8 +124,9 @@ module _ (x : RuleValue) (k : length (x .words) ≡ wordPlaces) where
   pub rule-out : wordPlaces < x .count → sameRule (ruleValue (ruleOf x)) x ≡ false
   unfolding sameRule ruleValue ruleOf
   rule-out h =
-      let ns = take (x .count) (x .words) in
-      rw (exact-number .self (x .action), length-map, ne-eqb (length ns) (x .count) (λ q. omega (arith, length-take (x .count) (x .words))))
+      let n = x .count in
+      let e : eqb (length (take n (x .words))) n ≡ false = ne-eqb _ n (λ q. omega (arith, length-take n (x .words))) in
+      rw (exact-number .self (x .action), length-map, e)
 
   -- words in digits have the numbers that they are stored as
   pub rule-stored : x .count ≤ wordPlaces → all inDigits (wordsIn (x .count) (x .words)) ≡ true

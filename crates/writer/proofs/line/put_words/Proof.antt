@@ -29,8 +29,10 @@ put-requires : tie.Need-put-requires Inv-loop μ-loop
 put-requires c κs =
     let l = c .before .before .before .loop in
     let t = c .before .before .before .before .before in
-    let digits = all-taken (λ n. inDigits (numbered n)) 0 (t .args .t1) (t .args .n) (l .i) (search needs) (l .inv .places) (t .pre .1) in
-    rw (c .before .of-number .ensures) (digits, run-room (l .inv) 0 (search needs))
+    rw (c .before .of-number .ensures) (
+      all-taken (λ n. inDigits (numbered n)) 0 (t .args .t1) (t .args .n) (l .i) (search needs) (l .inv .places) (t .pre .1),
+      run-room (l .inv) 0 (search needs),
+    )
 
 add-i : tie.Need-add-i Inv-loop μ-loop
 add-i c = search needs
