@@ -10,10 +10,10 @@ use lib.ListN.{length, getD, set}
 use lib.Seq.{getD-set-other}
 use Rattle.sets.specs.Set.{has}
 use Rattle.sets.proofs.Laws.{has-zero}
+use Rattle.words.specs.Word.{numbered}
 use Rattle.words.specs.declared.Word.{Word}
 use Rattle.words.specs.declared.Word.the-variants.{True, False, Holds, Compares, Not, And, Or}
 use Rattle.policy.specs.Policy.{Policy}
-use Rattle.policy.specs.declared.value.Slot.{Slot}
 use Rattle.policy.specs.Value.{wordsIn}
 use Rattle.formula.specs.Truth.{Sets, top, below, step, run, truth}
 use Rattle.formula.specs.Inner.Lane.{column}
@@ -51,23 +51,23 @@ module _ (st : List ℕ) where
 -- ---- one word more
 
 module _ (p : Policy) (s : Sets) where
-  run-next : (ws : List Slot) (z : Slot) (i : ℕ) (bs : List Bool) → i < length ws
-      → step p s (getD ws i z .word) (run p s (wordsIn i ws) bs) ≡ run p s (wordsIn (i + 1) ws) bs
+  run-next : (ns : List ℕ) (i : ℕ) (bs : List Bool) → i < length ns
+      → step p s (numbered (getD ns i 0)) (run p s (wordsIn i ns) bs) ≡ run p s (wordsIn (i + 1) ns) bs
   unfolding run
-  run-next [] z i bs h = absurd (omega arith)
-  run-next (w ∷ ws) z zero bs h = refl
-  run-next (w ∷ ws) z (suc i) bs h =
-      let e : suc i + 1 ≡ suc (i + 1) = omega arith in rw e (run-next ws z i (step p s (w .word) bs) (omega arith))
+  run-next [] i bs h = absurd (omega arith)
+  run-next (n ∷ ns) zero bs h = refl
+  run-next (n ∷ ns) (suc i) bs h =
+      let e : suc i + 1 ≡ suc (i + 1) = omega arith in rw e (run-next ns i (step p s (numbered n) bs) (omega arith))
 
   -- a lane in which top and stack were what i words leave, after the next word
-  pub column-next : (ws : List Slot) (z : Slot) (st : List ℕ) (k i d e t x : ℕ) → i < length ws
-      → has t k ∷ column st d k ≡ run p s (wordsIn i ws) (false ∷ [])
-      → has x k ∷ column (set st d t) e k ≡ step p s (getD ws i z .word) (has t k ∷ column (set st d t) d k)
-      → has x k ∷ column (set st d t) e k ≡ run p s (wordsIn (i + 1) ws) (false ∷ [])
-  column-next ws z st k i d e t x h old new =
+  pub column-next : (ns st : List ℕ) (k i d e t x : ℕ) {w : Word} → i < length ns → w ≡ numbered (getD ns i 0)
+      → has t k ∷ column st d k ≡ run p s (wordsIn i ns) (false ∷ [])
+      → has x k ∷ column (set st d t) e k ≡ step p s w (has t k ∷ column (set st d t) d k)
+      → has x k ∷ column (set st d t) e k ≡ run p s (wordsIn (i + 1) ns) (false ∷ [])
+  column-next ns st k i d e t x {w} h q old new =
       new
-      ∙ ap (λ (l : List Bool). step p s (getD ws i z .word) (has t k ∷ l)) (column-set st d t d k (omega arith))
-      ∙ ap (step p s (getD ws i z .word)) old ∙ run-next ws z i (false ∷ []) h
+      ∙ ap (λ (l : List Bool). step p s w (has t k ∷ l)) (column-set st d t d k (omega arith))
+      ∙ ap₂ (step p s) q old ∙ run-next ns i (false ∷ []) h
 
 -- ---- false below an empty stack
 

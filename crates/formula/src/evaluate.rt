@@ -19,7 +19,6 @@ use crate::attributes::Attributes;
 use crate::side::ALL;
 use crate::side::VECTORS;
 use policy::limits::MOST_VALUES;
-use policy::value::Slot;
 use policy::value::WORD_PLACES;
 use words::Comparison;
 use words::Holding;
@@ -167,24 +166,23 @@ fn worked(
     }
 }
 
-// The truths of a formula of n words at 64 pairs of sets.
+// The truths of a formula of n words, by their numbers, at 64 pairs of sets.
 pub fn truths(
     sides: Attributes,
     users: &[u64; VECTORS],
     objects: &[u64; VECTORS],
-    words: [Slot; WORD_PLACES],
+    numbers: [u8; WORD_PLACES],
     n: usize,
 ) -> u64
     requires { ⌜ ((p : Policy) × AttributesOf p sides) × (n ≤ wordPlaces) ⌝ }
-    ensures { λ r. ⌜ ((p : Policy) (k : ℕ) (s : Sets) → AttributesOf p sides → InLane p (now (users .entry)) (now (objects .entry)) k s → has r k ≡ truth p s (wordsIn n words)) ⌝ }
+    ensures { λ r. ⌜ ((p : Policy) (k : ℕ) (s : Sets) → AttributesOf p sides → InLane p (now (users .entry)) (now (objects .entry)) k s → has r k ≡ truth p s (wordsIn n numbers)) ⌝ }
 {
     let mut stack = [0u64; WORD_PLACES];
     let mut top: u64 = 0;
     let mut d: usize = 0;
     let mut i: usize = 0;
     while i < n {
-        let slot = words[i];
-        let w = slot.word;
+        let w = words::of_number(numbers[i]);
         stack[d] = top;
         let t = worked(sides, users, objects, w, &stack, top, d);
         top = t.0;

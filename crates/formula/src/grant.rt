@@ -19,9 +19,7 @@ use policy::value::Pairs;
 use policy::value::PolicyValue;
 use policy::value::RuleValue;
 use policy::value::Rules;
-use policy::value::Slot;
 use policy::value::WORD_PLACES;
-use words::Word;
 
 // What grants the actions of a policy: its rules and its pairs.
 pub struct Grants {
@@ -50,7 +48,7 @@ pub fn of_policy(policy: PolicyValue) -> Grants
 fn no_rule() -> RuleValue
     ensures { λ r. ⌜ r .count ≡ 0 ⌝ }
 {
-    let words = [Slot { word: Word::False }; WORD_PLACES];
+    let words = [0u8; WORD_PLACES];
     RuleValue {
         action: 0,
         count: 0,

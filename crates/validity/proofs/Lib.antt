@@ -1,4 +1,5 @@
 pub mod Blank
+pub mod Digits
 pub mod Rising
 pub mod Stored
 pub mod Turns

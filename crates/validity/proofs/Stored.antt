@@ -1,9 +1,9 @@
 -- A list stored in an array, blank behind it: what each test of the code says of it. One law for each answer of the
 -- tests of a whole list.
 use Prim.Native.Nat.{ℕ, _≤_, _<_}
-use mathlib.Core.Path.{_≡_, refl, sym, _∙_}
+use mathlib.Core.Path.{_≡_, sym}
 use mathlib.Core.Bool.{Bool, true, false, _&&_, and-false}
-use mathlib.Core.List.{List, [], map-map, map-id}
+use mathlib.Core.List.{List, []}
 use mathlib.Core.Option.{none}
 use native.Mathlib.Omega.{arith}
 use borrow.Author.Tests.{eq-eqb, ne-eqb, eqb-true, lt-leb, le-leb}
@@ -16,22 +16,18 @@ use Rattle.basis.proofs.Padded.{same-padded}
 use Rattle.basis.proofs.Same.{same-self}
 use Rattle.seniority.specs.Seniority.{direct}
 use Rattle.seniority.specs.declared.Direct.{Direct}
-use Rattle.words.specs.Word.{written}
-use Rattle.words.specs.declared.Word.the-variants.{True, Holds, Compares}
-use Rattle.words.specs.declared.Holding.{Holding}
-use Rattle.words.specs.declared.Holding.the-variants.{User, Object}
-use Rattle.words.specs.declared.Comparison.{Comparison}
-use Rattle.words.specs.declared.Comparison.the-variants.{Dominates, Equals}
+use Rattle.words.specs.Inner.{inDigits}
+use Rattle.words.proofs.Numbers.{numbers-back}
 use Rattle.policy.specs.Checks.{SideSizes, Sizes, conflictFits, pairFits}
 use Rattle.policy.specs.Policy.{conflict, pair}
-use Rattle.policy.specs.Value.{widthPlaces, entryPlaces, conflictPlaces, wordPlaces, pairPlaces, slot, noEntry, noRule, entriesOf, register, conflictsValue, conflictsOf, ruleValue, ruleOf, pairsValue, pairsOf, linePlaces}
-use Rattle.policy.specs.Valid.{sameLine, sameEntry, sameConflict, samePair, sameSlot, sameRegister, sameConflicts, sameRule, samePairs}
+use Rattle.policy.specs.Value.{widthPlaces, entryPlaces, conflictPlaces, wordPlaces, wordsIn, pairPlaces, noEntry, noRule, entriesOf, register, conflictsValue, conflictsOf, ruleValue, ruleOf, pairsValue, pairsOf, linePlaces}
+use Rattle.policy.specs.Valid.{sameLine, sameEntry, sameConflict, samePair, sameRegister, sameConflicts, sameRule, samePairs}
 use Rattle.policy.specs.Inner.Sound.{widthsSound, rising, lineIn, lineAbove, numberIn, numberAbove, pairHigher, setAbove}
 use Rattle.policy.specs.declared.value.Entry.{Entry}
 use Rattle.policy.specs.declared.value.RuleValue.{RuleValue}
 use Rattle.policy.specs.declared.value.Conflict.{Conflict}
 use Rattle.policy.specs.declared.value.Pair.{Pair}
-use Rattle.policy.proofs.Same.{exact-number, exact-line, exact-entry, exact-conflict, exact-slot, exact-pair}
+use Rattle.policy.proofs.Same.{exact-number, exact-line, exact-entry, exact-conflict, exact-pair}
 use Rattle.validity.specs.Inner.{holds, widthsValid, linesValid, registerValid, conflictsValid, pairsValid}
 
 -- ---- any list
@@ -66,16 +62,6 @@ module _ (a : ℕ) (r : Bool) where
 
   pub zero-not : (a ≡ 0 → ⊥) → false ≡ (eqb 0 a && r)
   zero-not h = rw (ne-eqb 0 a (λ q. h (sym q)))
-
-pub no-holding : (h : Holding) → false ≡ sameSlot (slot True) (slot (Holds h))
-unfolding written same
-no-holding (User v) = refl
-no-holding (Object v) = refl
-
-pub no-comparison : (k : Comparison) → false ≡ sameSlot (slot True) (slot (Compares k))
-unfolding written same
-no-comparison (Dominates i j) = refl
-no-comparison (Equals i j) = refl
 
 -- ---- the lists
 
@@ -135,15 +121,20 @@ module _ (a : ℕ) (s : Sizes) (xs : List Pair) (n : ℕ) (k : length xs ≡ pai
   pairs-in h = holds-few samePair (pair 0 0 0) xs n pairPlaces k (exact-pair .self) h _
 
 module _ (x : RuleValue) (k : length (x .words) ≡ wordPlaces) where
-  rule-holds : sameRule (ruleValue (ruleOf x)) x ≡ holds sameSlot wordPlaces (slot True) (x .words) (x .count)
-  unfolding sameRule ruleValue ruleOf holds
-  rule-holds = rw (exact-number .self (x .action), length-map, map-map, map-id)
-
   pub rule-out : wordPlaces < x .count → sameRule (ruleValue (ruleOf x)) x ≡ false
-  rule-out h = rule-holds ∙ holds-out sameSlot (slot True) (x .words) (x .count) wordPlaces k h
+  unfolding sameRule ruleValue ruleOf
+  rule-out h =
+      let n = x .count in
+      let e : eqb (length (take n (x .words))) n ≡ false = ne-eqb _ n (λ q. omega (arith, length-take n (x .words))) in
+      rw (exact-number .self (x .action), length-map, e)
 
-  pub rule-stored : x .count ≤ wordPlaces → sameRule (ruleValue (ruleOf x)) x ≡ all (sameSlot (slot True)) (drop (x .count) (x .words))
-  rule-stored h = rule-holds ∙ holds-in sameSlot (slot True) (x .words) (x .count) wordPlaces k (exact-slot .self) h
+  -- words in digits have the numbers that they are stored as
+  pub rule-stored : x .count ≤ wordPlaces → all inDigits (wordsIn (x .count) (x .words)) ≡ true
+      → sameRule (ruleValue (ruleOf x)) x ≡ all (eqb 0) (drop (x .count) (x .words))
+  unfolding sameRule ruleValue ruleOf holds
+  rule-stored h d =
+      rw (exact-number .self (x .action), length-map, numbers-back (take (x .count) (x .words)) d)
+      (holds-in eqb 0 (x .words) (x .count) wordPlaces k (exact-number .self) h)
 
 module _ (x : RuleValue) where
   pub blank-action : (x .action ≡ 0 → ⊥) → false ≡ sameRule noRule x
@@ -155,6 +146,6 @@ module _ (x : RuleValue) where
   blank-count a h = rw (a, ne-eqb 0 (x .count) (λ q. h (sym q)))
 
   pub blank-words : length (x .words) ≡ wordPlaces → x .action ≡ 0 → x .count ≡ 0 → {r : Bool}
-      → r ≡ all (sameSlot (slot True)) (x .words) → r ≡ sameRule noRule x
+      → r ≡ all (eqb 0) (x .words) → r ≡ sameRule noRule x
   unfolding sameRule noRule same
-  blank-words k a h q = rw (a, h, ← k, same-padded sameSlot (slot True) [] (x .words) (omega arith)) q
+  blank-words k a h q = rw (a, h, ← k, same-padded eqb 0 [] (x .words) (omega arith)) q

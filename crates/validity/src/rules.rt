@@ -1,46 +1,28 @@
 // The rules and their words.
 ghost use mathlib.Core.Path.{_≡_};
 ghost use Prim.Native.Nat.{_≤_};
+ghost use lib.Dec.{eqb};
 ghost use lib.ListN.{drop};
 ghost use Rattle.basis.specs.Lists.{all};
-ghost use Rattle.words.specs.declared.Word.the-variants as word;
-ghost use Rattle.policy.specs.Value.{widthPlaces, wordPlaces, slot, noRule, ruleOf};
-ghost use Rattle.policy.specs.Valid.{sameSlot, sameRule};
+ghost use Rattle.policy.specs.Limits.{mostValues};
+ghost use Rattle.policy.specs.Value.{widthPlaces, wordPlaces, noRule, ruleOf};
+ghost use Rattle.policy.specs.Valid.{sameRule};
 ghost use Rattle.policy.specs.Inner.Sound.{ruleSound};
 ghost use Rattle.checks.specs.Inner.{bothIn};
 ghost use Rattle.validity.specs.Inner.{ruleValid, rulesValid};
 use checks::side::Shape;
 use policy::value::RULE_PLACES;
 use policy::value::RuleValue;
-use policy::value::Slot;
 use policy::value::WORD_PLACES;
-use words::Word;
-
-// A blank place holds the word `t`.
-fn no_word(w: Word) -> bool
-    ensures { λ r. ⌜ r ≡ sameSlot (slot word.True) (slot w) ⌝ }
-{
-    match w {
-        Word::True => true,
-        Word::False => false,
-        Word::Holds(_) => false,
-        Word::Compares(_) => false,
-        Word::Not => false,
-        Word::And => false,
-        Word::Or => false,
-    }
-}
 
 // Every word from place n on is blank.
-fn words_blank(slots: [Slot; WORD_PLACES], n: usize) -> bool
-    ensures { λ r. ⌜ r ≡ all (sameSlot (slot word.True)) (drop n slots) ⌝ }
+fn words_blank(numbers: [u8; WORD_PLACES], n: usize) -> bool
+    ensures { λ r. ⌜ r ≡ all (eqb 0) (drop n numbers) ⌝ }
 {
     let mut blank = true;
     let mut i = n;
     while i < WORD_PLACES {
-        let s = slots[i];
-        let w = s.word;
-        blank = crate::behind::still_blank(blank, no_word(w));
+        blank = crate::behind::still_blank(blank, 0 == numbers[i]);
         i += 1;
     }
     blank
@@ -54,13 +36,13 @@ fn rule_sound(actions: u32, user: Shape, object: Shape, x: RuleValue) -> bool
     if actions <= x.action {
         return false;
     }
-    let slots = x.words;
-    checks::formula::sound(user, object, slots, x.count)
+    let numbers = x.words;
+    checks::formula::sound(user, object, numbers, x.count)
 }
 
 // No more words than there are places, a sound rule, and nothing behind the last word.
 fn rule_valid(actions: u32, user: Shape, object: Shape, x: RuleValue) -> bool
-    requires { ⌜ (user .attributes ≤ widthPlaces) × (object .attributes ≤ widthPlaces) ⌝ }
+    requires { ⌜ (user .total ≤ mostValues) × (object .total ≤ mostValues) × (user .attributes ≤ widthPlaces) × (object .attributes ≤ widthPlaces) ⌝ }
     ensures { λ r. ⌜ r ≡ ruleValid actions (bothIn user object) x ⌝ }
 {
     let n = x.count;
@@ -70,8 +52,8 @@ fn rule_valid(actions: u32, user: Shape, object: Shape, x: RuleValue) -> bool
     if !rule_sound(actions, user, object, x) {
         return false;
     }
-    let slots = x.words;
-    words_blank(slots, n)
+    let numbers = x.words;
+    words_blank(numbers, n)
 }
 
 fn no_rule(x: RuleValue) -> bool
@@ -83,8 +65,8 @@ fn no_rule(x: RuleValue) -> bool
     if x.count != 0 {
         return false;
     }
-    let slots = x.words;
-    words_blank(slots, 0)
+    let numbers = x.words;
+    words_blank(numbers, 0)
 }
 
 // Check 11 of the rules: no more than there are places, each sound, and nothing behind the last.
@@ -95,7 +77,7 @@ pub fn rules_valid(
     rules: [RuleValue; RULE_PLACES],
     n: usize,
 ) -> bool
-    requires { ⌜ (user .attributes ≤ widthPlaces) × (object .attributes ≤ widthPlaces) ⌝ }
+    requires { ⌜ (user .total ≤ mostValues) × (object .total ≤ mostValues) × (user .attributes ≤ widthPlaces) × (object .attributes ≤ widthPlaces) ⌝ }
     ensures { λ r. ⌜ r ≡ rulesValid actions (bothIn user object) (record { count = n; entries = rules }) ⌝ }
 {
     if RULE_PLACES < n {

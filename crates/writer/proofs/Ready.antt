@@ -3,17 +3,19 @@
 use Prim.Native.Nat.{_≤_}
 use mathlib.Core.Path.{_≡_}
 use mathlib.Core.Bool.{true}
+use mathlib.Core.List.{map}
 use borrow.Author.Tests.{le-leb}
 use lib.ListN.{length}
 use Rattle.basis.proofs.Lists.{all-of, all-map}
 use Rattle.basis.proofs.Padded.{take-padded-map}
-use Rattle.words.specs.declared.Word.the-variants.{True}
+use Rattle.words.specs.Word.{wordNumber, numbered}
 use Rattle.words.specs.Inner.{inDigits}
+use Rattle.words.proofs.Numbers.{words-back}
 use Rattle.policy.specs.Limits.{textBytes}
 use Rattle.policy.specs.Policy.{Side, Rule, Policy}
 use Rattle.policy.specs.Text.{textOf}
 use Rattle.policy.specs.Valid.{valid}
-use Rattle.policy.specs.Value.{wordPlaces, rulePlaces, slot, noRule, sideValue, register, conflictsValue, ruleValue, rulesValue, pairsValue, valueOf, policyOf}
+use Rattle.policy.specs.Value.{wordPlaces, rulePlaces, noRule, sideValue, register, conflictsValue, ruleValue, rulesValue, pairsValue, valueOf, policyOf}
 use Rattle.policy.specs.declared.value.PolicyValue.{PolicyValue}
 use Rattle.policy.proofs.Parts.{RuleParts, Parts, parts, whole}
 use Rattle.policy.proofs.Bounds.{WithinSide, rule-bounds, rule-digits, parts-within}
@@ -30,8 +32,14 @@ module _ (p : Policy) (t : Parts p) where
   rule-writable : (r : Rule) → RuleParts p r → ruleWritable (ruleValue r) ≡ true
   unfolding ruleWritable ruleValue
   rule-writable r q =
-      rw (le-leb (length (r .words)) wordPlaces (q .few), take-padded-map slot wordPlaces (slot True) (r .words), all-map (λ s. inDigits (s .word)) slot (r .words))
-      (rule-digits p t r q)
+      let d = rule-digits p t r q in
+      rw (
+        le-leb (length (r .words)) wordPlaces (q .few),
+        take-padded-map wordNumber wordPlaces 0 (r .words),
+        ← all-map inDigits numbered (map wordNumber (r .words)),
+        words-back (r .words) d,
+      )
+      d
 
   rules-within : length (p .rules) ≤ rulePlaces → RulesWithin (rulesValue (p .rules))
   unfolding rulesValue

@@ -10,7 +10,7 @@ use Rattle.text.specs.Kind.{wordOf, layoutOf}
 use Rattle.text.specs.declared.kind.Kind.{Kind}
 use Rattle.text.specs.declared.kind.Kind.the-variants.{Policy as PolicyKind, Uattr, Oattr, Usen, Osen, User, Object, Conflict as ConflictKind, Rule as RuleKind, Pair as PairKind, End}
 use Rattle.text.specs.declared.kind.Layout.the-variants.{Bare, One, Two, Three}
-use Rattle.words.specs.Word.{written}
+use Rattle.words.specs.Word.{written, numbered}
 use Rattle.policy.specs.Line.{Line, noNumbers, oneNumber, twoNumbers, threeNumbers, plain, ruleLine}
 use Rattle.policy.specs.Policy.{Rule}
 use Rattle.policy.specs.Text.{linesOf, laterFields, lineText, textOf}
@@ -20,7 +20,6 @@ use Rattle.policy.specs.declared.value.Entry.{Entry}
 use Rattle.policy.specs.declared.value.Conflict.{Conflict}
 use Rattle.policy.specs.declared.value.Pair.{Pair}
 use Rattle.policy.specs.declared.value.RuleValue.{RuleValue}
-use Rattle.policy.specs.declared.value.Slot.{Slot}
 use Rattle.writer.specs.Inner.Put.{each, feed, field, wordFields, bareLine, oneLine, twoLine, threeLine, formulaLine, directLine, entryLine, conflictLine, pairLine}
 use Rattle.writer.specs.Inner.Put as Put
 use Rattle.writer.specs.Inner.Whole.{sidesText, listsText}
@@ -59,18 +58,18 @@ module _ (k : Kind) where
         append-assoc (field (decimal b)) (field (decimal d)) feed,
       )
 
-each-written : (ws : List Slot) → each field (map written (map (λ (s : Slot). s .word) ws)) ≡ wordFields ws
+each-written : (ns : List ℕ) → each field (map written (map numbered ns)) ≡ wordFields ns
 unfolding each
 each-written [] = refl
-each-written (s ∷ ws) = rw (each-written ws)
+each-written (n ∷ ns) = rw (each-written ns)
 
 rule : (r : RuleValue) → lineText (ruleLine (ruleOf r .action) (ruleOf r .words)) ++ feed ≡ Put.ruleLine (wordOf RuleKind) r
 unfolding ruleOf lineText laterFields formulaLine each
 rule r =
     rw (
       fields-end (wordOf RuleKind) (decimal (r .action) ∷ map written (ruleOf r .words)),
-      each-written (Put.slotsOf r),
-      append-assoc (field (decimal (r .action))) (wordFields (Put.slotsOf r)) feed,
+      each-written (Put.numbersOf r),
+      append-assoc (field (decimal (r .action))) (wordFields (Put.numbersOf r)) feed,
     )
 
 -- ---- the lines of a list

@@ -8,7 +8,6 @@ ghost use Rattle.writer.specs.Inner.Put.{Room, Put, allInDigits, wordFie
 use crate::bytes;
 use crate::number;
 use crate::word;
-use policy::value::Slot;
 use policy::value::WORD_PLACES;
 
 // A word alone.
@@ -53,16 +52,15 @@ pub fn put_three(word: &[u8], a: u32, b: u32, c: u32, buf: &mut [u8]) -> usize
     bytes::put_feed(buf, at)
 }
 
-// The first n words, each with a comma before it.
-fn put_words(words: [Slot; WORD_PLACES], n: usize, buf: &mut [u8], start: usize) -> usize
-    requires { ⌜ (n ≤ wordPlaces) × (allInDigits (take n words) ≡ true) × Room (wordFields (take n words)) start (now buf) ⌝ }
-    ensures { λ r. ⌜ Put (wordFields (take n words)) start (now (buf .entry)) (now (buf .exit)) r ⌝ }
+// The first n words, by their numbers, each with a comma before it.
+fn put_words(numbers: [u8; WORD_PLACES], n: usize, buf: &mut [u8], start: usize) -> usize
+    requires { ⌜ (n ≤ wordPlaces) × (allInDigits (take n numbers) ≡ true) × Room (wordFields (take n numbers)) start (now buf) ⌝ }
+    ensures { λ r. ⌜ Put (wordFields (take n numbers)) start (now (buf .entry)) (now (buf .exit)) r ⌝ }
 {
     let mut at = start;
     let mut i = 0;
     while i < n {
-        let slot = words[i];
-        let w = slot.word;
+        let w = words::of_number(numbers[i]);
         at = word::put(w, buf, at);
         i += 1;
     }
@@ -73,15 +71,15 @@ fn put_words(words: [Slot; WORD_PLACES], n: usize, buf: &mut [u8], start: usize)
 pub fn put_formula(
     word: &[u8],
     a: u32,
-    words: [Slot; WORD_PLACES],
+    numbers: [u8; WORD_PLACES],
     n: usize,
     buf: &mut [u8],
 ) -> usize
-    requires { ⌜ (n ≤ wordPlaces) × (allInDigits (take n words) ≡ true) × Room (formulaLine (now word) a (take n words)) 0 (now buf) ⌝ }
-    ensures { λ r. ⌜ Put (formulaLine (now (word .entry)) a (take n words)) 0 (now (buf .entry)) (now (buf .exit)) r ⌝ }
+    requires { ⌜ (n ≤ wordPlaces) × (allInDigits (take n numbers) ≡ true) × Room (formulaLine (now word) a (take n numbers)) 0 (now buf) ⌝ }
+    ensures { λ r. ⌜ Put (formulaLine (now (word .entry)) a (take n numbers)) 0 (now (buf .entry)) (now (buf .exit)) r ⌝ }
 {
     let mut at = bytes::put(word, buf, 0);
     at = number::put(a, buf, at);
-    at = put_words(words, n, buf, at);
+    at = put_words(numbers, n, buf, at);
     bytes::put_feed(buf, at)
 }

@@ -121,8 +121,8 @@ pub fn put_rules(
     let mut i = 0;
     while i < n {
         let rule = rules[i];
-        let words = rule.words;
-        let m = line::put_formula(word, rule.action, words, rule.count, &mut buf[at..]);
+        let numbers = rule.words;
+        let m = line::put_formula(word, rule.action, numbers, rule.count, &mut buf[at..]);
         at += m;
         i += 1;
     }

@@ -9,14 +9,13 @@ use Rattle.basis.specs.Lists.{all, over}
 use Rattle.seniority.specs.declared.Direct.{Direct}
 use Rattle.text.specs.Number.{decimal}
 use Rattle.text.specs.Parts.{comma, lineFeed}
-use Rattle.words.specs.Word.{written}
+use Rattle.words.specs.Word.{written, numbered}
 use Rattle.words.specs.Inner.{inDigits}
 use Rattle.policy.specs.Value.{wordPlaces}
 use Rattle.policy.specs.declared.value.Entry.{Entry}
 use Rattle.policy.specs.declared.value.Conflict.{Conflict}
 use Rattle.policy.specs.declared.value.Pair.{Pair}
 use Rattle.policy.specs.declared.value.RuleValue.{RuleValue}
-use Rattle.policy.specs.declared.value.Slot.{Slot}
 use Rattle.writer.specs.declared.word.Spelling.{Spelling}
 
 -- a buffer has room for a text from a place on
@@ -51,10 +50,14 @@ feed = lineFeed ∷ []
 abbrev pub numberField : ℕ → List ℕ
 numberField n = field (decimal n)
 
-abbrev pub wordFields : List Slot → List ℕ
-wordFields ws = each (λ s. field (written (s .word))) ws
+-- the field of the word that has a number
+abbrev pub wordField : ℕ → List ℕ
+wordField n = field (written (numbered n))
 
--- a line by its layout: a word alone, with one, two or three numbers, or with an action and words
+abbrev pub wordFields : List ℕ → List ℕ
+wordFields ns = each wordField ns
+
+-- a line by its layout: a word alone, with one, two or three numbers, or with an action and words by their numbers
 unfoldable pub bareLine : List ℕ → List ℕ
 bareLine word = word ++ feed
 
@@ -67,8 +70,8 @@ twoLine word a b = word ++ (numberField a ++ (numberField b ++ feed))
 unfoldable pub threeLine : List ℕ → ℕ → ℕ → ℕ → List ℕ
 threeLine word a b c = word ++ (numberField a ++ (numberField b ++ (numberField c ++ feed)))
 
-unfoldable pub formulaLine : List ℕ → ℕ → List Slot → List ℕ
-formulaLine word a ws = word ++ (numberField a ++ (wordFields ws ++ feed))
+unfoldable pub formulaLine : List ℕ → ℕ → List ℕ → List ℕ
+formulaLine word a ns = word ++ (numberField a ++ (wordFields ns ++ feed))
 
 -- the lines of a seniority, of a user or an object, of a conflict, of a pair, and of a rule
 abbrev pub directLine : List ℕ → Direct → List ℕ
@@ -83,16 +86,16 @@ conflictLine word x = twoLine word (x .set) (x .most)
 abbrev pub pairLine : List ℕ → Pair → List ℕ
 pairLine word x = threeLine word (x .action) (x .user) (x .object)
 
-abbrev pub slotsOf : RuleValue → List Slot
-slotsOf r = take (r .count) (r .words)
+abbrev pub numbersOf : RuleValue → List ℕ
+numbersOf r = take (r .count) (r .words)
 
 abbrev pub ruleLine : List ℕ → RuleValue → List ℕ
-ruleLine word r = formulaLine word (r .action) (slotsOf r)
+ruleLine word r = formulaLine word (r .action) (numbersOf r)
 
--- words can be spelt
-abbrev pub allInDigits : List Slot → Bool
-allInDigits ws = all (λ s. inDigits (s .word)) ws
+-- the words that have these numbers can be spelt
+abbrev pub allInDigits : List ℕ → Bool
+allInDigits ns = all (λ n. inDigits (numbered n)) ns
 
 -- a rule's count is within its array, and its words can be spelt
 unfoldable pub ruleWritable : RuleValue → Bool
-ruleWritable r = leb (r .count) wordPlaces && allInDigits (slotsOf r)
+ruleWritable r = leb (r .count) wordPlaces && allInDigits (numbersOf r)

@@ -7,7 +7,6 @@ use mathlib.Core.List.{[], _∷_}
 use native.Mathlib.Omega.{arith}
 use lib.ListN.{length, length-set}
 use lib.Seq.{getD-set-same}
-use Rattle.basis.proofs.Lists.{long}
 use Rattle.sets.specs.Set.{has}
 use Rattle.sets.proofs.Laws.{has-zero}
 use Rattle.policy.specs.Policy.{Policy}
@@ -20,23 +19,23 @@ use Rattle.formula.proofs.evaluate.truths.Statement.{statement}
 use Rattle.formula.proofs.evaluate.truths.Tie as tie
 
 abbrev Inv-loop : tie.InvT-loop
-Inv-loop sides users objects n words stack₀ top₀ d₀ i₀ stack top d i =
+Inv-loop sides users objects n numbers stack₀ top₀ d₀ i₀ stack top d i =
     (i ≤ n) × (d ≤ i) × (length stack ≡ wordPlaces)
     × ((p : Policy) (k : ℕ) (s : Sets) → AttributesOf p sides → InLane p users objects k s
-    → has top k ∷ column stack d k ≡ run p s (wordsIn i words) (false ∷ []))
+    → has top k ∷ column stack d k ≡ run p s (wordsIn i numbers) (false ∷ []))
 
 abbrev μ-loop : tie.MeasureT-loop
-μ-loop sides users objects n words stack₀ top₀ d₀ i₀ stack top d i = n - i
+μ-loop sides users objects n numbers stack₀ top₀ d₀ i₀ stack top d i = n - i
 
 loop-holds : tie.Need-loop-holds Inv-loop μ-loop
 unfolding run column
 loop-holds c = (omega arith, omega arith, refl, λ p k s h x. ap (λ (b : Bool). b ∷ []) (has-zero k))
 
-mul-slot : tie.Need-mul-slot Inv-loop μ-loop
-mul-slot c = search needs
+array-read-of-number : tie.Need-array-read-of-number Inv-loop μ-loop
+array-read-of-number c = search needs
 
-array-copy-out-slot : tie.Need-array-copy-out-slot Inv-loop μ-loop
-array-copy-out-slot c = search needs
+of-number-requires : tie.Need-of-number-requires Inv-loop μ-loop
+of-number-requires c κs = search needs
 
 mul-stack : tie.Need-mul-stack Inv-loop μ-loop
 mul-stack c = search needs
@@ -59,14 +58,14 @@ loop-less c = search needs
 loop-again : tie.Need-loop-again Inv-loop μ-loop
 loop-again c =
     let l = c .before .before .before .before .loop in let a = c .before .before .before .before .before .args in
-    let n : length (a .t4) ≡ wordPlaces = search (needs, long) in
+    let n : length (a .t4) ≡ wordPlaces = search needs in
     let t = c .worked in (
       omega arith,
       omega (arith, t .ensures .0),
       simp length-set (l .inv .2),
       λ p k s h x.
-          column-next p s (a .t4) _ (l .stack) k (l .i) (l .d) (t .result .1) (l .top) (t .result .0) (omega arith) (l .inv .3 p k s h x)
-          (t .ensures .1 p k s h x),
+          column-next p s (a .t4) (l .stack) k (l .i) (l .d) (t .result .1) (l .top) (t .result .0) (omega arith)
+          (c .before .before .of-number .ensures) (l .inv .3 p k s h x) (t .ensures .1 p k s h x),
     )
 
 returns : tie.Need-returns Inv-loop μ-loop
@@ -82,8 +81,8 @@ truths-spec =
     Inv-loop
     μ-loop
     loop-holds
-    mul-slot
-    array-copy-out-slot
+    array-read-of-number
+    of-number-requires
     mul-stack
     array-write-stack
     worked-requires

@@ -12,7 +12,7 @@ use Rattle.basis.proofs.Bools.{and-left, and-right}
 use Rattle.basis.proofs.Lists.{long, all-taken}
 use Rattle.policy.specs.Value.{wordPlaces}
 use Rattle.policy.specs.declared.value.RuleValue.{RuleValue}
-use Rattle.writer.specs.Inner.Put.{allInDigits, slotsOf, ruleLine, ruleWritable}
+use Rattle.writer.specs.Inner.Put.{allInDigits, numbersOf, ruleLine, ruleWritable}
 use Rattle.writer.proofs.Putting.{put-long, Run, run-start, run-end, run-fits, run-part, run-sum, run-line}
 use Rattle.writer.proofs.lines.put_rules.Statement.{statement}
 use Rattle.writer.proofs.lines.put_rules.Tie as tie
@@ -25,11 +25,11 @@ noRule = record { action = 0; count = 0; words = [] }
 module _ (r : RuleValue) (h : ruleWritable r ≡ true) where
   within : r .count ≤ wordPlaces
   unfolding ruleWritable
-  within = leb-true (r .count) wordPlaces (and-left (leb (r .count) wordPlaces) (allInDigits (slotsOf r)) h)
+  within = leb-true (r .count) wordPlaces (and-left (leb (r .count) wordPlaces) (allInDigits (numbersOf r)) h)
 
-  spelt : allInDigits (slotsOf r) ≡ true
+  spelt : allInDigits (numbersOf r) ≡ true
   unfolding ruleWritable
-  spelt = and-right (leb (r .count) wordPlaces) (allInDigits (slotsOf r)) h
+  spelt = and-right (leb (r .count) wordPlaces) (allInDigits (numbersOf r)) h
 
 abbrev Inv-loop : tie.InvT-loop
 Inv-loop word n buf₀ start rules at₀ i₀ buf at i = Run (ruleLine word) rules n start buf₀ i buf at
