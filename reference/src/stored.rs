@@ -93,7 +93,7 @@ pub fn files() -> Vec<Vec<u8>> {
     files.push(about(cases::text_without_dominance, |text| {
         much_of("conflict", text, much_by_conflicts)
     }));
-    files.push(about(cases::text, |text| {
+    files.push(about(cases::text_without_forms, |text| {
         read(text).is_ok_and(|policy| a_senior_decides(&policy))
     }));
     files
