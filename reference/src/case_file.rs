@@ -567,13 +567,13 @@ fn other_width_lines(
 mod tests {
     use super::*;
     use crate::labels::compile_for;
-    use crate::stored::example_cases;
+    use crate::stored::{example_cases, forms};
 
     /// The answers that stand in the examples by hand are those given here.
     #[test]
     fn the_examples_are_answered_so() {
         let mut compared = 0;
-        for (text, answers) in example_cases() {
+        for (text, answers) in [example_cases(), forms::example_cases()].concat() {
             let Ok(policy) = read(text.as_bytes()) else {
                 continue;
             };
@@ -613,6 +613,15 @@ mod tests {
             Ok(labelling) => labelling,
             Err(refusal) => return format!("{tag},{refusal},0{}", fields(rooms)),
         };
+        let needed = [
+            labelling.user_labels.len(),
+            labelling.object_labels.len(),
+            labelling.table.len(),
+        ];
+        let mut pairs = needed.into_iter().zip(rooms);
+        if pairs.any(|(needed, &room)| needed > room as usize) {
+            return format!("{tag},20,0{}", fields(rooms));
+        }
         let (count, entries) = match tag {
             "u" | "U" => (labelling.user_count, fields(labelling.user_labels)),
             "o" | "O" => (labelling.object_count, fields(labelling.object_labels)),
