@@ -64,7 +64,7 @@ pub fn damaged(rng: &mut Rng, mut draft: Draft) -> Vec<u8> {
         0 => draft.lines[0] = format!("policy,{}", rng.pick(&NO_FORMS)),
         1 => draft.lines[0] = format!("policy,{}", FORM_1.number),
         _ => {
-            let action = rng.pick(&[7, 8, 15, 15, 16, 16, 17, 31, 32, 255, 256, 65_535]);
+            let action = rng.pick(&[7, 8, 15, 15, 16, 16, 16, 16, 17, 32, 256, 65_535]);
             let line = rng.pick(&["rule,A,t", "rule,A,a", "pair,A,0,0", "pair,A,0,9"]);
             place(rng, &mut draft, line.replace('A', &action.to_string()));
             if rng.chance(1, 4) {
