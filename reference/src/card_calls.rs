@@ -12,15 +12,18 @@
 //! list,action,room           into a buffer of room entries
 //! write,room                 into a buffer of room bytes
 //! compile,room,room,room     user labels, object labels and table
+//! compile_8_8, request_8_8   with the same fields, made for these bits of a label
+//! compile_8_16, request_8_16 and of an entry of the table, whatever the card's
 //! board,session,user,set     no call: the board is handed in with this session
 //! ```
 //!
 //! An answer is `done`, `granted`, `denied` or `refused,N`. The first call gets
 //! a fresh board, each later one the board after the call before it.
 
+use crate::form::{Widths, WIDTHS};
 use crate::formula::{decide, reach};
-use crate::labels::compile;
-use crate::machine::{step, Answer, Call, Sessions};
+use crate::labels::compile_for;
+use crate::machine::{step_for, Answer, Call, Sessions};
 use crate::policy::{Policy, Refusal, Set};
 use crate::text::{read, write};
 use crate::tuples::tuples;
@@ -32,7 +35,13 @@ pub enum CardCall {
         user_set: Set,
         object_set: Set,
     },
+    /// A session call; a request is made for the card's own widths.
     Session(Call),
+    /// A request made for these widths.
+    RequestFor {
+        widths: Widths,
+        request: Call,
+    },
     List {
         action: u32,
         room: usize,
@@ -40,8 +49,10 @@ pub enum CardCall {
     Write {
         room: usize,
     },
-    /// The lengths of the buffers for user labels, object labels and table.
+    /// The lengths of the buffers for user labels, object labels and table, and what it
+    /// is made for: the card's own widths if not given.
     Compile {
+        widths: Option<Widths>,
         rooms: [usize; 3],
     },
     Board {
@@ -83,34 +94,52 @@ fn answer(field: &str) -> Option<Answer> {
     }
 }
 
+/// A kind of call with the widths in its name, if it has them.
+fn kind_and_widths(name: &str) -> (&str, Option<Widths>) {
+    for widths in WIDTHS {
+        let ending = format!("_{}_{}", widths.label, widths.entry);
+        if let Some(kind) = name.strip_suffix(&ending) {
+            return (kind, Some(widths));
+        }
+    }
+    (name, None)
+}
+
 fn call(field: &str) -> Option<CardCall> {
-    let (kind, numbers) = field.split_once(',')?;
+    let (name, numbers) = field.split_once(',')?;
+    let (kind, widths) = kind_and_widths(name);
     let numbers: Vec<u32> = numbers
         .split(',')
         .map(|number| number.parse().ok())
         .collect::<Option<_>>()?;
-    let call = match (kind, &numbers[..]) {
-        ("decide", &[action, user_set, object_set]) => CardCall::Decide {
+    let call = match (kind, widths, &numbers[..]) {
+        ("decide", None, &[action, user_set, object_set]) => CardCall::Decide {
             action,
             user_set,
             object_set,
         },
-        ("list", &[action, room]) => CardCall::List {
+        ("list", None, &[action, room]) => CardCall::List {
             action,
             room: room as usize,
         },
-        ("write", &[room]) => CardCall::Write {
+        ("write", None, &[room]) => CardCall::Write {
             room: room as usize,
         },
-        ("compile", &[users, objects, table]) => CardCall::Compile {
+        ("compile", widths, &[users, objects, table]) => CardCall::Compile {
+            widths,
             rooms: [users, objects, table].map(|room| room as usize),
         },
-        ("board", &[session, user, held]) => CardCall::Board {
+        ("board", None, &[session, user, held]) => CardCall::Board {
             session,
             user,
             held,
         },
-        (kind, numbers) => CardCall::Session(session_call(kind, numbers)?),
+        ("request", Some(widths), numbers) => CardCall::RequestFor {
+            widths,
+            request: session_call(kind, numbers)?,
+        },
+        (kind, None, numbers) => CardCall::Session(session_call(kind, numbers)?),
+        _ => return None,
     };
     Some(call)
 }
@@ -175,26 +204,38 @@ impl Player {
                 done(tuples(policy, action).and_then(|listing| fits(listing.len(), room)))
             }
             (CardCall::Write { room }, Some(policy)) => done(fits(write(policy).len(), room)),
-            (CardCall::Compile { rooms }, Some(policy)) => {
-                let labelling = compile(policy);
-                let needed = [
-                    labelling.user_labels.len(),
-                    labelling.object_labels.len(),
-                    labelling.table.len(),
-                ];
-                let mut pairs = needed.into_iter().zip(rooms);
-                done(pairs.try_for_each(|(needed, room)| fits(needed, room)))
+            (CardCall::Compile { widths, rooms }, Some(policy)) => {
+                let widths = widths.unwrap_or(policy.form.widths);
+                done(compile_into(policy, widths, rooms))
             }
-            (CardCall::Session(_), Some(policy)) if !sound(policy, &self.sessions) => {
-                Answer::Refused(11)
-            }
-            (CardCall::Session(call), Some(policy)) => {
-                let (after, answer) = step(policy, &self.sessions, &call);
-                self.sessions = after;
-                answer
-            }
+            (CardCall::Session(call), Some(policy)) => self.step(policy.form.widths, call),
+            (CardCall::RequestFor { widths, request }, Some(_)) => self.step(widths, request),
         }
     }
+
+    /// A session call on a card that is accepted; a request is made for these widths.
+    fn step(&mut self, widths: Widths, call: Call) -> Answer {
+        let policy = self.policy.as_ref().expect("a policy");
+        if !sound(policy, &self.sessions) {
+            return Answer::Refused(11);
+        }
+        let (after, answer) = step_for(policy, widths, &self.sessions, &call);
+        self.sessions = after;
+        answer
+    }
+}
+
+/// Whether a call made for these widths is refused, with buffers of these lengths for
+/// user labels, object labels and table.
+fn compile_into(policy: &Policy, widths: Widths, rooms: [usize; 3]) -> Result<(), Refusal> {
+    let labelling = compile_for(policy, widths)?;
+    let needed = [
+        labelling.user_labels.len(),
+        labelling.object_labels.len(),
+        labelling.table.len(),
+    ];
+    let mut pairs = needed.into_iter().zip(rooms);
+    pairs.try_for_each(|(needed, room)| fits(needed, room))
 }
 
 fn fits(needed: usize, room: usize) -> Result<(), Refusal> {
@@ -258,8 +299,48 @@ mod tests {
     }
 
     #[test]
+    fn compile_and_request_may_be_made_for_other_widths() {
+        let card = |form| {
+            format!("policy,{form}\nuattr,1\noattr,1\nuser,0,1\nobject,0,1\nrule,0,u0\nend\n")
+        };
+        let lines = [
+            "open,0,0,1 done",
+            "compile,2,2,2 done",
+            "request,0,0,0 granted",
+            "compile_8_8,2,2,2 done",
+            "compile_8_8,2,2,1 refused,20",
+            "request_8_8,0,0,0 granted",
+            "compile_8_16,2,2,2 refused,11",
+            "compile_8_16,2,2,1 refused,11",
+            "request_8_16,0,0,0 refused,11",
+            "request_8_16,9,99,9 refused,11",
+            "close,0,0 done",
+        ];
+        let calls = call_file(&format!("card,a.txt\n{}\n", lines.join("\n")));
+        let swapped = lines
+            .join("\n")
+            .replace("_8_8", "_8_x")
+            .replace("_8_16", "_8_8");
+        let swapped = call_file(&format!(
+            "card,a.txt\n{}\n",
+            swapped.replace("_8_x", "_8_16")
+        ));
+        for (form, file) in [(1, calls), (2, swapped)] {
+            let mut player = Player::new(card(form).as_bytes());
+            for (call, answer) in file.expect("calls").calls {
+                assert_eq!(player.answer(call), answer, "{form}: {call:?}");
+            }
+        }
+    }
+
+    #[test]
     fn what_is_no_call_or_no_answer_is_no_file() {
         for line in [
+            "open_8_8,0,0,1 done",
+            "list_8_16,0,1 done",
+            "compile_8,1,1,1 done",
+            "compile_16_8,1,1,1 done",
+            "request_8_8,0,0 done",
             "close,1 done",
             "open,1,2 done",
             "shut,1,2 done",

@@ -18,9 +18,11 @@
 //!                             bytes of the text stand there afterwards
 //! u,answer,NU,users,objects,table,label,..
 //! o,answer,NO,users,objects,table,label,..
-//! g,answer,NO,users,objects,table,byte,..
-//!                             compiling into buffers of these lengths: the
-//!                             user labels, the object labels or the table
+//! g,answer,NO,users,objects,table,entry,..
+//!                             compiling for a table of bytes into buffers of
+//!                             these lengths: the user labels, the object
+//!                             labels or the table
+//! U, O, G                     the same for a table of 16-bit entries
 //! T,answer,count,action,room,first,last,..
 //!                             listing into a buffer of room entries: the count
 //!                             of tuples, and the tuples as runs of numbers
@@ -33,10 +35,11 @@
 //!                             sets apart, as what apart names must
 //! S,0,count,NU,NO,users,objects,table,calls,call,..,answer,..,session,user,set,..
 //!                             a list of calls on a fresh board, each request
-//!                             with this NU and NO and so many bytes of the
-//!                             compiler's buffers; how many are answered; the
-//!                             answers; and all sessions that are open
-//!                             afterwards, rising
+//!                             made for a table of bytes, with this NU and NO
+//!                             and so many entries of the compiler's buffers;
+//!                             how many are answered; the answers; and all
+//!                             sessions that are open afterwards, rising
+//! Z                           the same for a table of 16-bit entries
 //! ```
 //!
 //! An answer is 0 done, 1 granted, 2 denied, 3 alike, 4 told apart, or the
@@ -44,15 +47,17 @@
 //! with user, session and set; 3 close with user, session and 0; 4 request with
 //! session, action and object. There an answer is 0 denied, 1 granted, 2 done,
 //! or the refusal, 11 to 20 or 23. Buffers are blank before a call: byte 170,
-//! entry 65535. A refused call leaves its buffers as they were, and one that is
-//! done leaves what lies past its result. Where a call is refused, its count is
-//! 0.
+//! 16-bit entry 65535. A refused call leaves its buffers as they were, and one that
+//! is done leaves what lies past its result. Where a call is refused, its count is
+//! 0. Compiling for widths that are not the form's is refused, so the buffers of a
+//! list made for them are blank.
 
 use crate::cases::{self, Rng};
+use crate::form::{Widths, WIDTHS, WIDTHS_8_8};
 use crate::formula::decide;
-use crate::labels::{apart, compile, Labelling};
-use crate::machine::{run, step, Answer, Call, Sessions};
-use crate::policy::{Policy, Refusal, Set, ACTIONS};
+use crate::labels::{apart, compile, Entry, Labelling};
+use crate::machine::{run, run_for, step, Answer, Call, Sessions};
+use crate::policy::{Policy, Refusal, Set};
 use crate::text::{read, write};
 use crate::tuples::{decide_by_tuples, tuples, Stored};
 
@@ -61,13 +66,14 @@ const DECISIONS: u32 = 6;
 const MOST_CALLS: u32 = 40;
 /// Requests with short buffers in an accepted case.
 const SHORT_REQUESTS: u32 = 3;
+/// Calls in a list made for other widths than the form's.
+const MOST_OTHER_CALLS: u32 = 8;
 /// Buffers that are long enough for any policy.
 const MOST_TEXT: usize = 8192;
 const MOST_SETS: usize = 128;
 const MOST_ENTRIES: usize = 16384;
-/// What stands in a buffer of bytes, and in a listing's, before a call.
-const BLANK: u8 = 170;
-const BLANK_ENTRY: Stored = 65_535;
+/// What stands in a listing's buffer before a call.
+const BLANK_TUPLE: Stored = 65_535;
 /// Refused by check 11, on what a refused text yields.
 pub(crate) const WITHOUT_POLICY: [&str; 9] = [
     "W,11,0,8192,0",
@@ -80,16 +86,53 @@ pub(crate) const WITHOUT_POLICY: [&str; 9] = [
     "P,11,0,0,0",
     "S,0,2,0,0,128,128,16384,2,0,0,0,0,4,0,0,0,11,11",
 ];
+/// The same by calls made for a table of 16-bit entries.
+pub(crate) const WITHOUT_POLICY_16: [&str; 4] = [
+    "U,11,0,128,128,16384",
+    "O,11,0,128,128,16384",
+    "G,11,0,128,128,16384",
+    "Z,0,2,0,0,128,128,16384,2,0,0,0,0,4,0,0,0,11,11",
+];
+
+/// The tags of user labels, object labels, table and list, made for these widths.
+fn tags(widths: Widths) -> [char; 4] {
+    match widths {
+        WIDTHS_8_8 => ['u', 'o', 'g', 'S'],
+        _ => ['U', 'O', 'G', 'Z'],
+    }
+}
+
+/// What stands in a table before it is compiled.
+fn blank(widths: Widths) -> Entry {
+    match widths.entry {
+        8 => 170,
+        _ => 65_535,
+    }
+}
 
 /// A made case. No number handed to a call is above `largest`.
 pub fn made(seed: u64, case: u64, largest: u32) -> Vec<u8> {
     let mut rng = Rng::new(seed, case);
     let text = cases::text(&mut rng, case);
-    answered(&mut rng, case, &text, largest)
+    answered_for_all_widths(&mut rng, case, &text, largest)
 }
 
-/// A case of a text, with what is due to it and to calls on it.
+/// A case of a text, with what is due to it and to calls on it, made for the widths
+/// of its form.
 pub fn answered(rng: &mut Rng, case: u64, text: &[u8], largest: u32) -> Vec<u8> {
+    case_of(case, text, &lines_of(rng, text, largest))
+}
+
+/// The same, and now and then calls made for other widths, from a stream of their
+/// own.
+pub fn answered_for_all_widths(rng: &mut Rng, case: u64, text: &[u8], largest: u32) -> Vec<u8> {
+    let mut others = rng.branch(0);
+    let mut out = lines_of(rng, text, largest);
+    other_lines(&mut out, &mut others, text, largest);
+    case_of(case, text, &out)
+}
+
+fn lines_of(rng: &mut Rng, text: &[u8], largest: u32) -> String {
     let mut out = String::new();
     match read(text) {
         Err(refused) => {
@@ -103,7 +146,7 @@ pub fn answered(rng: &mut Rng, case: u64, text: &[u8], largest: u32) -> Vec<u8> 
             accepted(&mut out, rng, &policy, largest);
         }
     }
-    case_of(case, text, &out)
+    out
 }
 
 fn line(out: &mut String, line: String) {
@@ -202,24 +245,38 @@ fn label_lines(out: &mut String, rng: &mut Rng, policy: &Policy, labelling: &Lab
         1 => o = short(rng, objects),
         _ => t = short(rng, places),
     }
-    // Nothing is stored in any of the three.
-    for tag in ['u', 'o', 'g'] {
-        line(out, format!("{tag},20,0,{u},{o},{t}"));
-    }
-    let [u, o, t] = rooms(rng);
-    for (tag, count, bytes) in [
-        ('u', labelling.user_count, &labelling.user_labels),
-        ('o', labelling.object_count, &labelling.object_labels),
-        ('g', labelling.object_count, &labelling.table),
+    let refused = refused_compile(labelling.widths, 20, [u, o, t]);
+    refused.into_iter().for_each(|refused| line(out, refused));
+    let rooms = fields(rooms(rng));
+    let tags = tags(labelling.widths);
+    for (tag, count, entries) in [
+        (
+            tags[0],
+            labelling.user_count,
+            fields(&labelling.user_labels),
+        ),
+        (
+            tags[1],
+            labelling.object_count,
+            fields(&labelling.object_labels),
+        ),
+        (tags[2], labelling.object_count, fields(&labelling.table)),
     ] {
-        line(out, format!("{tag},0,{count},{u},{o},{t}{}", fields(bytes)));
+        line(out, format!("{tag},0,{count}{rooms}{entries}"));
     }
 }
 
+/// The lines of a compile that is refused: nothing is stored in any of the three.
+fn refused_compile(widths: Widths, refusal: Refusal, rooms: [usize; 3]) -> [String; 3] {
+    let [users, objects, table, _] = tags(widths);
+    [users, objects, table].map(|tag| format!("{tag},{refusal},0{}", fields(rooms)))
+}
+
 fn tuple_lines(out: &mut String, rng: &mut Rng, policy: &Policy) -> Vec<Vec<Stored>> {
-    line(out, format!("T,12,0,{},16384", 8 + rng.below(3)));
+    let past = policy.actions() + rng.below(3);
+    line(out, format!("T,12,0,{past},16384"));
     let mut listings = Vec::new();
-    for action in 0..ACTIONS {
+    for action in 0..policy.actions() {
         let listing = tuples(policy, action).expect("an action");
         let count = listing.len();
         if count > 0 && rng.chance(1, 4) {
@@ -256,7 +313,7 @@ fn decision_lines(
     largest: u32,
 ) {
     for _ in 0..DECISIONS {
-        let action = cases::action(rng, largest);
+        let action = cases::action(rng, policy.form, largest);
         let (us, os) = sets(rng, policy, largest);
         let answer = decision(decide(policy, action, us, os));
         line(out, format!("F,{answer},0,{action},{us},{os}"));
@@ -266,7 +323,7 @@ fn decision_lines(
         let (us, os) = sets(rng, policy, largest);
         let count = listing_count(rng, listing.len() as u32, largest);
         let mut buffer = listing.clone();
-        buffer.resize(MOST_ENTRIES, BLANK_ENTRY);
+        buffer.resize(MOST_ENTRIES, BLANK_TUPLE);
         let answer = decision(decide_by_tuples(policy, us, os, &buffer, count as usize));
         line(out, format!("B,{answer},0,{action},{us},{os},{count}"));
     }
@@ -322,20 +379,33 @@ fn answer_number(answer: Answer) -> u32 {
     }
 }
 
-/// The numbers handed to each request: NU and NO, and how many bytes of the user
-/// labels, the object labels and the table.
+/// What each request is made for and handed: widths, NU and NO, and how many entries
+/// of the user labels, the object labels and the table.
 struct Lent {
+    widths: Widths,
     counts: [usize; 2],
     rooms: [usize; 3],
+}
+
+impl Lent {
+    /// All that the compiler gives.
+    fn all(labelling: &Labelling) -> Self {
+        Lent {
+            widths: labelling.widths,
+            counts: [labelling.user_count, labelling.object_count],
+            rooms: [MOST_SETS, MOST_SETS, MOST_ENTRIES],
+        }
+    }
 }
 
 /// A list of calls with their answers and the sessions that are open afterwards.
 fn list_line(out: &mut String, lent: &Lent, calls: &[Call], answers: &[u32], held: &Sessions) {
     let entries = held.iter().flat_map(|(&s, &(user, set))| [s, user, set]);
+    let [.., tag] = tags(lent.widths);
     line(
         out,
         format!(
-            "S,0,{}{}{},{}{}{}{}",
+            "{tag},0,{}{}{},{}{}{}{}",
             answers.len(),
             fields(lent.counts),
             fields(lent.rooms),
@@ -374,11 +444,7 @@ fn call_line(
     let calls = cases::calls(rng, policy, count, largest);
     let (answers, sessions) = run(policy, &calls);
     let answers: Vec<u32> = answers.into_iter().map(answer_number).collect();
-    let lent = Lent {
-        counts: [labelling.user_count, labelling.object_count],
-        rooms: [MOST_SETS, MOST_SETS, MOST_ENTRIES],
-    };
-    list_line(out, &lent, &calls, &answers, &sessions);
+    list_line(out, &Lent::all(labelling), &calls, &answers, &sessions);
     sessions
 }
 
@@ -398,7 +464,7 @@ fn request_lines(
     for _ in 0..SHORT_REQUESTS {
         let (session, (user, set)) = rng.pick(&open);
         let (object, object_set) = rng.pick(&policy.objects);
-        let action = rng.below(ACTIONS + 1);
+        let action = rng.below(policy.actions() + 1);
         let calls = [
             Call::Open { user, session, set },
             Call::Request {
@@ -407,10 +473,7 @@ fn request_lines(
                 object,
             },
         ];
-        let mut lent = Lent {
-            counts: [labelling.user_count, labelling.object_count],
-            rooms: [MOST_SETS, MOST_SETS, MOST_ENTRIES],
-        };
+        let mut lent = Lent::all(labelling);
         if rng.chance(1, 3) {
             lent.counts = [rng.index(130), rng.index(130)];
         }
@@ -446,20 +509,71 @@ fn looked_up(labelling: &Labelling, lent: &Lent, places: [usize; 3], action: u32
     {
         return 20;
     }
-    let byte = labelling.table.get(places[2]).unwrap_or(&BLANK);
-    u32::from(byte >> action & 1)
+    let blank = blank(labelling.widths);
+    let entry = labelling.table.get(places[2]).unwrap_or(&blank);
+    u32::from(entry >> action & 1)
+}
+
+/// Now and then: calls made for other widths than the form's, and actions at the
+/// limits of all forms.
+fn other_lines(out: &mut String, rng: &mut Rng, text: &[u8], largest: u32) {
+    let Ok(policy) = read(text) else {
+        if rng.chance(1, 3) {
+            line(out, rng.pick(&WITHOUT_POLICY_16).to_string());
+        }
+        return;
+    };
+    for widths in WIDTHS.into_iter().filter(|w| *w != policy.form.widths) {
+        if rng.chance(1, 3) {
+            other_width_lines(out, rng, &policy, widths, largest);
+        }
+    }
+    if rng.chance(1, 3) {
+        let action = rng.pick(&[7, 8, 15, 16]).min(largest);
+        let (us, os) = sets(rng, &policy, largest);
+        let answer = decision(decide(&policy, action, us, os));
+        line(out, format!("F,{answer},0,{action},{us},{os}"));
+    }
+}
+
+/// Compiling for widths that are not the form's, into buffers of any lengths, and a
+/// list of calls with requests made for them.
+fn other_width_lines(
+    out: &mut String,
+    rng: &mut Rng,
+    policy: &Policy,
+    widths: Widths,
+    largest: u32,
+) {
+    let rooms = [MOST_SETS, MOST_SETS, MOST_ENTRIES].map(|most| match rng.below(3) {
+        0 => rng.index(4),
+        _ => most,
+    });
+    let refused = refused_compile(widths, 11, rooms);
+    refused.into_iter().for_each(|refused| line(out, refused));
+    let count = 3 + rng.below(MOST_OTHER_CALLS - 2);
+    let calls = cases::calls(rng, policy, count, largest);
+    let (answers, sessions) = run_for(policy, widths, &calls);
+    let answers: Vec<u32> = answers.into_iter().map(answer_number).collect();
+    let lent = Lent {
+        widths,
+        counts: [1 + rng.index(128), 1 + rng.index(128)],
+        rooms,
+    };
+    list_line(out, &lent, &calls, &answers, &sessions);
 }
 
 #[cfg(test)]
 mod tests {
     use super::*;
-    use crate::stored::example_cases;
+    use crate::labels::compile_for;
+    use crate::stored::{example_cases, forms};
 
     /// The answers that stand in the examples by hand are those given here.
     #[test]
     fn the_examples_are_answered_so() {
         let mut compared = 0;
-        for (text, answers) in example_cases() {
+        for (text, answers) in [example_cases(), forms::example_cases()].concat() {
             let Ok(policy) = read(text.as_bytes()) else {
                 continue;
             };
@@ -477,24 +591,43 @@ mod tests {
     fn due(policy: &Policy, tag: &str, numbers: &[u32]) -> String {
         match (tag, &numbers[2..]) {
             ("W", _) => format!("W,0{}", fields([write(policy).len(); 3])),
-            ("u" | "o" | "g", rooms) => compiled(policy, tag, &rooms[..3]),
-            ("T", &[action, room, ..]) => {
-                let listing = tuples(policy, action).expect("listed");
-                format!("T,0,{},{action},{room}{}", listing.len(), runs(&listing))
-            }
-            ("S", asked) => played(policy, asked),
+            ("u" | "o" | "g" | "U" | "O" | "G", rooms) => compiled(policy, tag, &rooms[..3]),
+            ("T", &[action, room, ..]) => match tuples(policy, action) {
+                Ok(listing) => format!("T,0,{},{action},{room}{}", listing.len(), runs(&listing)),
+                Err(refusal) => format!("T,{refusal},0,{action},{room}"),
+            },
+            ("S" | "Z", asked) => played(policy, tag, asked),
             (_, asked) => format!("{tag},{},0{}", decided(policy, tag, asked), fields(asked)),
         }
     }
 
+    /// The widths that a line with this tag is made for.
+    fn made_for(tag: &str) -> Widths {
+        let mut all = WIDTHS.into_iter();
+        let found = all.find(|&widths| tags(widths).iter().any(|&t| tag.starts_with(t)));
+        found.expect("widths")
+    }
+
     fn compiled(policy: &Policy, tag: &str, rooms: &[u32]) -> String {
-        let labelling = compile(policy);
-        let (count, bytes) = match tag {
-            "u" => (labelling.user_count, labelling.user_labels),
-            "o" => (labelling.object_count, labelling.object_labels),
-            _ => (labelling.object_count, labelling.table),
+        let labelling = match compile_for(policy, made_for(tag)) {
+            Ok(labelling) => labelling,
+            Err(refusal) => return format!("{tag},{refusal},0{}", fields(rooms)),
         };
-        format!("{tag},0,{count}{}{}", fields(rooms), fields(bytes))
+        let needed = [
+            labelling.user_labels.len(),
+            labelling.object_labels.len(),
+            labelling.table.len(),
+        ];
+        let mut pairs = needed.into_iter().zip(rooms);
+        if pairs.any(|(needed, &room)| needed > room as usize) {
+            return format!("{tag},20,0{}", fields(rooms));
+        }
+        let (count, entries) = match tag {
+            "u" | "U" => (labelling.user_count, fields(labelling.user_labels)),
+            "o" | "O" => (labelling.object_count, fields(labelling.object_labels)),
+            _ => (labelling.object_count, fields(labelling.table)),
+        };
+        format!("{tag},0,{count}{}{entries}", fields(rooms))
     }
 
     fn decided(policy: &Policy, tag: &str, asked: &[u32]) -> u32 {
@@ -517,15 +650,16 @@ mod tests {
         }
     }
 
-    fn played(policy: &Policy, asked: &[u32]) -> String {
+    fn played(policy: &Policy, tag: &str, asked: &[u32]) -> String {
         let sizes: Vec<usize> = asked[..5].iter().map(|&n| n as usize).collect();
         let lent = Lent {
+            widths: made_for(tag),
             counts: [sizes[0], sizes[1]],
             rooms: [sizes[2], sizes[3], sizes[4]],
         };
         let calls = asked[6..].chunks(4).take(asked[5] as usize);
         let calls: Vec<Call> = calls.map(call).collect();
-        let (answers, sessions) = run(policy, &calls);
+        let (answers, sessions) = run_for(policy, lent.widths, &calls);
         let answers: Vec<u32> = answers.into_iter().map(answer_number).collect();
         let mut line = String::new();
         list_line(&mut line, &lent, &calls, &answers, &sessions);

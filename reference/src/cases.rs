@@ -7,6 +7,7 @@ mod calls;
 mod conflicts;
 mod damage;
 mod dominance;
+mod forms;
 mod kind;
 mod pairs;
 mod rng;
@@ -21,40 +22,68 @@ use kind::{damaged_kind, Kind};
 use pairs::PAIRS;
 use valid::{valid, Draft, Size, LIMIT, MIDDLE, SMALL};
 
+/// Behind the streams of all that is put into a text.
+const FORMS_STREAM: u64 = 3;
+
 /// Puts something into a valid text.
 type Addition = fn(&mut Rng, &mut Draft);
 
-/// The text of a case: valid ones at even indexes, damaged ones at odd. Pairs,
-/// conflicts and dominance have streams of their own, so that a text that gets
-/// none is as it is without them.
+/// The text of a case: valid ones at even indexes, damaged ones at odd; one in three
+/// of form 2. Forms, pairs, conflicts and dominance have streams of their own, so that
+/// a text that gets none is as it is without them.
 pub fn text(rng: &mut Rng, index: u64) -> Vec<u8> {
-    text_with(&[PAIRS, CONFLICTS], Some(dominance::add), rng, index)
+    let mut forms = rng.branch(FORMS_STREAM);
+    match forms.below(12) {
+        0 => forms::renumbered(text_without_forms(rng, index)),
+        1..=3 => text_of_form_2(rng, &mut forms, index),
+        _ => text_without_forms(rng, index),
+    }
 }
 
-/// The text of a case, without what is put in for dominance.
+fn text_of_form_2(rng: &mut Rng, forms: &mut Rng, index: u64) -> Vec<u8> {
+    let last = Some(dominance::add as Addition);
+    text_with(&[PAIRS, CONFLICTS], last, Some(forms), rng, index)
+}
+
+/// The text of a case, of form 1 but for its faults.
+pub fn text_without_forms(rng: &mut Rng, index: u64) -> Vec<u8> {
+    text_with(&[PAIRS, CONFLICTS], Some(dominance::add), None, rng, index)
+}
+
+/// The text of a case, without what is put in for dominance too.
 pub fn text_without_dominance(rng: &mut Rng, index: u64) -> Vec<u8> {
-    text_with(&[PAIRS, CONFLICTS], None, rng, index)
+    text_with(&[PAIRS, CONFLICTS], None, None, rng, index)
 }
 
 /// The text of a case, without conflicts too.
 pub fn text_without_conflicts(rng: &mut Rng, index: u64) -> Vec<u8> {
-    text_with(&[PAIRS], None, rng, index)
+    text_with(&[PAIRS], None, None, rng, index)
 }
 
 /// The text of a case, without pairs too.
 pub fn text_without_pairs(rng: &mut Rng, index: u64) -> Vec<u8> {
-    text_with(&[], None, rng, index)
+    text_with(&[], None, None, rng, index)
 }
 
 /// The text of a case with lines of these kinds, and damage to those of one. What
-/// is put in last has the stream behind theirs.
-fn text_with(kinds: &[Kind], last: Option<Addition>, rng: &mut Rng, index: u64) -> Vec<u8> {
+/// is put in last has the stream behind theirs. Of form 2 where there is a stream to
+/// make it so.
+fn text_with(
+    kinds: &[Kind],
+    last: Option<Addition>,
+    mut forms: Option<&mut Rng>,
+    rng: &mut Rng,
+    index: u64,
+) -> Vec<u8> {
     let numbered = (0..).zip(kinds);
     let mut streams: Vec<_> = numbered
         .map(|(stream, kind)| (kind, rng.branch(stream)))
         .collect();
     let mut last_stream = rng.branch(kinds.len() as u64);
     let (mut draft, damage) = undamaged(rng, index);
+    if let Some(stream) = &mut forms {
+        forms::take(stream, &mut draft);
+    }
     for (kind, stream) in &mut streams {
         (kind.add)(stream, &mut draft);
     }
@@ -64,6 +93,11 @@ fn text_with(kinds: &[Kind], last: Option<Addition>, rng: &mut Rng, index: u64) 
     let Some(damage) = damage else {
         return draft.text();
     };
+    if let Some(stream) = forms {
+        if stream.chance(1, 4) {
+            return forms::damaged(stream, draft);
+        }
+    }
     for (kind, mut stream) in streams {
         if stream.chance(1, 4) {
             return damaged_kind(kind, &mut stream, draft);

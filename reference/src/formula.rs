@@ -1,6 +1,6 @@
 //! What words, formulas and pairs mean on a user set and an object set.
 
-use crate::policy::{first_value, Pair, Policy, Refusal, Set, Word, ACTIONS};
+use crate::policy::{first_value, Pair, Policy, Refusal, Set, Word};
 
 /// Whether a set holds a value.
 pub fn holds(set: Set, value: u32) -> bool {
@@ -149,7 +149,7 @@ pub fn decide(
     user_set: Set,
     object_set: Set,
 ) -> Result<bool, Refusal> {
-    if action >= ACTIONS {
+    if action >= policy.actions() {
         return Err(12);
     }
     if user_set >= policy.user_sets() || object_set >= policy.object_sets() {
@@ -301,5 +301,18 @@ mod tests {
         assert_eq!(decide(&policy, 7, 0, 32), Err(19));
         assert_eq!(decide(&policy, 7, 31, 31), Ok(true));
         assert_eq!(decide(&policy, 6, 31, 31), Ok(false));
+    }
+
+    #[test]
+    fn form_2_has_actions_up_to_15() {
+        let text = b"policy,2\nuattr,1\noattr,1\nrule,8,u0\nrule,15,t\npair,12,0,0\nend\n";
+        let policy = read(text).expect("accepted");
+        assert_eq!(decide(&policy, 8, 1, 0), Ok(true));
+        assert_eq!(decide(&policy, 8, 0, 0), Ok(false));
+        assert_eq!(decide(&policy, 12, 1, 1), Ok(true));
+        assert_eq!(decide(&policy, 12, 1, 0), Ok(false));
+        assert_eq!(decide(&policy, 15, 0, 0), Ok(true));
+        assert_eq!(decide(&policy, 15, 2, 0), Err(19));
+        assert_eq!(decide(&policy, 16, 2, 0), Err(12));
     }
 }

@@ -1,43 +1,50 @@
 //! Labels of user sets and object sets, and the table over them.
 
+use crate::form::Widths;
 use crate::formula::Formulas;
-use crate::policy::{Policy, Refusal, Set, ACTIONS};
+use crate::policy::{Policy, Refusal, Set};
+
+/// An entry of a table, wide enough for every form.
+pub type Entry = u16;
 
 /// A number for each user set and each object set, and a table over them.
 #[derive(Debug, Clone, PartialEq, Eq)]
 pub struct Labelling {
+    /// The bits in which labels and entries are stored.
+    pub widths: Widths,
     pub user_labels: Vec<u8>,
     pub object_labels: Vec<u8>,
     /// NU: how many user labels are used.
     pub user_count: usize,
     /// NO: how many object labels are used.
     pub object_count: usize,
-    /// Byte ul × NO + ol has bit a set exactly when action a is granted.
-    pub table: Vec<u8>,
+    /// Entry ul × NO + ol has bit a set exactly when action a is granted.
+    pub table: Vec<Entry>,
 }
 
-/// A row for each user set with a byte for each object set, bit a for action a.
-pub fn grants(policy: &Policy) -> Vec<Vec<u8>> {
+/// A row for each user set with an entry for each object set, bit a for action a.
+pub fn grants(policy: &Policy) -> Vec<Vec<Entry>> {
     let formulas = Formulas::of(policy);
-    let byte = |user_set, object_set| {
-        (0..ACTIONS)
+    let entry = |user_set, object_set| {
+        (0..policy.actions())
             .filter(|&action| formulas.grants(action, user_set, object_set))
-            .map(|action| 1u8 << action)
+            .map(|action| 1 << action)
             .sum()
     };
     (0..policy.user_sets())
         .map(|user_set| {
             (0..policy.object_sets())
-                .map(|o| byte(user_set, o))
+                .map(|o| entry(user_set, o))
                 .collect()
         })
         .collect()
 }
 
-/// The compiled labelling: alike sets share a label.
+/// The compiled labelling, in the widths of the policy's form: alike sets share a
+/// label.
 pub fn compile(policy: &Policy) -> Labelling {
     let rows = grants(policy);
-    let columns: Vec<Vec<u8>> = (0..policy.object_sets() as usize)
+    let columns: Vec<Vec<Entry>> = (0..policy.object_sets() as usize)
         .map(|object_set| rows.iter().map(|row| row[object_set]).collect())
         .collect();
     let (user_labels, user_lowest) = number(&rows);
@@ -49,6 +56,7 @@ pub fn compile(policy: &Policy) -> Labelling {
         }
     }
     Labelling {
+        widths: policy.form.widths,
         user_labels,
         object_labels,
         user_count: user_lowest.len(),
@@ -57,8 +65,15 @@ pub fn compile(policy: &Policy) -> Labelling {
     }
 }
 
+/// The same by a call made for these widths: refusal 11 where they are not those of
+/// the policy's form.
+pub fn compile_for(policy: &Policy, widths: Widths) -> Result<Labelling, Refusal> {
+    policy.form.check(widths)?;
+    Ok(compile(policy))
+}
+
 /// A label for each row, equal rows alike, and each label's lowest row.
-fn number(rows: &[Vec<u8>]) -> (Vec<u8>, Vec<usize>) {
+fn number(rows: &[Vec<Entry>]) -> (Vec<u8>, Vec<usize>) {
     let mut labels = Vec::new();
     let mut lowest: Vec<usize> = Vec::new();
     for (set, row) in rows.iter().enumerate() {
@@ -79,10 +94,10 @@ pub fn grants_alike(policy: &Policy, labelling: &Labelling) -> bool {
         .all(|(row, &user_label)| {
             row.iter()
                 .zip(&labelling.object_labels)
-                .all(|(byte, &object_label)| {
+                .all(|(entry, &object_label)| {
                     let place =
                         user_label as usize * labelling.object_count + object_label as usize;
-                    labelling.table.get(place) == Some(byte)
+                    labelling.table.get(place) == Some(entry)
                 })
         })
 }
@@ -94,7 +109,7 @@ pub fn apart(policy: &Policy, one: Set, other: Set) -> Result<Option<(u32, Set)>
         return Err(19);
     }
     let formulas = Formulas::of(policy);
-    for action in 0..ACTIONS {
+    for action in 0..policy.actions() {
         for object_set in 0..policy.object_sets() {
             let granted = formulas.grants(action, one, object_set);
             if granted != formulas.grants(action, other, object_set) {
@@ -108,6 +123,7 @@ pub fn apart(policy: &Policy, one: Set, other: Set) -> Result<Option<(u32, Set)>
 #[cfg(test)]
 mod tests {
     use super::*;
+    use crate::form::{WIDTHS_8_16, WIDTHS_8_8};
     use crate::text::read;
 
     #[test]
@@ -119,6 +135,33 @@ mod tests {
         assert_eq!(apart(&policy, 1, 2), Ok(Some((6, 1))));
         assert_eq!(apart(&policy, 4, 0), Err(19));
         assert_eq!(apart(&policy, 0, 4), Err(19));
+    }
+
+    #[test]
+    fn an_action_above_7_tells_apart_and_has_its_bit() {
+        let text = b"policy,2\nuattr,1\noattr,1\nrule,0,t\npair,15,0,0\nend\n";
+        let policy = read(text).expect("accepted");
+        let labelling = compile(&policy);
+        assert_eq!(labelling.user_labels, [0, 1]);
+        assert_eq!(labelling.object_labels, [0, 1]);
+        assert_eq!(labelling.table, [1, 1, 1, 32_769]);
+        assert!(grants_alike(&policy, &labelling));
+        assert_eq!(apart(&policy, 0, 1), Ok(Some((15, 1))));
+    }
+
+    #[test]
+    fn compiling_for_other_widths_gets_11() {
+        for (form, own, other) in [(1, WIDTHS_8_8, WIDTHS_8_16), (2, WIDTHS_8_16, WIDTHS_8_8)] {
+            let text = format!("policy,{form}\nuattr,1\noattr,1\nrule,7,u0\nend\n");
+            let policy = read(text.as_bytes()).expect("accepted");
+            let labelling = compile(&policy);
+            assert_eq!(
+                (labelling.widths, &labelling.table[..]),
+                (own, &[0, 128][..])
+            );
+            assert_eq!(compile_for(&policy, own), Ok(labelling));
+            assert_eq!(compile_for(&policy, other), Err(11));
+        }
     }
 
     #[test]

@@ -9,6 +9,7 @@
 pub mod card_calls;
 pub mod case_file;
 pub mod cases;
+pub mod form;
 pub mod formula;
 pub mod labels;
 pub mod lister;

@@ -1,7 +1,7 @@
 //! What the lister writes about a policy text.
 
 use crate::labels::compile;
-use crate::policy::{Policy, ACTIONS};
+use crate::policy::Policy;
 use crate::text::{read, Refused};
 use crate::tuples::tuples;
 
@@ -19,7 +19,7 @@ fn listing(policy: &Policy) -> String {
         "labels,{},{}\n",
         labelling.user_count, labelling.object_count
     );
-    for action in (0..ACTIONS).filter(|&action| is_named(policy, action)) {
+    for action in (0..policy.actions()).filter(|&action| is_named(policy, action)) {
         let tuples = tuples(policy, action).expect("an action");
         output += &format!("action,{action},{}\n", tuples.len());
         for tuple in tuples.into_iter().map(u32::from) {
@@ -50,6 +50,13 @@ mod tests {
         let expected = "labels,2,2\naction,1,1\ntuple,1,1,1\n\
             action,2,3\ntuple,2,0,0\ntuple,2,0,1\ntuple,2,1,1\n\
             action,4,0\naction,7,1\ntuple,7,1,1\n";
+        assert_eq!(output, expected);
+    }
+
+    #[test]
+    fn form_2_has_blocks_up_to_action_15() {
+        let output = list(b"policy,2\nuattr,1\noattr,1\nrule,8,u0,o0,a\npair,15,0,0\nend\n");
+        let expected = "labels,2,2\naction,8,1\ntuple,8,1,1\naction,15,1\ntuple,15,1,1\n";
         assert_eq!(output, expected);
     }
 }

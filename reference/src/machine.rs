@@ -1,7 +1,9 @@
-//! The plain machine of sessions, with refusals 12 to 19 and 23.
+//! The plain machine of sessions, with refusals 12 to 19 and 23, and 11 for a request
+//! made for other widths than those of the policy's form.
 
+use crate::form::Widths;
 use crate::formula::{reach, Formulas};
-use crate::policy::{Policy, Refusal, Set, ACTIONS};
+use crate::policy::{Policy, Refusal, Set};
 use std::collections::BTreeMap;
 
 /// The machine's state: session number to user and held set.
@@ -98,7 +100,7 @@ fn refusals(policy: &Policy, sessions: &Sessions, call: &Call) -> Vec<Refusal> {
     let within = reach(policy, assigned.unwrap_or(0));
     let would_hold = call.would_hold(entry.map_or(0, |entry| entry.1));
     let conditions = [
-        (12, action.is_some_and(|action| action >= ACTIONS)),
+        (12, action.is_some_and(|action| action >= policy.actions())),
         (13, call.session() > 31),
         (14, call.user().is_some() && assigned.is_none()),
         (
@@ -153,12 +155,31 @@ fn decision(policy: &Policy, held: Set, action: u32, object: u32) -> Answer {
     }
 }
 
-/// A list of calls on a fresh machine: their answers and the map after them.
+/// One call, which a request makes for these widths.
+pub fn step_for(
+    policy: &Policy,
+    widths: Widths,
+    sessions: &Sessions,
+    call: &Call,
+) -> (Sessions, Answer) {
+    match (call, policy.form.check(widths)) {
+        (Call::Request { .. }, Err(refusal)) => (sessions.clone(), Answer::Refused(refusal)),
+        _ => step(policy, sessions, call),
+    }
+}
+
+/// A list of calls on a fresh machine, made for the policy's form: their answers and
+/// the map after them.
 pub fn run(policy: &Policy, calls: &[Call]) -> (Vec<Answer>, Sessions) {
+    run_for(policy, policy.form.widths, calls)
+}
+
+/// The same, with each request made for these widths.
+pub fn run_for(policy: &Policy, widths: Widths, calls: &[Call]) -> (Vec<Answer>, Sessions) {
     let mut sessions = Sessions::new();
     let mut answers = Vec::new();
     for call in calls {
-        let (after, answer) = step(policy, &sessions, call);
+        let (after, answer) = step_for(policy, widths, &sessions, call);
         sessions = after;
         answers.push(answer);
     }
@@ -168,6 +189,7 @@ pub fn run(policy: &Policy, calls: &[Call]) -> (Vec<Answer>, Sessions) {
 #[cfg(test)]
 mod tests {
     use super::*;
+    use crate::form::{WIDTHS_8_16, WIDTHS_8_8};
     use crate::text::read;
 
     const TEXT: &[u8] = b"policy,1\nuattr,2\nuattr,1\noattr,1\nusen,1,0\nuser,0,2\nuser,5,4\n\
@@ -249,6 +271,35 @@ mod tests {
         assert_eq!(last(&[request(32, 7, 9)]), Answer::Refused(13));
         assert_eq!(last(&[request(31, 7, 9)]), Answer::Refused(15));
         assert_eq!(last(&[request(31, 7, 3)]), Answer::Refused(17));
+    }
+
+    #[test]
+    fn form_2_decides_actions_up_to_15() {
+        let text = String::from_utf8(TEXT.to_vec()).expect("a text");
+        let text = text
+            .replace("policy,1", "policy,2")
+            .replace("end", "rule,15,o0\nend");
+        let asked = |action| last_on(text.as_bytes(), &[open(0, 31, 0), request(31, action, 3)]);
+        assert_eq!(asked(8), Answer::Denied);
+        assert_eq!(asked(15), Answer::Granted);
+        assert_eq!(asked(16), Answer::Refused(12));
+    }
+
+    #[test]
+    fn a_request_made_for_other_widths_gets_11_before_all_and_the_rest_goes_on() {
+        let policy = read(TEXT).expect("accepted");
+        let calls = [
+            open(0, 31, 1),
+            request(31, 0, 3),
+            request(99, 99, 99),
+            add(0, 31, 2),
+        ];
+        let (answers, sessions) = run_for(&policy, WIDTHS_8_16, &calls);
+        let refused = Answer::Refused(11);
+        assert_eq!(answers, [Answer::Done, refused, refused, Answer::Done]);
+        assert_eq!(sessions, Sessions::from([(31, (0, 3))]));
+        assert_eq!(run_for(&policy, WIDTHS_8_8, &calls), run(&policy, &calls));
+        assert_eq!(run(&policy, &calls).0[1], Answer::Granted);
     }
 
     #[test]

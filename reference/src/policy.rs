@@ -1,13 +1,12 @@
 //! A policy as plain vectors, in text order.
 
+use crate::form::Form;
+
 /// A set of values: the sum of 2^k over the values k in it.
 pub type Set = u32;
 
 /// The number of a refusal, 1 to 23.
 pub type Refusal = u32;
-
-/// Actions are numbered 0 to 7.
-pub const ACTIONS: u32 = 8;
 
 /// A word of a formula.
 #[derive(Debug, Clone, Copy, PartialEq, Eq)]
@@ -52,6 +51,7 @@ pub struct Pair {
 
 #[derive(Debug, Clone, Default, PartialEq, Eq)]
 pub struct Policy {
+    pub form: Form,
     pub user_widths: Vec<u32>,
     pub object_widths: Vec<u32>,
     /// Direct lines (senior, junior).
@@ -67,6 +67,11 @@ pub struct Policy {
 }
 
 impl Policy {
+    /// How many actions there are.
+    pub fn actions(&self) -> u32 {
+        self.form.actions
+    }
+
     /// U: how many user values there are.
     pub fn user_values(&self) -> u32 {
         self.user_widths.iter().sum()

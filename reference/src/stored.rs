@@ -1,16 +1,18 @@
 //! The case files that are stored with the product: the requirement's examples
 //! with the requirement's answers, made cases from one seed without pairs and
-//! conflicts and with them, lines that are wrong on purpose, and made cases about
-//! dominance.
+//! conflicts and with them, lines that are wrong on purpose, made cases about
+//! dominance, and the like about forms.
 
 pub(crate) mod conflicts;
 mod dominance;
+pub(crate) mod forms;
 mod lists;
 mod pairs;
 
-use crate::case_file::{answered, case_of};
+use crate::case_file::{answered, answered_for_all_widths, case_of, lines};
 use crate::cases::{self, Rng};
 use crate::formula::reach;
+use crate::labels::grants;
 use crate::policy::Policy;
 use crate::spelled::a_senior_decides;
 use crate::text::{read, MOST_CONFLICTS, MOST_PAIRS};
@@ -28,6 +30,8 @@ const LARGE_SUM: usize = 350_000;
 const ALIKE_BY_SENIORITY: u64 = 690;
 /// Another, past the rest: every set of both sides has its own label.
 const LABEL_PER_SET: u64 = 1810;
+/// A large case of form 2, with a file of its own.
+const LARGE_OF_FORM_2: u64 = 672;
 
 /// The text of the requirement.
 pub(crate) const TEXT: &str = "policy,1
@@ -82,31 +86,50 @@ const EDGES: [(&str, &str, &str); 16] = [
 
 /// The files by their numbers: the examples, the made cases without pairs, those
 /// about pairs, the lines that are wrong on purpose, then the made cases about
-/// conflicts and those about dominance.
+/// conflicts and those about dominance. What is about forms stands behind all these.
 pub fn files() -> Vec<Vec<u8>> {
-    let mut files = vec![examples()];
+    let mut files = vec![numbered(example_cases())];
     files.extend(without_pairs());
-    files.push(about(cases::text_without_conflicts, |text| {
-        much_of("pair", text, much_by_pairs)
-    }));
+    files.push(about(
+        of_form_1(cases::text_without_conflicts),
+        |text, _| much_of("pair", text, much_by_pairs),
+    ));
     files.push(wrong::file());
-    files.push(about(cases::text_without_dominance, |text| {
-        much_of("conflict", text, much_by_conflicts)
-    }));
-    files.push(about(cases::text, |text| {
+    files.push(about(
+        of_form_1(cases::text_without_dominance),
+        |text, _| much_of("conflict", text, much_by_conflicts),
+    ));
+    files.push(about(of_form_1(cases::text_without_forms), |text, _| {
         read(text).is_ok_and(|policy| a_senior_decides(&policy))
     }));
+    files.push(numbered(forms::example_cases()));
+    files.push(wrong::file_of_forms());
+    files.push(about(of_both_forms, |text, _| {
+        read(text).is_ok_and(|policy| much_by_form_2(&policy))
+    }));
+    files.push(about(of_both_forms, much_between_forms));
+    files.push(of_both_forms(LARGE_OF_FORM_2).1);
     files
 }
 
 /// The text of a case.
 type Making = fn(&mut Rng, u64) -> Vec<u8>;
 
-/// The text of a case and all its lines.
-fn made(text: Making, case: u64) -> (Vec<u8>, Vec<u8>) {
+/// The text of a case of form 1 and all its lines.
+fn of_form_1(text: Making) -> impl Fn(u64) -> (Vec<u8>, Vec<u8>) {
+    move |case| {
+        let mut rng = Rng::new(SEED, case);
+        let text = text(&mut rng, case);
+        let lines = answered(&mut rng, case, &text, u32::MAX);
+        (text, lines)
+    }
+}
+
+/// The text of a case of either form and all its lines, for all widths.
+fn of_both_forms(case: u64) -> (Vec<u8>, Vec<u8>) {
     let mut rng = Rng::new(SEED, case);
-    let text = text(&mut rng, case);
-    let lines = answered(&mut rng, case, &text, u32::MAX);
+    let text = cases::text(&mut rng, case);
+    let lines = answered_for_all_widths(&mut rng, case, &text, u32::MAX);
     (text, lines)
 }
 
@@ -114,7 +137,7 @@ fn without_pairs() -> Vec<Vec<u8>> {
     let mut files = vec![Vec::new()];
     let mut large = 0;
     for case in (0..CASES).chain([LABEL_PER_SET]) {
-        let (_, lines) = made(cases::text_without_pairs, case);
+        let (_, lines) = of_form_1(cases::text_without_pairs)(case);
         let always = case == ALIKE_BY_SENIORITY || case == LABEL_PER_SET;
         if lines.len() > SMALL && !always {
             if lines.len() > FILE || large + lines.len() > LARGE_SUM {
@@ -130,12 +153,16 @@ fn without_pairs() -> Vec<Vec<u8>> {
     files
 }
 
-/// The first small cases with a text that is wanted, as many as fit into a file.
-fn about(text: Making, wanted: impl Fn(&[u8]) -> bool) -> Vec<u8> {
+/// The first small cases that are wanted by their text and lines, as many as fit into a
+/// file.
+fn about(
+    made: impl Fn(u64) -> (Vec<u8>, Vec<u8>),
+    wanted: impl Fn(&[u8], &[u8]) -> bool,
+) -> Vec<u8> {
     let mut file = Vec::new();
     for case in 0..CASES {
-        let (text, lines) = made(text, case);
-        if lines.len() <= SMALL && file.len() + lines.len() <= FILE && wanted(&text) {
+        let (text, lines) = made(case);
+        if lines.len() <= SMALL && file.len() + lines.len() <= FILE && wanted(&text, &lines) {
             file.extend(lines);
         }
     }
@@ -170,8 +197,30 @@ fn much_by_conflicts(policy: &Policy) -> bool {
     policy.conflicts.len() == MOST_CONFLICTS || policy.users.iter().any(|user| too_many(user.1))
 }
 
-fn examples() -> Vec<u8> {
-    let numbered = (0..).zip(example_cases());
+/// Of form 2, with an action granted somewhere that form 1 lacks.
+fn much_by_form_2(policy: &Policy) -> bool {
+    let rows = grants(policy);
+    policy.form.number == 2 && rows.iter().flatten().any(|entry| entry >> 8 != 0)
+}
+
+/// Refused though it says it is of form 2, or for the form that it says; or of form 1
+/// with calls made for the widths of form 2.
+fn much_between_forms(text: &[u8], case: &[u8]) -> bool {
+    match read(text) {
+        Err(refused) => {
+            let first = refused.refusal == 6 && refused.line == 0;
+            first || text.starts_with(b"policy,2\n")
+        }
+        Ok(policy) => {
+            let compiled = |line: &String| line.starts_with("U,11,");
+            policy.form.number == 1 && lines(case).iter().any(compiled)
+        }
+    }
+}
+
+/// A file of these cases.
+fn numbered(cases: Vec<(String, String)>) -> Vec<u8> {
+    let numbered = (0..).zip(cases);
     numbered
         .flat_map(|(case, (text, answers))| case_of(case, text.as_bytes(), &answers))
         .collect()
@@ -233,7 +282,7 @@ mod tests {
 
     #[test]
     fn the_examples_are_read_as_the_requirement_says() {
-        for (text, answers) in example_cases() {
+        for (text, answers) in [example_cases(), forms::example_cases()].concat() {
             let reading = match read(text.as_bytes()) {
                 Ok(_) => "Y".to_string(),
                 Err(refused) => format!("R,{},{}", refused.refusal, refused.line),

@@ -4,7 +4,8 @@
 //! The checks of one line stand in the order of testing, which is that of their
 //! numbers but for 21 and 22, between 7 and 8. The first one met decides.
 
-use crate::policy::{attribute_of, Conflict, Pair, Policy, Refusal, Rule, Word, ACTIONS};
+use crate::form::Form;
+use crate::policy::{attribute_of, Conflict, Pair, Policy, Refusal, Rule, Word};
 
 /// A longer text gets refusal 1.
 pub const LONGEST_TEXT: usize = 8192;
@@ -203,7 +204,7 @@ fn word(field: &[u8]) -> Option<Word> {
 fn in_range(policy: &Policy, entry: &Entry) -> bool {
     let numbers = &entry.numbers;
     match entry.kind {
-        Kind::Policy => numbers[0] == 1,
+        Kind::Policy => Form::numbered(numbers[0]).is_some(),
         Kind::UserAttribute => width_fits(&policy.user_widths, numbers[0]),
         Kind::ObjectAttribute => width_fits(&policy.object_widths, numbers[0]),
         Kind::UserSeniority => senior_stands(&policy.user_widths, numbers[0], numbers[1]),
@@ -212,10 +213,11 @@ fn in_range(policy: &Policy, entry: &Entry) -> bool {
         Kind::Object => numbers[0] <= 63 && numbers[1] < policy.object_sets(),
         Kind::Conflict => numbers[0] < policy.user_sets() && numbers[1] <= MOST_TOGETHER,
         Kind::Rule => {
-            numbers[0] < ACTIONS && entry.words.iter().all(|word| word_in_range(policy, word))
+            numbers[0] < policy.actions()
+                && entry.words.iter().all(|word| word_in_range(policy, word))
         }
         Kind::Pair => {
-            numbers[0] < ACTIONS
+            numbers[0] < policy.actions()
                 && numbers[1] < policy.user_values()
                 && numbers[2] < policy.object_values()
         }
@@ -311,7 +313,8 @@ fn leaves_one(words: &[Word]) -> bool {
 fn with(mut policy: Policy, entry: Entry) -> Policy {
     let numbers = entry.numbers;
     match entry.kind {
-        Kind::Policy | Kind::End => {}
+        Kind::Policy => policy.form = Form::numbered(numbers[0]).expect("a form"),
+        Kind::End => {}
         Kind::UserAttribute => policy.user_widths.push(numbers[0]),
         Kind::ObjectAttribute => policy.object_widths.push(numbers[0]),
         Kind::UserSeniority => policy.user_seniority.push((numbers[0], numbers[1])),
@@ -333,7 +336,7 @@ fn with(mut policy: Policy, entry: Entry) -> Policy {
 
 /// The text of a policy.
 pub fn write(policy: &Policy) -> Vec<u8> {
-    let mut lines = vec!["policy,1".to_string()];
+    let mut lines = vec![format!("policy,{}", policy.form.number)];
     lines.extend(
         policy
             .user_widths
@@ -510,7 +513,7 @@ mod tests {
 
     #[test]
     fn refusal_6_by_the_range() {
-        for text in ["policy,0\n", "policy,2\n", "policy,99999\n"] {
+        for text in ["policy,0\n", "policy,5\n", "policy,99999\n"] {
             assert_eq!(refused(text), (6, 0));
         }
         assert_eq!(refused("policy,1\nuattr,0\n"), (6, 1));
@@ -535,6 +538,35 @@ mod tests {
         }
         for word in ["u3", "o3", "d20", "d02", "q20", "q02"] {
             assert_eq!(line(&format!("rule,0,{word}")), Some(6), "{word}");
+        }
+    }
+
+    #[test]
+    fn refusal_6_by_the_actions_of_the_form() {
+        for (form, actions) in [(1, 8), (2, 16)] {
+            let head = HEAD.replace("policy,1", &format!("policy,{form}"));
+            for line in ["rule,A,t", "pair,A,0,0"] {
+                let answer = |action: u32| {
+                    let line = line.replace('A', &action.to_string());
+                    let answer = read(format!("{head}{line}\nend\n").as_bytes());
+                    answer.map_err(|refused| (refused.refusal, refused.line))
+                };
+                assert!((0..actions).all(|action| answer(action).is_ok()), "{form}");
+                for action in [actions, 17, 255, 256, 65_536, 99_999] {
+                    assert_eq!(answer(action), Err((6, 5)), "{form}: {action}");
+                }
+            }
+        }
+    }
+
+    #[test]
+    fn as_many_rules_as_actions_are_read() {
+        for (form, actions) in [(1, 8), (2, 16)] {
+            let rules: String = (0..actions).map(|a| format!("rule,{a},t\n")).collect();
+            let text = format!("policy,{form}\nuattr,1\noattr,1\n{rules}end\n");
+            let policy = read(text.as_bytes()).expect("accepted");
+            assert_eq!(policy.rules.len(), actions);
+            assert_eq!(write(&policy), text.as_bytes());
         }
     }
 
@@ -636,9 +668,13 @@ mod tests {
     fn an_accepted_text_is_written_again() {
         let text = format!(
             "{HEAD}usen,1,0\nosen,1,0\nuser,0,7\nuser,31,0\nobject,63,5\n\
-             conflict,0,0\nconflict,5,7\nconflict,7,1\nrule,0,t,f,u0,o2,d00,q11,n,a,r,a,r,a\nrule,7,f\npair,0,0,2\npair,7,2,0\nend\n"
+             conflict,0,0\nconflict,5,7\nconflict,7,1\nrule,0,t,f,u0,o2,d00,q11,n,a,r,a,r,a\n\
+             rule,7,f\npair,0,0,2\npair,7,2,0\nend\n"
         );
-        let policy = read(text.as_bytes()).expect("accepted");
-        assert_eq!(write(&policy), text.as_bytes());
+        for form in ["policy,1", "policy,2"] {
+            let text = text.replace("policy,1", form);
+            let policy = read(text.as_bytes()).expect("accepted");
+            assert_eq!(write(&policy), text.as_bytes());
+        }
     }
 }

@@ -5,11 +5,14 @@
 //! Such a line has a mark behind its tag and stands after the line that it is
 //! made from.
 
-use crate::case_file::{case_of, WITHOUT_POLICY};
-use crate::stored::{conflicts, ANSWERS, TEXT};
+use crate::case_file::{case_of, WITHOUT_POLICY, WITHOUT_POLICY_16};
+use crate::stored::{conflicts, forms, ANSWERS, TEXT};
 
 /// Behind the tag of a line that is wrong on purpose.
 pub const MARK: char = '!';
+
+/// A bit of an entry that a byte lacks.
+const HIGH_BIT: u32 = 256;
 
 /// Of more entries than these only the first and the last are changed.
 const FEW: usize = 16;
@@ -39,9 +42,27 @@ S,0,1,3,2,4,2,6,1,0,0,31,1,2,31,0,1
 /// The most sets and pairs: results that fill their buffers.
 const WIDE: &str = "policy,1\nuattr,7\noattr,7\nrule,0,t\nend\n";
 
-/// The file: right lines, each with the wrong ones made from it.
+/// Right lines for the example of form 2 with actions above 7, beside its own.
+const MORE_ABOVE_7: &str = "U,20,0,3,2,6
+O,20,0,4,1,6
+G,20,0,4,2,5
+T,12,0,16,16384
+T,20,0,15,3
+F,12,0,16,0,0
+";
+
+/// Form 1: right lines, each with the wrong ones made from it.
 pub fn file() -> Vec<u8> {
-    let numbered = (0..).zip(right_cases());
+    with_wrong_lines(right_cases())
+}
+
+/// The same of form 2, and of calls made for other widths than the form's.
+pub fn file_of_forms() -> Vec<u8> {
+    with_wrong_lines(right_cases_of_forms())
+}
+
+fn with_wrong_lines<const N: usize>(cases: [(String, String); N]) -> Vec<u8> {
+    let numbered = (0..).zip(cases);
     numbered
         .flat_map(|(case, (text, right))| {
             let lines: String = right.lines().map(with_wrong).collect();
@@ -76,6 +97,25 @@ fn right_cases() -> [(String, String); 6] {
     ]
 }
 
+/// Texts of both forms, each with right lines.
+fn right_cases_of_forms() -> [(String, String); 4] {
+    let without_policy = WITHOUT_POLICY_16.join("\n");
+    let labels = ",0".repeat(128);
+    let (above_7, answers) = forms::above_7();
+    [
+        (above_7, format!("{answers}{MORE_ABOVE_7}")),
+        (TEXT.to_string(), format!("Y\n{}", forms::for_16_bits())),
+        (
+            forms::of_form_2(TEXT).replace("rule,3,", "rule,16,"),
+            format!("R,6,7\nV,11\n{without_policy}\n"),
+        ),
+        (
+            forms::of_form_2(WIDE),
+            format!("Y\nU,0,1,128,128,1{labels}\nO,0,1,128,128,1{labels}\nG,0,1,128,128,1,1\n"),
+        ),
+    ]
+}
+
 /// A right line, and the wrong ones made from it.
 fn with_wrong(right: &str) -> String {
     let (tag, fields) = right.split_at(1);
@@ -102,9 +142,13 @@ fn wrong_numbers(tag: &str, mut right: Vec<u32>) -> Vec<Vec<u32>> {
         "W" => wrong.push(changed(&right, 3, right[3].checked_sub(1).unwrap_or(1))),
         // No set is told apart from itself.
         "D" => wrong.push(changed(&right, 3, right[2])),
-        "u" | "o" | "g" => wrong.extend(wrong_entries(&right, 5, 1)),
+        "u" | "o" | "g" | "U" | "O" => wrong.extend(wrong_entries(&right, 5, 1)),
+        "G" => {
+            wrong.extend(wrong_entries(&right, 5, 1));
+            wrong.extend((5..right.len()).map(|i| changed(&right, i, right[i] ^ HIGH_BIT)));
+        }
         "T" => wrong.extend(wrong_entries(&right, 4, 2)),
-        "S" => {
+        "S" | "Z" => {
             let calls = right[7] as usize;
             let (answers, sessions) = (8 + 4 * calls, 8 + 5 * calls);
             wrong.extend((answers..sessions).map(|i| changed(&right, i, right[i] + 1)));

@@ -3,8 +3,8 @@
 
 mod made;
 
-use made::{accepted, made, SEED};
-use reference::cases::{text_without_dominance, Rng};
+use made::{accepted, SEED};
+use reference::cases::{text_without_dominance, text_without_forms, Rng};
 use reference::labels::grants;
 use reference::policy::{attribute_of, first_value, Policy, Rule, Word};
 use reference::spelled::{a_senior_decides, any_of, or_seniors, spelled_out};
@@ -117,7 +117,7 @@ fn a_text_that_gets_no_dominance_is_as_it_is_without_it() {
     };
     let mut changed = 0;
     for case in (0..CASES).step_by(2) {
-        let with = lines(made(case).1);
+        let with = lines(text_without_forms(&mut Rng::new(SEED, case), case));
         let without = lines(text_without_dominance(&mut Rng::new(SEED, case), case));
         assert_eq!(with.len(), without.len());
         let unlike: Vec<_> = with.iter().zip(&without).filter(|(a, b)| a != b).collect();

@@ -1,9 +1,10 @@
 //! The examples of the requirement, in its order.
 
+use reference::form::{WIDTHS_8_16, WIDTHS_8_8};
 use reference::formula::{decide, is_senior};
-use reference::labels::compile;
+use reference::labels::{compile, compile_for};
 use reference::lister::list;
-use reference::machine::{run, Answer, Call, Sessions};
+use reference::machine::{run, run_for, Answer, Call, Sessions};
 use reference::policy::{Policy, Set};
 use reference::text::{read, write};
 use reference::tuples::{decide_by_tuples, tuples};
@@ -249,5 +250,65 @@ fn object_sets_without_an_object_tell_sets_apart() {
         let labelling = compile(&policy(&text));
         assert_eq!(labelling.user_labels, [0, 1]);
         assert_eq!(labelling.object_labels, [0, 1]);
+    }
+}
+
+// More than eight things to do with a comment.
+
+/// The text of the requirement in form 2.
+fn form_2() -> String {
+    TEXT.replace("policy,1", "policy,2")
+}
+
+#[test]
+fn form_2_has_actions_0_to_15() {
+    let text = |action: u32| form_2().replace("rule,3,", &format!("rule,{action},"));
+    assert!((1..16).all(|action| answer(&text(action)) == (0, 0)));
+    assert_eq!(answer(&text(16)), (6, 7));
+    let form_1 = TEXT.replace("rule,3,", "rule,8,");
+    assert_eq!(answer(&form_1), (6, 7));
+    assert_eq!(answer("policy,0\n"), (6, 0));
+}
+
+#[test]
+fn check_12_applies_above_the_last_action_of_the_form() {
+    for (text, last) in [(TEXT.to_string(), 7), (form_2(), 15)] {
+        let policy = policy(&text);
+        assert_eq!(decide(&policy, last, 0, 0), Ok(false));
+        assert_eq!(decide(&policy, last + 1, 0, 0), Err(12));
+        let (answers, _) = run(&policy, &[open(1), request(last), request(last + 1)]);
+        assert_eq!(answers[1..], [Answer::Denied, Answer::Refused(12)]);
+    }
+}
+
+#[test]
+fn form_2_has_16_bit_entries_and_form_1_keeps_bytes() {
+    let high = form_2().replace("rule,3,", "rule,15,");
+    let labelling = compile(&policy(&high));
+    assert_eq!(labelling.table, [32768, 32768, 32768, 32769, 0, 1]);
+    assert_eq!(labelling.widths, WIDTHS_8_16);
+    assert_eq!(compile(&policy(TEXT)).widths, WIDTHS_8_8);
+}
+
+#[test]
+fn the_text_is_labelled_and_listed_the_same_in_form_2() {
+    assert_eq!(list(form_2().as_bytes()), LISTING);
+    let labelling = compile(&policy(&form_2()));
+    assert_eq!(labelling.user_labels, [0, 1, 2, 2]);
+    assert_eq!(labelling.object_labels, [0, 1]);
+    assert_eq!(labelling.table, [8, 8, 8, 9, 0, 1]);
+    assert_eq!(write(&policy(&form_2())), form_2().as_bytes());
+}
+
+#[test]
+fn a_call_made_for_other_widths_gets_11() {
+    let forms = [(TEXT.to_string(), WIDTHS_8_16), (form_2(), WIDTHS_8_8)];
+    for (text, other) in forms {
+        let policy = policy(&text);
+        assert_eq!(compile_for(&policy, other), Err(11));
+        let (answers, sessions) = run_for(&policy, other, &[open(1), request(3), request(99)]);
+        let refused = Answer::Refused(11);
+        assert_eq!(answers, [Answer::Done, refused, refused]);
+        assert_eq!(sessions, Sessions::from([(0, (0, 1))]));
     }
 }

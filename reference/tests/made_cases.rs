@@ -6,9 +6,9 @@ use made::{accepted, made, SEED};
 use reference::cases::{calls, Rng};
 use reference::cases::{text_without_conflicts, text_without_dominance, text_without_pairs};
 use reference::formula::{decide, holds, is_senior, Formulas};
-use reference::labels::{apart, compile, grants, grants_alike};
+use reference::labels::{apart, compile, grants, grants_alike, Entry};
 use reference::machine::{run, step, Answer, Call, Sessions};
-use reference::policy::{Conflict, Pair, Policy, Set, ACTIONS};
+use reference::policy::{Conflict, Pair, Policy, Set};
 use reference::text::{read, write, MOST_CONFLICTS, MOST_PAIRS, MOST_TOGETHER};
 use reference::tuples::{stored, tuples};
 use std::collections::BTreeSet;
@@ -201,7 +201,7 @@ fn labellings_grant_alike_and_merge_all_they_can() {
     for (_, policy) in accepted(200) {
         let labelling = compile(&policy);
         assert!(grants_alike(&policy, &labelling));
-        let rows: BTreeSet<Vec<u8>> = grants(&policy).into_iter().collect();
+        let rows: BTreeSet<Vec<Entry>> = grants(&policy).into_iter().collect();
         assert_eq!(rows.len(), labelling.user_count);
         let highest = labelling
             .user_labels
@@ -238,7 +238,7 @@ fn apart_agrees_with_the_labels_and_its_witness_separates() {
 #[test]
 fn tuples_are_the_pairs_granted() {
     for (mut rng, policy) in accepted(400) {
-        let action = rng.below(ACTIONS);
+        let action = rng.below(policy.actions());
         let listing = tuples(&policy, action).expect("listed");
         assert!(listing.windows(2).all(|pair| pair[0] < pair[1]));
         assert!(listing.iter().all(|&tuple| tuple < 1 << 14));
@@ -275,8 +275,8 @@ fn granted_is_by_the_formula_or_by_a_pair_of_the_action() {
         };
         let (rows, plain_rows) = (grants(&policy), grants(&plain));
         for (us, os) in sets(&policy) {
-            for action in 0..ACTIONS {
-                let bit = |rows: &[Vec<u8>]| rows[us as usize][os as usize] >> action & 1 == 1;
+            for action in 0..policy.actions() {
+                let bit = |rows: &[Vec<Entry>]| rows[us as usize][os as usize] >> action & 1 == 1;
                 let mut pairs = policy.pairs.iter().filter(|pair| pair.action == action);
                 let by_pair = pairs.any(|pair| meets(&policy, pair, us, os));
                 let by_formula = bit(&plain_rows);
@@ -317,7 +317,7 @@ fn pairs_grant_what_formulas_of_them_would() {
             .filter(|l| !l.starts_with("rule") && !l.starts_with("pair"));
         let mut lines: Vec<String> = head.map(String::from).collect();
         let end = lines.pop().expect("an end");
-        for action in 0..ACTIONS {
+        for action in 0..policy.actions() {
             let prefix = format!("rule,{action},");
             let rule = text.lines().find(|line| line.starts_with(&prefix));
             let mut line = rule.map_or(format!("{prefix}f"), String::from);

@@ -15,18 +15,24 @@ fn files() -> &'static [Vec<u8>] {
     FILES.get_or_init(reference::stored::files)
 }
 
+/// The file about dominance; those before it are of form 1 alone.
+const DOMINANCE: usize = 19;
+/// The examples of forms, the lines about them that are wrong on purpose, cases of form
+/// 2, what is between forms, and a large case of form 2.
+const FORMS: [usize; 5] = [20, 21, 22, 23, 24];
+
 /// What `vectors` counts, by the tags of lines, in the order of its output.
 const COUNTED: [(&str, &str); 10] = [
     ("texts refused alike", "R"),
     ("texts accepted alike", "Y"),
     ("checks of what was read alike", "V"),
     ("writings alike", "W"),
-    ("label buffers and tables alike", "uog"),
+    ("label buffers and tables alike", "uogUOG"),
     ("listings alike", "T"),
     ("decisions by policy alike", "F"),
     ("decisions by tuples alike", "B"),
     ("answers of Apart alike", "PD"),
-    ("lists of calls alike", "S"),
+    ("lists of calls alike", "SZ"),
 ];
 
 #[test]
@@ -46,7 +52,7 @@ fn the_output_of_vectors_is_what_is_due() {
             .filter(|line| line.starts_with(|c| tags.contains(c)));
         due += &format!("{name}: {}\n", count.count());
     }
-    let lists = right.iter().filter_map(|line| numbers(line, 'S'));
+    let lists = right.iter().filter_map(|line| list_numbers(line));
     let calls: u32 = lists.map(|list| list[7]).sum();
     due += &format!("calls in these lists: {calls}\n");
     due += &format!("lines wrong on purpose found different: {}\n", wrong.len());
@@ -68,6 +74,11 @@ fn numbers(line: &str, tag: char) -> Option<Vec<u32>> {
     fields.map(|field| field.parse().ok()).collect()
 }
 
+/// The numbers of a list of calls, whatever widths it is made for.
+fn list_numbers(line: &str) -> Option<Vec<u32>> {
+    numbers(line, 'S').or_else(|| numbers(line, 'Z'))
+}
+
 /// The answers of the lines with one of these tags.
 fn answers(tags: &str) -> BTreeSet<u32> {
     let lines = lines();
@@ -77,10 +88,10 @@ fn answers(tags: &str) -> BTreeSet<u32> {
     found.map(|numbers| numbers[0]).collect()
 }
 
-/// The answers of the calls in lists.
-fn call_answers() -> BTreeSet<u32> {
+/// The answers of the calls in lists with this tag.
+fn call_answers(tag: char) -> BTreeSet<u32> {
     let lists = lines();
-    let lists = lists.iter().filter_map(|line| numbers(line, 'S'));
+    let lists = lists.iter().filter_map(|line| numbers(line, tag));
     lists
         .flat_map(|list| {
             let calls = list[7] as usize;
@@ -105,7 +116,7 @@ fn the_stored_files_are_these() {
 fn a_buffer_of_64_kib_holds_each_file_and_all_are_small_together() {
     let files = files();
     assert!(files.iter().all(|file| file.len() <= 65_536));
-    assert!(files.iter().map(Vec::len).sum::<usize>() < 1_200_000);
+    assert!(files.iter().map(Vec::len).sum::<usize>() < 1_400_000);
 }
 
 #[test]
@@ -115,11 +126,13 @@ fn every_refusal_comes_up() {
         refused.iter().copied().eq((1..=10).chain([21, 22])),
         "{refused:?}"
     );
-    let calls = call_answers();
-    let all = [0, 1, 2].into_iter().chain(11..=20).chain([23]);
-    assert!(calls.iter().copied().eq(all), "{calls:?}");
+    for tag in ['S', 'Z'] {
+        let calls = call_answers(tag);
+        let all = [0, 1, 2].into_iter().chain(11..=20).chain([23]);
+        assert!(calls.iter().copied().eq(all), "{tag}: {calls:?}");
+    }
     assert_eq!(answers("V"), BTreeSet::from([0, 11]));
-    for tag in ["u", "o", "g", "W"] {
+    for tag in ["u", "o", "g", "U", "O", "G", "W"] {
         assert_eq!(answers(tag), BTreeSet::from([0, 11, 20]), "{tag}");
     }
     assert_eq!(answers("T"), BTreeSet::from([0, 11, 12, 20]));
@@ -158,7 +171,7 @@ fn conflicts_come_up() {
         assert!(two(["conflict", kind]) > 0, "{kind}");
     }
     let lists = lines();
-    let lists = lists.iter().filter_map(|line| numbers(line, 'S'));
+    let lists = lists.iter().filter_map(|line| list_numbers(line));
     let mut refused = [0; 5];
     for list in lists {
         let calls = list[7] as usize;
@@ -196,12 +209,12 @@ fn policies(file: &[u8]) -> Vec<Policy> {
 
 #[test]
 fn dominance_by_seniority_comes_up() {
-    let all = files().iter().map(|file| policies(file));
+    let all = files()[..=DOMINANCE].iter().map(|file| policies(file));
     let found: Vec<usize> = all
         .map(|policies| policies.iter().filter(|p| a_senior_decides(p)).count())
         .collect();
     let (last, others) = found.split_last().expect("files");
-    assert_eq!(*last, policies(&files()[files().len() - 1]).len());
+    assert_eq!(*last, policies(&files()[DOMINANCE]).len());
     assert!(*last > 30, "{found:?}");
     // The examples, the made cases without pairs, those about pairs and conflicts.
     assert_eq!(others[0], 5);
@@ -209,11 +222,119 @@ fn dominance_by_seniority_comes_up() {
 }
 
 #[test]
-fn the_last_file_has_dominance_beside_all_else() {
-    let last = policies(&files()[files().len() - 1]);
-    let count = |wanted: fn(&Policy) -> bool| last.iter().filter(|p| wanted(p)).count();
+fn a_file_has_dominance_beside_all_else() {
+    let policies = policies(&files()[DOMINANCE]);
+    let count = |wanted: fn(&Policy) -> bool| policies.iter().filter(|p| wanted(p)).count();
     assert!(count(|p| !p.pairs.is_empty()) > 10 && count(|p| p.pairs.is_empty()) > 5);
     assert!(count(|p| !p.conflicts.is_empty()) > 10);
     assert!(count(|p| !p.object_seniority.is_empty()) > 10);
     assert!(count(|p| p.user_widths.len() > 1 && p.object_widths.len() > 1) > 5);
+}
+
+#[test]
+fn texts_of_form_2_stand_behind_all_of_form_1() {
+    let of_form_2 = |file: usize| {
+        let policies = policies(&files()[file]);
+        let count = policies.iter().filter(|p| p.form.number == 2).count();
+        (count, policies.len())
+    };
+    assert!((0..=DOMINANCE).all(|file| of_form_2(file).0 == 0));
+    let found = FORMS.map(of_form_2);
+    assert_eq!(files().len(), FORMS[4] + 1);
+    // By hand and wrong on purpose both forms; then form 2, form 1, form 2.
+    assert!(found[0].0 > 25 && found[0].1 > found[0].0 + 10, "{found:?}");
+    assert_eq!(found[1], (2, 3));
+    assert!(found[2].0 == found[2].1 && found[2].0 > 30, "{found:?}");
+    assert!(found[3].0 == 0 && found[3].1 > 15, "{found:?}");
+    assert_eq!(found[4], (1, 1));
+}
+
+#[test]
+fn a_refused_text_of_form_2_has_every_refusal_but_that_of_length() {
+    let cases = FORMS.map(|file| texts_with_lines(&files()[file])).concat();
+    let of_form_2 = cases
+        .iter()
+        .filter(|(text, _)| text.starts_with(b"policy,2\n"));
+    let refused = of_form_2.filter_map(|(text, _)| read(text).err());
+    let found: BTreeSet<u32> = refused.map(|refused| refused.refusal).collect();
+    assert!(
+        found.iter().copied().eq((2..=10).chain([21, 22])),
+        "{found:?}"
+    );
+}
+
+/// Each action of form 2 is granted and denied by tuples, tables and requests, and past
+/// the last each call is refused.
+#[test]
+fn each_action_of_form_2_decides() {
+    let cases = FORMS.map(|file| texts_with_lines(&files()[file])).concat();
+    let of_form_2 = cases
+        .iter()
+        .filter(|(text, _)| text.starts_with(b"policy,2\n"));
+    let lines: Vec<&String> = of_form_2.flat_map(|(_, lines)| lines).collect();
+    let mut found = BTreeSet::new();
+    let mut bits = 0;
+    for line in lines {
+        if let Some(f) = numbers(line, 'F') {
+            found.insert(('F', f[0], f[2]));
+        } else if let Some(t) = numbers(line, 'T') {
+            found.insert(('T', t[0].max(u32::from(t[1] > 0)), t[2]));
+        } else if let Some(g) = numbers(line, 'G') {
+            bits |= g[5..].iter().fold(0, |bits, entry| bits | entry);
+        } else if let Some(list) = numbers(line, 'Z') {
+            let calls = list[7] as usize;
+            let answers = &list[8 + 4 * calls..8 + 5 * calls];
+            let asked = list[8..].chunks(4).zip(answers);
+            let asked = asked.filter(|(call, _)| call[0] == 4);
+            found.extend(asked.map(|(call, answer)| ('Z', *answer, call[2])));
+        }
+    }
+    assert_eq!(bits, 65_535);
+    for action in 0..16 {
+        for due in [('F', 1), ('F', 2), ('T', 0), ('T', 1), ('Z', 0), ('Z', 1)] {
+            assert!(found.contains(&(due.0, due.1, action)), "{due:?} {action}");
+        }
+    }
+    for tag in ['F', 'T', 'Z'] {
+        assert!(found.contains(&(tag, 12, 16)), "{tag}");
+        assert!(
+            !found.iter().any(|f| f.0 == tag && f.1 == 12 && f.2 < 16),
+            "{tag}"
+        );
+    }
+}
+
+/// In each form, by compiling and by requests of lists in which other calls are done.
+#[test]
+fn calls_made_for_other_widths_get_11() {
+    let (mut compiled, mut asked) = ([0, 0], [0, 0]);
+    for (text, lines) in FORMS.map(|file| texts_with_lines(&files()[file])).concat() {
+        let Ok(policy) = read(&text) else { continue };
+        let form = policy.form.number as usize - 1;
+        let (tags, list) = [("UOG", 'Z'), ("uog", 'S')][form];
+        for line in lines {
+            if line.starts_with(|c| tags.contains(c)) && !line[1..].starts_with(MARK) {
+                assert!(line[2..].starts_with("11,0,"), "{line}");
+                compiled[form] += 1;
+            } else if let Some(list) = numbers(&line, list) {
+                let calls = list[7] as usize;
+                let answers = &list[8 + 4 * calls..8 + 5 * calls];
+                for (call, answer) in list[8..].chunks(4).zip(answers) {
+                    assert_eq!(call[0] == 4, *answer == 11, "{line}");
+                    asked[form] += u32::from(call[0] == 4);
+                }
+            }
+        }
+    }
+    assert!(
+        compiled.iter().chain(&asked).all(|&count| count > 20),
+        "{compiled:?} {asked:?}"
+    );
+}
+
+/// As long as the longest that were there before, which a reader of the files has room for.
+#[test]
+fn no_line_has_more_numbers_than_16_384_entries_need() {
+    let most = lines().iter().map(|line| line.split(',').count()).max();
+    assert_eq!(most, Some(16_390));
 }

@@ -2,12 +2,13 @@
 //! kind of line has one for each thing that it compares.
 
 use reference::case_file::lines;
-use reference::wrong::{file, MARK};
+use reference::wrong::{file, file_of_forms, MARK};
 use std::collections::BTreeSet;
 
 /// What the lines of each tag compare: an answer and a count; of entries also
-/// that the first and the last are as stored, and that none is missing or left.
-const COMPARED: [(char, &[&str]); 13] = [
+/// that the first and the last are as stored, and that none is missing or left; of
+/// 16-bit entries each byte.
+const COMPARED: [(char, &[&str]); 17] = [
     ('R', &["answer", "count"]),
     ('Y', &["answer", "count"]),
     ('V', &["answer", "count"]),
@@ -15,30 +16,34 @@ const COMPARED: [(char, &[&str]); 13] = [
     ('u', &["answer", "count", "label", "less", "more"]),
     ('o', &["answer", "count", "label", "less", "more"]),
     ('g', &["answer", "byte", "count", "less", "more"]),
+    ('U', &["answer", "count", "label", "less", "more"]),
+    ('O', &["answer", "count", "label", "less", "more"]),
+    ('G', &["answer", "byte", "count", "high", "less", "more"]),
     ('T', &["answer", "count", "first", "last", "less", "more"]),
     ('F', &["answer", "count"]),
     ('B', &["answer", "count"]),
     ('P', &["answer", "count"]),
     ('D', &["answer", "count", "set"]),
-    (
-        'S',
-        &[
-            "answer", "count", "held", "less", "more", "reply", "session", "user",
-        ],
-    ),
+    ('S', &LISTS),
+    ('Z', &LISTS),
 ];
 
-/// What stands at a place of a line.
-fn name(tag: char, right: &[u32], place: usize) -> &'static str {
+const LISTS: [&str; 8] = [
+    "answer", "count", "held", "less", "more", "reply", "session", "user",
+];
+
+/// What stands at a place of a line, and is changed by these bits.
+fn name(tag: char, right: &[u32], place: usize, bits: u32) -> &'static str {
     match (tag, place) {
         (_, 0) => "answer",
         (_, 1) => "count",
         ('W', 3) => "bytes",
         ('D', 3) => "set",
-        ('u' | 'o', 5..) => "label",
-        ('g', 5..) => "byte",
+        ('u' | 'o' | 'U' | 'O', 5..) => "label",
+        ('G', 5..) if bits > 255 => "high",
+        ('g' | 'G', 5..) => "byte",
         ('T', 4..) => ["first", "last"][place % 2],
-        ('S', 8..) => {
+        ('S' | 'Z', 8..) => {
             let calls = right[7] as usize;
             match place.checked_sub(8 + 5 * calls) {
                 Some(past) => ["session", "user", "held"][past % 3],
@@ -70,7 +75,7 @@ fn parsed(line: &str) -> (char, bool, Vec<u32>) {
 fn difference(tag: char, right: &[u32], wrong: &[u32]) -> &'static str {
     let entry = match tag {
         'T' => 2,
-        'S' => 3,
+        'S' | 'Z' => 3,
         _ => 1,
     };
     if wrong.len() + entry == right.len() && right.starts_with(wrong) {
@@ -82,7 +87,8 @@ fn difference(tag: char, right: &[u32], wrong: &[u32]) -> &'static str {
     assert_eq!(wrong.len(), right.len());
     let places: Vec<usize> = (0..right.len()).filter(|&i| right[i] != wrong[i]).collect();
     assert_eq!(places.len(), 1, "{tag}: {right:?} and {wrong:?}");
-    name(tag, right, places[0])
+    let place = places[0];
+    name(tag, right, place, right[place] ^ wrong[place])
 }
 
 /// Each wrong line as its tag and the answer of the right line that it stands
@@ -90,7 +96,8 @@ fn difference(tag: char, right: &[u32], wrong: &[u32]) -> &'static str {
 fn differences() -> Vec<(char, u32, &'static str)> {
     let mut right = ('C', Vec::new());
     let mut all = Vec::new();
-    for (tag, wrong, numbers) in lines(&file()).iter().map(|line| parsed(line)) {
+    let files = [file(), file_of_forms()].concat();
+    for (tag, wrong, numbers) in lines(&files).iter().map(|line| parsed(line)) {
         if !wrong {
             right = (tag, numbers);
             continue;
@@ -120,6 +127,9 @@ fn refused_calls_have_one_that_stores_something() {
         ('u', "more"),
         ('o', "more"),
         ('g', "more"),
+        ('U', "more"),
+        ('O', "more"),
+        ('G', "more"),
         ('T', "more"),
         ('W', "bytes"),
     ] {

@@ -1,6 +1,7 @@
 //! Lists of session calls, and single arguments.
 
 use super::rng::Rng;
+use crate::form::Form;
 use crate::formula::reach;
 use crate::machine::Call;
 use crate::policy::{Policy, Set};
@@ -40,7 +41,8 @@ pub fn calls(rng: &mut Rng, policy: &Policy, count: u32, largest: u32) -> Vec<Ca
                 4..=5 => Call::Drop { user, session, set },
                 6 => Call::Close { user, session },
                 _ => {
-                    let action = number(rng, &[0, 1, 2, 3, 4, 5, 6, 7], 9, largest);
+                    let actions: Vec<u32> = (0..policy.actions()).collect();
+                    let action = number(rng, &actions, policy.actions() + 1, largest);
                     let object = number(rng, &objects, 65, largest);
                     Call::Request {
                         session,
@@ -106,7 +108,8 @@ pub fn set(rng: &mut Rng, sets: u32, largest: u32) -> Set {
     set.min(largest)
 }
 
-/// An action; one time in ten out of range.
-pub fn action(rng: &mut Rng, largest: u32) -> u32 {
-    number(rng, &[0, 1, 2, 3, 4, 5, 6, 7], 10, largest)
+/// An action of a form; one time in ten out of range.
+pub fn action(rng: &mut Rng, form: Form, largest: u32) -> u32 {
+    let actions: Vec<u32> = (0..form.actions).collect();
+    number(rng, &actions, form.actions + 2, largest)
 }

@@ -5,6 +5,7 @@
 
 use super::rng::Rng;
 use super::valid::{comparisons, Draft};
+use crate::form::FORMS;
 use crate::text::LONGEST_TEXT;
 
 /// Damage by number, and sometimes a byte more, to see which refusal goes first.
@@ -63,6 +64,9 @@ const BYTE_DAMAGES: [ByteDamage; 7] = [
     lengthen,
 ];
 
+/// A number past those of forms.
+const PAST_FORMS: u32 = 5;
+
 fn drop_line(rng: &mut Rng, draft: &mut Draft) {
     draft.lines.remove(rng.index(draft.lines.len()));
 }
@@ -94,15 +98,17 @@ fn nudge_digit(rng: &mut Rng, draft: &mut Draft) {
     }
     let (place, digit) = rng.pick(&digits);
     let value = digit.to_digit(10).expect("a digit");
-    let nudged = if rng.chance(1, 2) {
-        value + 1
-    } else {
-        value.saturating_sub(1)
+    let nudged = match rng.chance(1, 2) {
+        // What follows the number of a form may be one too.
+        true if line == 0 => PAST_FORMS,
+        true => value + 1,
+        false => value.saturating_sub(1),
     };
     draft.lines[line].replace_range(place..=place, &nudged.to_string());
 }
 
-/// A line with a number or a pair just out of its range.
+/// A line with a number or a pair just out of its range, or with the number of another
+/// form.
 fn go_beyond(rng: &mut Rng, draft: &mut Draft) {
     let mut lines = beyond(draft);
     lines.extend(beyond_pairs("usen", &draft.user_widths));
@@ -115,28 +121,24 @@ fn beyond(draft: &Draft) -> Vec<String> {
     let users: u32 = draft.user_widths.iter().sum();
     let objects: u32 = draft.object_widths.iter().sum();
     let (user_attributes, object_attributes) = (draft.user_widths.len(), draft.object_widths.len());
-    let mut lines: Vec<String> = [
-        "policy,0",
-        "policy,2",
-        "uattr,0",
-        "uattr,8",
-        "oattr,0",
-        "oattr,8",
-        "user,32,0",
-    ]
-    .map(String::from)
-    .to_vec();
+    let last = draft.form.last_action();
+    let other = FORMS.iter().find(|form| **form != draft.form);
+    let mut lines = vec![
+        "policy,0".to_string(),
+        format!("policy,{}", other.expect("another form").number),
+    ];
+    lines.extend(["uattr,0", "uattr,8", "oattr,0", "oattr,8", "user,32,0"].map(String::from));
     lines.extend([
         format!("uattr,{}", 8 - users),
         format!("oattr,{}", 8 - objects),
         format!("user,31,{}", 1 << users),
         "object,64,0".to_string(),
         format!("object,63,{}", 1 << objects),
-        "rule,8,t".to_string(),
-        format!("rule,7,u{users}"),
-        format!("rule,7,o{objects}"),
-        format!("rule,7,d{user_attributes}0"),
-        format!("rule,7,q0{object_attributes}"),
+        format!("rule,{},t", last + 1),
+        format!("rule,{last},u{users}"),
+        format!("rule,{last},o{objects}"),
+        format!("rule,{last},d{user_attributes}0"),
+        format!("rule,{last},q0{object_attributes}"),
     ]);
     lines
 }
@@ -219,7 +221,7 @@ fn miscount_fields(rng: &mut Rng, draft: &mut Draft) {
 /// A rule of 0 or of 31 to 34 words; 31 and 32 are good.
 fn miscount_words(rng: &mut Rng, draft: &mut Draft) {
     let count = rng.pick(&[0, 31, 32, 33, 34]);
-    let mut line = format!("rule,{}", rng.below(8));
+    let mut line = format!("rule,{}", rng.below(draft.form.actions));
     for word in 0..count {
         line += if word == 0 { ",t" } else { ",n" };
     }
@@ -246,7 +248,8 @@ fn last_rule(draft: &mut Draft) -> usize {
         return last;
     }
     let behind = draft.lines.len() - 1 - draft.places("pair").len();
-    draft.lines.insert(behind, "rule,7,t,f,r".to_string());
+    let rule = format!("rule,{},t,f,r", draft.form.last_action());
+    draft.lines.insert(behind, rule);
     behind
 }
 
@@ -299,7 +302,10 @@ fn pile_faults_in_a_rule(rng: &mut Rng, draft: &mut Draft) {
     let mut words = comparisons(&draft.user_widths, &draft.object_widths, false);
     words.truncate(4);
     words.extend(["t", "t", "t", "u0", "o0", "n", "a", "r", "u9", "d99", "x"].map(String::from));
-    let action = rng.pick(&["0", "7", "7", "7", "8", "07"]);
+    let last = draft.form.last_action();
+    let action = rng.pick(&["0", "L", "L", "L", "P", "0L"]);
+    let action = action.replace('L', &last.to_string());
+    let action = action.replace('P', &(last + 1).to_string());
     let mut line = format!("rule,{action}");
     for _ in 0..rng.pick(&[1, 2, 3, 3, 4, 5, 33]) {
         line += &format!(",{}", rng.pick(&words));
@@ -334,7 +340,7 @@ fn mix_lines(rng: &mut Rng, draft: &mut Draft) {
             "end" => "end".to_string(),
             "rule" => format!(
                 "rule,{},{}",
-                rng.below(9),
+                rng.below(draft.form.actions + 1),
                 rng.pick(&["t", "u0", "o0,n", "d00"])
             ),
             _ => format!("{kind},{},{}", rng.below(8), rng.below(4)),

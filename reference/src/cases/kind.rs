@@ -72,7 +72,9 @@ pub fn damaged_kind(kind: &Kind, rng: &mut Rng, mut draft: Draft) -> Vec<u8> {
 /// One or two lines past the most that there may be.
 fn go_past_the_most(kind: &Kind, rng: &mut Rng, draft: &mut Draft) {
     if (kind.keys)(draft) as usize <= kind.most {
+        let form = draft.form;
         *draft = valid(rng, kind.wide);
+        draft.set_form(form);
     }
     kind.take_away(draft);
     let count = kind.most + 1 + rng.index(2);
@@ -87,6 +89,7 @@ fn go_past_the_most_with_faults(kind: &Kind, rng: &mut Rng, draft: &mut Draft) {
     let places = draft.places(kind.word);
     let past = places[kind.most];
     let high = (kind.high)(draft);
+    let last_action = draft.form.last_action();
     draft.lines[past] = match rng.below(6) {
         0 => draft.lines[past - 1].clone(),
         1 => draft.lines[rng.pick(&places[..kind.most])].clone(),
@@ -100,8 +103,8 @@ fn go_past_the_most_with_faults(kind: &Kind, rng: &mut Rng, draft: &mut Draft) {
             String::new(),
         ]),
         _ => rng
-            .pick(&["rule,7,t", "end", "object,63,0", "rule,7,a"])
-            .to_string(),
+            .pick(&["rule,A,t", "end", "object,63,0", "rule,A,a"])
+            .replace('A', &last_action.to_string()),
     };
 }
 
@@ -166,13 +169,14 @@ fn misshape_field(kind: &Kind, rng: &mut Rng, draft: &mut Draft) {
 /// Lines with up to a fault in each field, to see which refusal goes first.
 fn pile_faults(kind: &Kind, rng: &mut Rng, draft: &mut Draft) {
     let borders = (kind.borders)(draft).map(|number| number.to_string());
+    let actions = [draft.form.last_action(), draft.form.actions].map(|number| number.to_string());
     let numbers = [
         "0",
         "0",
         "1",
         "2",
-        "7",
-        "8",
+        &actions[0],
+        &actions[1],
         "07",
         "x",
         "",

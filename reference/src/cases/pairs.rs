@@ -11,9 +11,9 @@ pub const PAIRS: Kind = Kind {
     add,
     most: MOST_PAIRS,
     wide: THREES,
-    keys: |draft| 8 * draft.user_values() * draft.object_values(),
+    keys: |draft| draft.form.actions * draft.user_values() * draft.object_values(),
     line: |_, draft, key| line(draft, key),
-    high: |_| "pair,7,0,0".to_string(),
+    high: |draft| format!("pair,{},0,0", draft.form.last_action()),
     beyond,
     borders: |draft| [draft.user_values(), draft.object_values()],
 };
@@ -37,7 +37,7 @@ fn add(rng: &mut Rng, draft: &mut Draft) {
         1 => lines_of(draft, |action| !ruled.contains(&action)),
         // Several pairs of one action, whether it has a rule or not.
         2 => {
-            let one = rng.below(8);
+            let one = rng.below(draft.form.actions);
             lines_of(draft, |action| action == one)
         }
         _ => lines_of(draft, all),
@@ -56,7 +56,7 @@ fn action(rule: &str) -> u32 {
 /// All pair lines of some actions that the text might have, rising.
 fn lines_of(draft: &Draft, wanted: impl Fn(u32) -> bool) -> Vec<String> {
     let each = draft.user_values() * draft.object_values();
-    let keys = (0..8 * each).filter(|key| wanted(key / each));
+    let keys = (0..draft.form.actions * each).filter(|key| wanted(key / each));
     keys.map(|key| line(draft, key)).collect()
 }
 
@@ -68,14 +68,15 @@ fn line(draft: &Draft, key: u32) -> String {
 
 fn beyond(draft: &Draft) -> Vec<String> {
     let (users, objects) = (draft.user_values(), draft.object_values());
+    let last = draft.form.last_action();
     vec![
-        "pair,8,0,0".to_string(),
-        format!("pair,7,{users},0"),
-        format!("pair,7,0,{objects}"),
-        format!("pair,7,{},{}", users - 1, objects),
-        format!("pair,7,{},{}", users, objects - 1),
+        format!("pair,{},0,0", last + 1),
+        format!("pair,{last},{users},0"),
+        format!("pair,{last},0,{objects}"),
+        format!("pair,{last},{},{}", users - 1, objects),
+        format!("pair,{last},{},{}", users, objects - 1),
         "pair,256,0,0".to_string(),
-        "pair,7,256,0".to_string(),
-        "pair,7,0,65536".to_string(),
+        format!("pair,{last},256,0"),
+        format!("pair,{last},0,65536"),
     ]
 }

@@ -1,6 +1,7 @@
 //! Valid texts, of all sizes up to the limits.
 
 use super::rng::Rng;
+use crate::form::Form;
 
 /// The largest numbers a valid text may have of each thing.
 #[derive(Debug, Clone, Copy)]
@@ -65,6 +66,7 @@ impl Size {
 
 /// A text in the making, with what its lines depend on.
 pub struct Draft {
+    pub form: Form,
     pub user_widths: Vec<u32>,
     pub object_widths: Vec<u32>,
     pub lines: Vec<String>,
@@ -76,6 +78,12 @@ impl Draft {
             .iter()
             .flat_map(|line| format!("{line}\n").into_bytes())
             .collect()
+    }
+
+    /// Gives the text a form, by its first line.
+    pub fn set_form(&mut self, form: Form) {
+        self.form = form;
+        self.lines[0] = format!("policy,{}", form.number);
     }
 
     pub fn user_values(&self) -> u32 {
@@ -99,7 +107,7 @@ impl Draft {
     }
 }
 
-/// A valid text, without conflicts and pairs.
+/// A valid text of the first form, without conflicts and pairs.
 pub fn valid(rng: &mut Rng, size: Size) -> Draft {
     let user_widths = widths(rng, size);
     let mut object_widths = widths(rng, size);
@@ -107,7 +115,8 @@ pub fn valid(rng: &mut Rng, size: Size) -> Draft {
         // Comparisons tell most apart where both sides have the same widths.
         object_widths.clone_from(&user_widths);
     }
-    let mut lines = vec!["policy,1".to_string()];
+    let form = Form::default();
+    let mut lines = vec![format!("policy,{}", form.number)];
     lines.extend(user_widths.iter().map(|width| format!("uattr,{width}")));
     lines.extend(object_widths.iter().map(|width| format!("oattr,{width}")));
     lines.extend(seniority(rng, "usen", &user_widths));
@@ -123,13 +132,14 @@ pub fn valid(rng: &mut Rng, size: Size) -> Draft {
     for object in rising(rng, 64, objects) {
         lines.push(format!("object,{object},{}", rng.below(object_sets)));
     }
-    for action in rising(rng, 8, rules) {
+    for action in rising(rng, form.actions, rules) {
         let count = size.some(rng, size.words);
         let words = formula(rng, &user_widths, &object_widths, count);
         lines.push(format!("rule,{action},{}", words.join(",")));
     }
     lines.push("end".to_string());
     Draft {
+        form,
         user_widths,
         object_widths,
         lines,
@@ -187,7 +197,7 @@ pub fn rising(rng: &mut Rng, limit: u32, count: u32) -> Vec<u32> {
 }
 
 /// A formula of exactly `count` words.
-fn formula(rng: &mut Rng, users: &[u32], objects: &[u32], count: u32) -> Vec<String> {
+pub fn formula(rng: &mut Rng, users: &[u32], objects: &[u32], count: u32) -> Vec<String> {
     let mut words = Vec::new();
     let mut depth = 0;
     for left in (0..count).rev() {

@@ -29,6 +29,16 @@ pub const DONE: u32 = 2;
 /// The line of a list of calls: NU, NO and the lengths of the buffers, the calls
 /// with their answers, and what is open after them: session, user and held set.
 pub fn list(lent: [u32; 5], calls: &[(NumberedCall, u32)], held: &[[u32; 3]]) -> String {
+    list_for('S', lent, calls, held)
+}
+
+/// The same with the tag of the widths that requests are made for.
+pub fn list_for(
+    tag: char,
+    lent: [u32; 5],
+    calls: &[(NumberedCall, u32)],
+    held: &[[u32; 3]],
+) -> String {
     let count = calls.len() as u32;
     let mut numbers = vec![0, count];
     numbers.extend(lent);
@@ -37,7 +47,7 @@ pub fn list(lent: [u32; 5], calls: &[(NumberedCall, u32)], held: &[[u32; 3]]) ->
     numbers.extend(calls.iter().map(|call| call.1));
     numbers.extend(held.iter().flatten());
     let fields: String = numbers.iter().map(|number| format!(",{number}")).collect();
-    format!("S{fields}\n")
+    format!("{tag}{fields}\n")
 }
 
 /// Writing gives the text again.
