@@ -1,7 +1,7 @@
 -- Demand 3, from the text through reading and compiling to every list of calls.
 use Prim.Native.Nat.{ℕ, _≤_, _<_}
 use mathlib.Core.Path.{_≡_, ap, _∙_}
-use mathlib.Core.Bool.{true, false}
+use mathlib.Core.Bool.{true}
 use mathlib.Core.List.{List}
 use borrow.Author.Tests.{le-ltb, lt-leb}
 use lib.ListN.{length}
@@ -10,21 +10,20 @@ use Rattle.basis.specs.Lists.{over}
 use Rattle.policy.specs.Limits.{actions, objectNumbers}
 use Rattle.policy.specs.Policy.{Policy}
 use Rattle.policy.specs.Read.{Accepted, readText}
-use Rattle.policy.specs.Value.{valueOf}
+use Rattle.policy.specs.Value.{valueOf, policyOf}
 use Rattle.policy.specs.Valid.{valid}
-use Rattle.policy.proofs.Values.{policy-value}
-use Rattle.policy.proofs.Valid.{yielded-valid}
+use Rattle.policy.proofs.Valid.{yielded-valid, yielded-policy}
 use Rattle.policy.proofs.RoundTrip.{read-sound}
 use Rattle.policy.proofs.Parts.{parts, whole}
 use Rattle.policy.proofs.Lookup.{registered-bounds}
 use Rattle.formula.specs.Truth.{at}
 use Rattle.tuples.specs.Tuples.{tuples, list, listBuffer}
 use Rattle.tuples.proofs.Tuples.{tuples-rise, listed-decides}
-use Rattle.labels.specs.Compile.{Buffers, tooShort, counts, compile, compileBuffers, filled}
+use Rattle.labels.specs.Compile.{Buffers, counts, compile, compileBuffers, filled}
 use Rattle.labels.proofs.Compiling.{compiled-grants, compiled-users, compiled-objects, fewest}
 use Rattle.board.specs.Machine.{Call, machine, run, step, empty}
 use Rattle.board.proofs.Agreement.{ObjectsFit, Serves, replies-agree, sessions-agree}
-use Rattle.claims.specs.Demand3.{Tuples, Compiled, Sessions, withCounts, Claim}
+use Rattle.claims.specs.Demand3.{Tuples, Enough, Compiled, Sessions, withCounts, Claim}
 use Rattle.claims.proofs.Deciding.{by-policy}
 use Rattle.claims.proofs.Serving.{inside, decides}
 
@@ -32,16 +31,19 @@ module _ (t : List ℕ) (p : Policy) (e : readText t ≡ Accepted p) where
   ok : valid (valueOf p) ≡ true
   ok = yielded-valid t p e
 
+  back : policyOf (valueOf p) ≡ p
+  back = yielded-policy t p e
+
   -- ---- tuples
 
   module _ (a : ℕ) (ha : a < actions (p .form)) (buffer : List ℕ) (room : length (tuples p a) ≤ length buffer) where
     is-listed : list (valueOf p) a buffer ≡ gives (length (tuples p a))
     unfolding list firstBroken
-    is-listed = rw (policy-value p, ok, lt-leb (actions (p .form)) a ha, le-ltb (length buffer) (length (tuples p a)) room)
+    is-listed = rw (back, ok, lt-leb (actions (p .form)) a ha, le-ltb (length buffer) (length (tuples p a)) room)
 
     is-stored : listBuffer (valueOf p) a buffer ≡ over (tuples p a) buffer
     unfolding listBuffer firstBroken
-    is-stored = rw (policy-value p, ok, lt-leb (actions (p .form)) a ha, le-ltb (length buffer) (length (tuples p a)) room)
+    is-stored = rw (back, ok, lt-leb (actions (p .form)) a ha, le-ltb (length buffer) (length (tuples p a)) room)
 
   listed : (a : ℕ) → a < actions (p .form) → Tuples p a
   listed a ha =
@@ -55,14 +57,14 @@ module _ (t : List ℕ) (p : Policy) (e : readText t ≡ Accepted p) where
 
   -- ---- labels
 
-  module _ (b : Buffers) (room : tooShort p b ≡ false) where
+  module _ (b : Buffers) (room : Enough p b) where
     is-compiled : compile (valueOf p) b ≡ gives (counts p)
-    unfolding compile firstBroken
-    is-compiled = rw (policy-value p, ok, room)
+    unfolding compile firstBroken valueOf
+    is-compiled = rw (back, ok, room .own, room .long)
 
     buffers-are : compileBuffers (valueOf p) b ≡ filled p b
-    unfolding compileBuffers firstBroken
-    buffers-are = rw (policy-value p, ok, room)
+    unfolding compileBuffers firstBroken valueOf
+    buffers-are = rw (back, ok, room .own, room .long)
 
     compiled-to : Compiled p b
     compiled-to =
@@ -79,7 +81,7 @@ module _ (t : List ℕ) (p : Policy) (e : readText t ≡ Accepted p) where
     -- ---- sessions
 
     serves : Serves p (withCounts p (compileBuffers (valueOf p) b))
-    serves = rw buffers-are (record { inside = inside p b; decides = λ a s ha hu ho. decides p b s hu ho a ha })
+    serves = rw buffers-are (record { widths = room .own; inside = inside p b; decides = λ a s ha hu ho. decides p b s hu ho a ha })
 
     machine-is : (calls : List Call) → machine t calls ≡ run (step p) calls empty
     unfolding machine
@@ -91,8 +93,8 @@ module _ (t : List ℕ) (p : Policy) (e : readText t ≡ Accepted p) where
     sessions : (calls : List Call) → Sessions t p b calls
     sessions calls =
         record {
-          answers = rw (machine-is calls) (replies-agree p _ objects-fit serves (valueOf p) (policy-value p) ok calls);
-          entries = λ k. rw (machine-is calls) (sessions-agree p _ objects-fit serves (valueOf p) (policy-value p) ok calls k);
+          answers = rw (machine-is calls) (replies-agree p _ objects-fit serves (valueOf p) back ok calls);
+          entries = λ k. rw (machine-is calls) (sessions-agree p _ objects-fit serves (valueOf p) back ok calls k);
         }
 
 pub demand3 : Claim

@@ -1,5 +1,4 @@
--- The exported calls keep to demands 1 and 3, since a packed policy stands for the text's value and the number of an
--- answer says which it is.
+-- The exported calls keep to demands 1 and 3, since the number of an answer says which it is.
 use Prim.Native.Nat.{ℕ, _≤_}
 use mathlib.Core.Path.{_≡_, refl, ap, ap₂, _∙_}
 use mathlib.Core.Bool.{Bool, true, false}
@@ -13,14 +12,13 @@ use Rattle.basis.specs.Choice.{given, Check, firstBroken}
 use Rattle.basis.specs.Lists.{all}
 use Rattle.basis.proofs.Bools.{and-left, and-right, and-both}
 use Rattle.basis.proofs.Lists.{getD-blank}
-use Rattle.policy.specs.Limits.{sessionNumbers}
+use Rattle.policy.specs.Limits.{sessionNumbers, ownWidths}
 use Rattle.policy.specs.Policy.{Policy}
 use Rattle.policy.specs.Read.{Outcome, Accepted, Refused, readText}
 use Rattle.policy.specs.Value.{valueOf}
 use Rattle.policy.specs.Answers.{Reply, done, granted, denied, refused, decided, replyNumber, valueIn}
 use Rattle.policy.specs.declared.value.PolicyValue.{PolicyValue}
-use Rattle.policy.proofs.Values.{policy-value}
-use Rattle.policy.proofs.Valid.{yielded-valid}
+use Rattle.policy.proofs.Valid.{yielded-valid, yielded-policy}
 use Rattle.formula.specs.Truth.{grants}
 use Rattle.labels.specs.Compile.{Buffers, tooShort, compile, compileBuffers}
 use Rattle.labels.specs.declared.Apartness.{Apartness}
@@ -28,12 +26,9 @@ use Rattle.labels.specs.declared.Apartness.the-variants.{Alike, Apart, Refused 
 use Rattle.board.specs.Machine.{Call, opens, adds, drops, closes, requests, sessionOf, Entry, Map, Out, checks, reply, setsAsked, put, empty, entryAfter, policyIn, step, run, machine}
 use Rattle.board.specs.Board.{Labels, boardStep, closed, entryAt, fresh}
 use Rattle.board.specs.declared.Board.{Board}
-use Rattle.packing.specs.Packed.{unpackedPolicy}
-use Rattle.packing.specs.declared.value.PackedPolicy.{PackedPolicy}
-use Rattle.packing.proofs.Crossing.{read-unpacked}
-use Rattle.embed.specs.Answers.{counted, packedCounts, separation}
+use Rattle.embed.specs.Answers.{counted, crossedCounts, separation}
 use Rattle.claims.specs.Demand1.{ApartResult, ApartRefuses}
-use Rattle.claims.specs.Demand3.{withCounts}
+use Rattle.claims.specs.Demand3.{Enough, withCounts}
 use Rattle.claims.specs.Reading.{Because}
 use Rattle.claims.specs.Exported.{OfReading, card, Read, Separated, Calls, Demand1, countsOf, handed, called, morning, replyIn, Demand3}
 use Rattle.claims.proofs.Answers.{met, met-all, through}
@@ -58,9 +53,9 @@ module _ (t : List ℕ) where
   refused-number : (n line : ℕ) → readText t ≡ Refused n line → OfReading n
   refused-number n line e = number-of t n line (rw e at (because t))
 
-  value-is : (p : Policy) → readText t ≡ Accepted p → unpackedPolicy (card t .policy) ≡ valueOf p
+  value-is : (p : Policy) → readText t ≡ Accepted p → card t .policy ≡ valueOf p
   unfolding valueIn
-  value-is p e = read-unpacked t ∙ rw e
+  value-is p e = rw e
 
   accepted : card t .refusal ≡ 0 → (p : Policy) × (readText t ≡ Accepted p)
   accepted = go (readText t) refl
@@ -75,7 +70,7 @@ module _ (t : List ℕ) where
         accepted = (accepted, λ w. rw (w .1));
         value = value-is;
         refusal = λ n line e. (rw e, rw e, refused-number n line e);
-        no-policy = λ n line e. rw (read-unpacked t) (demand1 .no-policy t n line e);
+        no-policy = demand1 .no-policy t;
       }
 
 -- ---- the other calls
@@ -99,7 +94,7 @@ calls v =
       decide = λ a s. through (ap replyNumber) (λ n. ap replyNumber) (d .decide a s);
       list = λ a buffer. through (λ x. (ap counted (x .0), x .1)) (λ n x. (ap counted (x .0), x .1)) (d .list a buffer);
       decide-by-tuples = λ s listing count. through (ap replyNumber) (λ n. ap replyNumber) (d .decide-by-tuples s listing count);
-      compile = λ b. through (λ x. (ap packedCounts (x .0), x .1)) (λ n x. (ap packedCounts (x .0), x .1)) (d .compile b);
+      compile = λ b. through (λ x. (ap crossedCounts (x .0), x .1)) (λ n x. (ap crossedCounts (x .0), x .1)) (d .compile b);
       apart = λ u w a x. through (separated v u w a) (unseparated a) (d .apart u w a x);
       session = λ l c b. through (λ x. rw (x .0, x .1)) (λ n x. rw (x .0, x .1)) (d .session l c b);
     }
@@ -109,7 +104,7 @@ unfolding entryAt fresh
 none-fresh k = rw (getD-blank sessionNumbers k closed)
 
 pub exported1 : Demand1
-exported1 = record { read = read; calls = λ p. calls (unpackedPolicy p); fresh = none-fresh }
+exported1 = record { read = read; calls = calls; fresh = none-fresh }
 
 -- ---- the number of an answer says which it is
 
@@ -181,30 +176,31 @@ machine-told t cs = replies-told _ (run-telling (policyIn (readText t)) cs empty
 -- ---- a screen's morning
 
 -- it is the board's run, with each reply as its number
-answers-run : (p : PackedPolicy) (l : Labels) (cs : List Call) (b : Board)
-    → morning p l cs b .answers ≡ map replyNumber (run (boardStep (unpackedPolicy p) l) cs b .replies)
+answers-run : (p : PolicyValue) (l : Labels) (cs : List Call) (b : Board)
+    → morning p l cs b .answers ≡ map replyNumber (run (boardStep p l) cs b .replies)
 unfolding morning run
 answers-run p l [] b = refl
 answers-run p l (c ∷ cs) b = ap (λ (ns : List ℕ). called p l c b .answer ∷ ns) (answers-run p l cs (called p l c b .board))
 
-board-run : (p : PackedPolicy) (l : Labels) (cs : List Call) (b : Board)
-    → morning p l cs b .board ≡ run (boardStep (unpackedPolicy p) l) cs b .state
+board-run : (p : PolicyValue) (l : Labels) (cs : List Call) (b : Board)
+    → morning p l cs b .board ≡ run (boardStep p l) cs b .state
 unfolding morning run
 board-run p l [] b = refl
 board-run p l (c ∷ cs) b = board-run p l cs (called p l c b .board)
 
 module _ (t : List ℕ) (p : Policy) (e : readText t ≡ Accepted p) (b : Buffers) where
-  -- a compilation that is not refused has room
-  room : packedCounts (compile (valueOf p) b) .refusal ≡ 0 → tooShort p b ≡ false
-  unfolding compile firstBroken
-  room h = go (tooShort p b) refl
+  -- a compilation that is not refused is made for the form's own widths, and has room
+  room : crossedCounts (compile (valueOf p) b) .refusal ≡ 0 → Enough p b
+  unfolding compile firstBroken valueOf
+  room h = go (ownWidths (p .form) (b .widths)) (tooShort p b) refl refl
     where
-      go : (s : Bool) → tooShort p b ≡ s → s ≡ false
-      go true q = let z : _≡_ {A = ℕ} 20 0 = rw (policy-value p, yielded-valid t p e, q) at h in absurd (omega arith)
-      go false q = refl
+      go : (w s : Bool) → ownWidths (p .form) (b .widths) ≡ w → tooShort p b ≡ s → Enough p b
+      go false s own q = let z : _≡_ {A = ℕ} 11 0 = rw (yielded-policy t p e, yielded-valid t p e, own) at h in absurd (omega arith)
+      go true true own q = let z : _≡_ {A = ℕ} 20 0 = rw (yielded-policy t p e, yielded-valid t p e, own, q) at h in absurd (omega arith)
+      go true false own q = record { own = own; long = q }
 
-  -- the packed policy stands for the text's value, so requests are handed its NU and NO
-  handed-is : (q : PackedPolicy) → unpackedPolicy q ≡ valueOf p → countsOf q b .refusal ≡ 0
+  -- requests are handed the text's value, with its NU and NO
+  handed-is : (q : PolicyValue) → q ≡ valueOf p → countsOf q b .refusal ≡ 0
       → handed q b ≡ withCounts p (compileBuffers (valueOf p) b)
   handed-is q v h = rw (v, demand3 t p e .compiled-to b (room (rw v at h)) .gives-counts)
 

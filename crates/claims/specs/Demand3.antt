@@ -3,14 +3,14 @@
 -- grants alike." One claim.
 use Prim.Native.Nat.{ℕ, _≤_, _<_}
 use mathlib.Core.Path.{_≡_}
-use mathlib.Core.Bool.{true, false, not}
+use mathlib.Core.Bool.{true, false}
 use mathlib.Core.List.{List, _∷_}
 use mathlib.Core.Logic.{_↔_}
 use mathlib.Core.Option.{none}
 use lib.ListN.{length, getD}
 use Rattle.basis.specs.Choice.{gives, check, firstBroken}
 use Rattle.basis.specs.Lists.{over}
-use Rattle.policy.specs.Limits.{actions}
+use Rattle.policy.specs.Limits.{actions, ownWidths}
 use Rattle.policy.specs.Policy.{Policy, sets}
 use Rattle.policy.specs.Read.{Accepted, readText}
 use Rattle.policy.specs.Value.{valueOf, policyOf}
@@ -21,7 +21,7 @@ use Rattle.tuples.specs.Tuples.{tuples, list, listBuffer, decideByTuples}
 use Rattle.labels.specs.Labelling.{Labelling, userLabels, objectLabels, GrantsAlike}
 use Rattle.labels.specs.Compile.{Buffers, tooShort, NU, NO, counts, userResult, objectResult, tableResult, compile, compileBuffers, compiled}
 use Rattle.board.specs.Machine.{Call, requests, run, machine, checks, setsAsked, Out}
-use Rattle.board.specs.Board.{Labels, labelsOf, boardStep, fresh, entryAt, fits, pastEnd, grantsByLabels}
+use Rattle.board.specs.Board.{Labels, labelsOf, boardStep, fresh, entryAt, unfit, pastEnd, grantsByLabels}
 use Rattle.board.specs.declared.Board.{Board}
 
 -- "rising, each once": each number is above those before it
@@ -48,7 +48,12 @@ GrantsAs p l = GrantsAlike (grants p) (actions (p .form)) (sets (p .user)) (sets
 abbrev pub labellingIn : Policy → Buffers → Labelling
 labellingIn p b = compiled (counts p) (compileBuffers (valueOf p) b)
 
--- in buffers long enough: what compiling gives and leaves, and what that labelling is
+-- "demand 3's calls are made for the form's own" widths; and in buffers long enough
+pub record Enough (p : Policy) (b : Buffers) : Type 0 where
+  pub own : ownWidths (p .form) (b .widths) ≡ true
+  pub long : tooShort p b ≡ false
+
+-- in such buffers: what compiling gives and leaves, and what that labelling is
 pub record Compiled (p : Policy) (b : Buffers) : Type 0 where
   pub gives-counts : compile (valueOf p) b ≡ gives (counts p)
   pub users : compileBuffers (valueOf p) b .users ≡ over (userResult p) (b .users)
@@ -78,9 +83,9 @@ pub record Sessions (t : List ℕ) (p : Policy) (b : Buffers) (calls : List Call
 
 pub record Demand3 (t : List ℕ) (p : Policy) : Type 0 where
   pub tuples-listed : (a : ℕ) → a < actions (p .form) → Tuples p a
-  pub compiled-to : (b : Buffers) → tooShort p b ≡ false → Compiled p b
+  pub compiled-to : (b : Buffers) → Enough p b → Compiled p b
   pub fewest : Fewest p
-  pub sessions : (b : Buffers) → tooShort p b ≡ false → (calls : List Call) → Sessions t p b calls
+  pub sessions : (b : Buffers) → Enough p b → (calls : List Call) → Sessions t p b calls
 
 abbrev pub Claim : Type 0
 Claim = (t : List ℕ) (p : Policy) → readText t ≡ Accepted p → Demand3 t p
@@ -99,7 +104,7 @@ pub record OneRequest (v : PolicyValue) (l : Labels) (b : Board) (s a n : ℕ) :
   pub by-bit : ((k : ℕ) → answered v l b s a n .reply ≡ refused k → ⊥)
       → (answered v l b s a n .reply ≡ granted) ↔ (grantsByLabels l a (setsAt v b s n) ≡ true)
   -- where no lower refusal applies, it gets 20 exactly when one of the three places lies past its buffer's end
-  pub past-end : firstBroken (check 11 (not (fits v b)) ∷ checks (policyOf v) (requests s a n) (entryAt b s)) ≡ none
+  pub past-end : firstBroken (check 11 (unfit v l (requests s a n) b) ∷ checks (policyOf v) (requests s a n) (entryAt b s)) ≡ none
       → (answered v l b s a n .reply ≡ refused 20) ↔ (pastEnd l (setsAt v b s n) ≡ true)
   -- and the board stays
   pub kept : answered v l b s a n .state ≡ b

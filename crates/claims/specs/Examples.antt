@@ -53,7 +53,7 @@ abbrev pub policyIs : String → Policy
 policyIs text = policyIn (readText (bytes text))
 
 abbrev pub labelsFor : Policy → Labels
-labelsFor p = withCounts p (lent (userResult p) (objectResult p) (tableResult p))
+labelsFor p = withCounts p (lent (storedWidths (p .form)) (userResult p) (objectResult p) (tableResult p))
 
 abbrev pub onBoardFrom : Board → String → List Call → List ℕ
 onBoardFrom b text calls = let p = policyIs text in replies (run (boardStep (valueOf p) (labelsFor p)) calls b .replies)

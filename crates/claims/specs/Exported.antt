@@ -1,5 +1,5 @@
--- Demands 1 and 3 for the exported calls, which a screen makes with packed policies: on the definitions that their
--- contracts name, `packedReading` to `packedStep`, at the policy value that the packed policy stands for.
+-- Demands 1 and 3 for the exported calls, which a screen makes: on the definitions that their contracts name,
+-- `crossedReading` to `crossedStep`.
 use Prim.Native.Nat.{ℕ, _≤_}
 use mathlib.Core.Path.{_≡_}
 use mathlib.Core.Bool.{true, false, cond}
@@ -26,13 +26,11 @@ use Rattle.labels.specs.declared.Apartness.{Apartness}
 use Rattle.board.specs.Machine.{Call, sessionOf, machine}
 use Rattle.board.specs.Board.{Labels, labelsOf, boardChecks, boardReply, boardAfter, boardStep, entryAt, fresh}
 use Rattle.board.specs.declared.Board.{Board}
-use Rattle.packing.specs.Packed.{unpackedPolicy}
-use Rattle.packing.specs.declared.value.PackedPolicy.{PackedPolicy}
-use Rattle.embed.specs.Answers.{packedReading, counted, packedCounts, separation, packedStep}
-use Rattle.embed.specs.declared.packed.PackedReading.{PackedReading}
-use Rattle.embed.specs.declared.packed.PackedCounts.{PackedCounts}
-use Rattle.embed.specs.declared.packed.Separation.{Separation}
-use Rattle.embed.specs.declared.packed.PackedStep.{PackedStep}
+use Rattle.embed.specs.Answers.{crossedReading, counted, crossedCounts, separation, crossedStep}
+use Rattle.embed.specs.declared.crossed.CrossedReading.{CrossedReading}
+use Rattle.embed.specs.declared.crossed.CrossedCounts.{CrossedCounts}
+use Rattle.embed.specs.declared.crossed.Separation.{Separation}
+use Rattle.embed.specs.declared.crossed.CrossedStep.{CrossedStep}
 use Rattle.claims.specs.Answers.{Answers}
 use Rattle.claims.specs.Demand1.{refusalsOf}
 
@@ -43,16 +41,16 @@ abbrev pub OfReading : ℕ → Type 0
 OfReading n = ((1 ≤ n) × (n ≤ 10)) ⊎ ((21 ≤ n) × (n ≤ 22))
 
 -- the text of a card, read
-abbrev pub card : List ℕ → PackedReading
-card t = packedReading (readText t)
+abbrev pub card : List ℕ → CrossedReading
+card t = crossedReading (readText t)
 
 pub record Read (t : List ℕ) : Type 0 where
-  -- refusal 0 is an accepted text, whose policy value the packed policy stands for
+  -- refusal 0 is an accepted text, beside its policy value
   pub accepted : (card t .refusal ≡ 0) ↔ ((p : Policy) × (readText t ≡ Accepted p))
-  pub value : (p : Policy) → readText t ≡ Accepted p → unpackedPolicy (card t .policy) ≡ valueOf p
+  pub value : (p : Policy) → readText t ≡ Accepted p → card t .policy ≡ valueOf p
   -- else it is one of 1 to 10, 21 or 22 with its line, beside a policy that check 11 refuses
   pub refusal : (n line : ℕ) → readText t ≡ Refused n line → (card t .refusal ≡ n) × (card t .line ≡ line) × OfReading n
-  pub no-policy : (n line : ℕ) → readText t ≡ Refused n line → valid (unpackedPolicy (card t .policy)) ≡ false
+  pub no-policy : (n line : ℕ) → readText t ≡ Refused n line → valid (card t .policy) ≡ false
 
 -- what a separation says where it is no refusal
 abbrev pub Separated : PolicyValue → ℕ → ℕ → Separation → Type 0
@@ -60,7 +58,7 @@ Separated v u w r =
     ((r ≡ record { answer = 0; action = 0; object = 0 }) × (likeUsers (policyOf v) u w ≡ true))
     ⊎ ((r .answer ≡ 1) × Separates (policyOf v) u w (r .action) (r .object))
 
--- the calls on the policy value that a packed policy stands for; in a field `refusal` 0 is none
+-- the calls on a policy value; in a field `refusal` 0 is none
 pub record Calls (v : PolicyValue) : Type 0 where
   pub write : (buffer : List ℕ)
       → Answers (11 ∷ 20 ∷ []) (writeChecks v buffer)
@@ -84,39 +82,39 @@ pub record Calls (v : PolicyValue) : Type 0 where
       (λ n. replyNumber (byTuples.decideByTuples v s listing count) ≡ n)
   pub compile : (b : Buffers)
       → Answers (11 ∷ 20 ∷ []) (compileChecks v b)
-      ((packedCounts (compile v b) ≡ record { refusal = 0; users = NU (policyOf v); objects = NO (policyOf v) })
+      ((crossedCounts (compile v b) ≡ record { refusal = 0; users = NU (policyOf v); objects = NO (policyOf v) })
       × (compileBuffers v b ≡ filled (policyOf v) b))
-      (λ n. (packedCounts (compile v b) ≡ record { refusal = n; users = 0; objects = 0 }) × (compileBuffers v b ≡ b))
+      (λ n. (crossedCounts (compile v b) ≡ record { refusal = n; users = 0; objects = 0 }) × (compileBuffers v b ≡ b))
   pub apart : (u w : ℕ) (a : Apartness) → Tells v u w a
       → Answers (11 ∷ 19 ∷ []) (apartChecks v u w) (Separated v u w (separation a))
       (λ n. separation a ≡ record { answer = n; action = 0; object = 0 })
   pub session : (l : Labels) (c : Call) (b : Board)
       → Answers (refusalsOf c) (boardChecks v l c b)
-      (packedStep (boardStep v l c b)
+      (crossedStep (boardStep v l c b)
       ≡ record { answer = replyNumber (boardReply (policyOf v) l c (entryAt b (sessionOf c))); board = boardAfter c b })
-      (λ n. packedStep (boardStep v l c b) ≡ record { answer = n; board = b })
+      (λ n. crossedStep (boardStep v l c b) ≡ record { answer = n; board = b })
 
 pub record Demand1 : Type 0 where
   pub read : (t : List ℕ) → Read t
-  pub calls : (p : PackedPolicy) → Calls (unpackedPolicy p)
+  pub calls : (p : PolicyValue) → Calls p
   pub fresh : (k : ℕ) → entryAt fresh k ≡ none
 
 -- ---- demand 3: a screen's morning, from the text through reading and compiling to any list of session calls
 
 -- what compiling gives, and leaves in the buffers
-abbrev pub countsOf : PackedPolicy → Buffers → PackedCounts
-countsOf p b = packedCounts (compile (unpackedPolicy p) b)
+abbrev pub countsOf : PolicyValue → Buffers → CrossedCounts
+countsOf p b = crossedCounts (compile p b)
 
-abbrev pub buffersOf : PackedPolicy → Buffers → Buffers
-buffersOf p b = compileBuffers (unpackedPolicy p) b
+abbrev pub buffersOf : PolicyValue → Buffers → Buffers
+buffersOf p b = compileBuffers p b
 
 -- what every request is handed: those buffers, with the NU and NO that compiling returned
-abbrev pub handed : PackedPolicy → Buffers → Labels
+abbrev pub handed : PolicyValue → Buffers → Labels
 handed p b = labelsOf (record { users = countsOf p b .users; objects = countsOf p b .objects }) (buffersOf p b)
 
 -- a session call
-abbrev pub called : PackedPolicy → Labels → Call → Board → PackedStep
-called p l c b = packedStep (boardStep (unpackedPolicy p) l c b)
+abbrev pub called : PolicyValue → Labels → Call → Board → CrossedStep
+called p l c b = crossedStep (boardStep p l c b)
 
 -- a list of them: the answers, and the board that the last one returned
 pub record Morning : Type 0 where
@@ -124,7 +122,7 @@ pub record Morning : Type 0 where
   pub board : Board
 
 -- each call gets the board that the call before it returned, refused or not
-unfoldable pub morning : PackedPolicy → Labels → List Call → Board → Morning
+unfoldable pub morning : PolicyValue → Labels → List Call → Board → Morning
 morning p l [] b = record { answers = []; board = b }
 morning p l (c ∷ cs) b =
     let s = called p l c b in

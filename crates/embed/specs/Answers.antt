@@ -8,20 +8,19 @@ use Rattle.labels.specs.declared.Apartness.{Apartness}
 use Rattle.labels.specs.declared.Apartness.the-variants.{Alike, Apart, Refused}
 use Rattle.board.specs.Machine.{Out}
 use Rattle.board.specs.declared.Board.{Board}
-use Rattle.packing.specs.Packed.{packedPolicy}
-use Rattle.embed.specs.declared.packed.PackedReading.{PackedReading}
-use Rattle.embed.specs.declared.packed.Counted.{Counted}
-use Rattle.embed.specs.declared.packed.PackedCounts.{PackedCounts}
-use Rattle.embed.specs.declared.packed.Separation.{Separation}
-use Rattle.embed.specs.declared.packed.PackedStep.{PackedStep}
+use Rattle.embed.specs.declared.crossed.CrossedReading.{CrossedReading}
+use Rattle.embed.specs.declared.crossed.Counted.{Counted}
+use Rattle.embed.specs.declared.crossed.CrossedCounts.{CrossedCounts}
+use Rattle.embed.specs.declared.crossed.Separation.{Separation}
+use Rattle.embed.specs.declared.crossed.CrossedStep.{CrossedStep}
 
 -- the refusal and its line, 0 and 0 where the text is accepted, beside the text's value
-abbrev pub packedReading : Outcome → PackedReading
-packedReading o =
+abbrev pub crossedReading : Outcome → CrossedReading
+crossedReading o =
     record {
       refusal = given (refusalIn o) 0 (λ x. x .0);
       line = given (refusalIn o) 0 (λ x. x .1);
-      policy = packedPolicy (valueIn o);
+      policy = valueIn o;
     }
 
 -- the count and no refusal, or the refusal and 0
@@ -30,9 +29,9 @@ counted (gives n) = record { refusal = 0; count = n }
 counted (refuses n) = record { refusal = n; count = 0 }
 
 -- NU, NO and no refusal, or the refusal, 0 and 0
-abbrev pub packedCounts : Result Counts → PackedCounts
-packedCounts (gives c) = record { refusal = 0; users = c .users; objects = c .objects }
-packedCounts (refuses n) = record { refusal = n; users = 0; objects = 0 }
+abbrev pub crossedCounts : Result Counts → CrossedCounts
+crossedCounts (gives c) = record { refusal = 0; users = c .users; objects = c .objects }
+crossedCounts (refuses n) = record { refusal = n; users = 0; objects = 0 }
 
 -- 0 alike, 1 apart with the action and the object set, or the refusal
 abbrev pub separation : Apartness → Separation
@@ -41,5 +40,5 @@ separation (Apart w) = record { answer = 1; action = w .action; object = w .obje
 separation (Refused r) = record { answer = numberOf r; action = 0; object = 0 }
 
 -- the answer's number and the board
-abbrev pub packedStep : Out Board → PackedStep
-packedStep o = record { answer = replyNumber (o .reply); board = o .state }
+abbrev pub crossedStep : Out Board → CrossedStep
+crossedStep o = record { answer = replyNumber (o .reply); board = o .state }

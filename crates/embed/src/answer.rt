@@ -9,11 +9,11 @@ ghost use Rattle.tuples.specs.Tuples as tuples;
 ghost use Rattle.labels.specs.Compile as labels;
 ghost use Rattle.board.specs.Board as board;
 ghost use Rattle.embed.specs.Answers as spec;
-use crate::packed::Counted;
-use crate::packed::PackedCounts;
-use crate::packed::PackedReading;
-use crate::packed::PackedStep;
-use crate::packed::Separation;
+use crate::crossed::Counted;
+use crate::crossed::CrossedCounts;
+use crate::crossed::CrossedReading;
+use crate::crossed::CrossedStep;
+use crate::crossed::Separation;
 use board::Step;
 use formula::Decision;
 use labels::Apartness;
@@ -25,19 +25,19 @@ use policy::value::Verdict;
 use tuples::Listing;
 use writer::Written;
 
-// A reading, with its policy packed.
-pub fn reading(x: Reading) -> PackedReading
-    ensures { λ r. ⌜ ((o : Outcome) → ReadAs o x → r ≡ spec.packedReading o) ⌝ }
+// A reading, with its refusal as a number.
+pub fn reading(x: Reading) -> CrossedReading
+    ensures { λ r. ⌜ ((o : Outcome) → ReadAs o x → r ≡ spec.crossedReading o) ⌝ }
 {
-    let policy = packing::pack::pack(x.policy);
+    let policy = x.policy;
     let verdict = x.verdict;
     match verdict {
-        Verdict::Accepted => PackedReading {
+        Verdict::Accepted => CrossedReading {
             refusal: 0,
             line: 0,
             policy,
         },
-        Verdict::Refused(why, line) => PackedReading {
+        Verdict::Refused(why, line) => CrossedReading {
             refusal: number_of(why),
             line,
             policy,
@@ -57,12 +57,12 @@ pub fn decision(d: Decision) -> u32
 }
 
 // A step, with its answer as a number.
-pub fn step(s: Step) -> PackedStep
-    ensures { λ r. ⌜ r ≡ spec.packedStep (board.outOf s) ⌝ }
+pub fn step(s: Step) -> CrossedStep
+    ensures { λ r. ⌜ r ≡ spec.crossedStep (board.outOf s) ⌝ }
 {
     let a = s.answer;
     let board = s.board;
-    PackedStep {
+    CrossedStep {
         answer: board::number_of(a),
         board,
     }
@@ -106,16 +106,16 @@ pub fn listed(l: Listing) -> Counted
 }
 
 // What compiling answers.
-pub fn counts(c: Compiled) -> PackedCounts
-    ensures { λ r. ⌜ r ≡ spec.packedCounts (labels.stored c) ⌝ }
+pub fn counts(c: Compiled) -> CrossedCounts
+    ensures { λ r. ⌜ r ≡ spec.crossedCounts (labels.stored c) ⌝ }
 {
     match c {
-        Compiled::Stored(n) => PackedCounts {
+        Compiled::Stored(n) => CrossedCounts {
             refusal: 0,
             users: n.users,
             objects: n.objects,
         },
-        Compiled::Refused(r) => PackedCounts {
+        Compiled::Refused(r) => CrossedCounts {
             refusal: number_of(r),
             users: 0,
             objects: 0,

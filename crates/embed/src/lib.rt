@@ -1,6 +1,7 @@
-// The calls for C and Rust. A policy goes packed, and everything else by value or in lent buffers.
+// The calls for C and Rust. Everything goes by value or in lent buffers.
 ghost use mathlib.Core.Path.{_≡_};
 ghost use Rattle.policy.specs.Answers.{replyNumber};
+ghost use Rattle.policy.specs.Limits.{bits};
 ghost use Rattle.policy.specs.Read.{readText};
 ghost use Rattle.policy.specs.Valid.{valid};
 ghost use Rattle.policy.specs.Write.{write, writeBuffer};
@@ -12,76 +13,75 @@ ghost use Rattle.labels.specs.Apart.{Tells};
 ghost use Rattle.labels.specs.declared.Apartness.{Apartness};
 ghost use Rattle.board.specs.Machine.{opens, adds, drops, closes, requests};
 ghost use Rattle.board.specs.Board.{Labels, labelsOf, fresh, boardStep};
-ghost use Rattle.packing.specs.Packed.{unpackedPolicy};
-ghost use Rattle.embed.specs.Answers.{packedReading, counted, packedCounts, separation, packedStep};
+ghost use Rattle.embed.specs.Answers.{crossedReading, counted, crossedCounts, separation, crossedStep};
 
 mod answer;
-pub mod packed;
+pub mod crossed;
 
-use crate::packed::Counted;
-use crate::packed::PackedCounts;
-use crate::packed::PackedReading;
-use crate::packed::PackedStep;
-use crate::packed::Separation;
+use crate::crossed::Counted;
+use crate::crossed::CrossedCounts;
+use crate::crossed::CrossedReading;
+use crate::crossed::CrossedStep;
+use crate::crossed::Separation;
 use board::Board;
 use labels::Counts;
-use packing::value::PackedPolicy;
+use policy::value::PolicyValue;
 
 // The policy of a text, or the refusal and its line.
 #[no_mangle]
-pub extern "C" fn helvemoik_read(text: &[u8]) -> PackedReading
-    ensures { λ r. ⌜ r ≡ packedReading (readText (now (text .entry))) ⌝ }
+pub extern "C" fn helvemoik_read(text: &[u8]) -> CrossedReading
+    ensures { λ r. ⌜ r ≡ crossedReading (readText (now (text .entry))) ⌝ }
 {
     answer::reading(reader::read(text))
 }
 
 // The text of a policy, put into the buffer.
 #[no_mangle]
-pub extern "C" fn helvemoik_write(policy: PackedPolicy, buffer: &mut [u8]) -> Counted
-    ensures answer { λ r. ⌜ r ≡ counted (write (unpackedPolicy policy) (now (buffer .entry))) ⌝ }
-    ensures bytes { λ r. ⌜ now (buffer .exit) ≡ writeBuffer (unpackedPolicy policy) (now (buffer .entry)) ⌝ }
+pub extern "C" fn helvemoik_write(policy: PolicyValue, buffer: &mut [u8]) -> Counted
+    ensures answer { λ r. ⌜ r ≡ counted (write policy (now (buffer .entry))) ⌝ }
+    ensures bytes { λ r. ⌜ now (buffer .exit) ≡ writeBuffer policy (now (buffer .entry)) ⌝ }
 {
-    answer::written(writer::write(packing::unpack::unpack(policy), buffer))
+    answer::written(writer::write(policy, buffer))
 }
 
 // Check 11.
 #[no_mangle]
-pub extern "C" fn helvemoik_valid(policy: PackedPolicy) -> bool
-    ensures { λ r. ⌜ r ≡ valid (unpackedPolicy policy) ⌝ }
+pub extern "C" fn helvemoik_valid(policy: PolicyValue) -> bool
+    ensures { λ r. ⌜ r ≡ valid policy ⌝ }
 {
-    validity::check(packing::unpack::unpack(policy))
+    validity::check(policy)
 }
 
 // Decides by the formula and the pairs, on two sets.
 #[no_mangle]
-pub extern "C" fn helvemoik_decide(policy: PackedPolicy, action: u32, user: u32, object: u32) -> u32
-    ensures { λ r. ⌜ r ≡ replyNumber (decide (unpackedPolicy policy) action (at user object)) ⌝ }
+pub extern "C" fn helvemoik_decide(policy: PolicyValue, action: u32, user: u32, object: u32) -> u32
+    ensures { λ r. ⌜ r ≡ replyNumber (decide policy action (at user object)) ⌝ }
 {
-    answer::decision(formula::decide(packing::unpack::unpack(policy), action, user, object))
+    answer::decision(formula::decide(policy, action, user, object))
 }
 
 // Stores the tuples of an action.
 #[no_mangle]
-pub extern "C" fn helvemoik_list(policy: PackedPolicy, action: u32, buffer: &mut [u16]) -> Counted
-    ensures answer { λ r. ⌜ r ≡ counted (list (unpackedPolicy policy) action (now (buffer .entry))) ⌝ }
-    ensures tuples { λ r. ⌜ now (buffer .exit) ≡ listBuffer (unpackedPolicy policy) action (now (buffer .entry)) ⌝ }
+pub extern "C" fn helvemoik_list(policy: PolicyValue, action: u32, buffer: &mut [u16]) -> Counted
+    ensures answer { λ r. ⌜ r ≡ counted (list policy action (now (buffer .entry))) ⌝ }
+    ensures tuples { λ r. ⌜ now (buffer .exit) ≡ listBuffer policy action (now (buffer .entry)) ⌝ }
 {
-    answer::listed(tuples::list(packing::unpack::unpack(policy), action, buffer))
+    answer::listed(tuples::list(policy, action, buffer))
 }
 
 // Decides by the first `count` tuples of a listing.
 #[no_mangle]
 pub extern "C" fn helvemoik_decide_by_tuples(
-    policy: PackedPolicy,
+    policy: PolicyValue,
     user: u32,
     object: u32,
     listing: &[u16],
     count: usize,
 ) -> u32
-    ensures { λ r. ⌜ r ≡ replyNumber (decideByTuples (unpackedPolicy policy) (at user object) (now (listing .entry)) count) ⌝ }
+    ensures { λ r. ⌜ r ≡ replyNumber (decideByTuples policy (at user object) (now (listing .entry)) count) ⌝ }
 {
     answer::decision(tuples::decide(
-        packing::unpack::unpack(policy),
+        policy,
         user,
         object,
         listing,
@@ -89,26 +89,40 @@ pub extern "C" fn helvemoik_decide_by_tuples(
     ))
 }
 
-// Fills the three buffers with labels and table.
+// Fills the three buffers with labels and table, both in bytes.
 #[no_mangle]
-pub extern "C" fn helvemoik_compile(
-    policy: PackedPolicy,
+pub extern "C" fn helvemoik_compile_8_8(
+    policy: PolicyValue,
     users: &mut [u8],
     objects: &mut [u8],
     table: &mut [u8],
-) -> PackedCounts
-    ensures answer { λ r. ⌜ r ≡ packedCounts (compile (unpackedPolicy policy) (lent (now (users .entry)) (now (objects .entry)) (now (table .entry)))) ⌝ }
-    ensures buffers { λ r. ⌜ lent (now (users .exit)) (now (objects .exit)) (now (table .exit)) ≡ compileBuffers (unpackedPolicy policy) (lent (now (users .entry)) (now (objects .entry)) (now (table .entry))) ⌝ }
+) -> CrossedCounts
+    ensures answer { λ r. ⌜ r ≡ crossedCounts (compile policy (lent (bits 8 8) (now (users .entry)) (now (objects .entry)) (now (table .entry)))) ⌝ }
+    ensures buffers { λ r. ⌜ lent (bits 8 8) (now (users .exit)) (now (objects .exit)) (now (table .exit)) ≡ compileBuffers policy (lent (bits 8 8) (now (users .entry)) (now (objects .entry)) (now (table .entry))) ⌝ }
 {
-    answer::counts(labels::compile(packing::unpack::unpack(policy), users, objects, table))
+    answer::counts(labels::compile_8_8(policy, users, objects, table))
+}
+
+// Fills the three buffers with labels in bytes and a table of 16-bit entries.
+#[no_mangle]
+pub extern "C" fn helvemoik_compile_8_16(
+    policy: PolicyValue,
+    users: &mut [u8],
+    objects: &mut [u8],
+    table: &mut [u16],
+) -> CrossedCounts
+    ensures answer { λ r. ⌜ r ≡ crossedCounts (compile policy (lent (bits 8 16) (now (users .entry)) (now (objects .entry)) (now (table .entry)))) ⌝ }
+    ensures buffers { λ r. ⌜ lent (bits 8 16) (now (users .exit)) (now (objects .exit)) (now (table .exit)) ≡ compileBuffers policy (lent (bits 8 16) (now (users .entry)) (now (objects .entry)) (now (table .entry))) ⌝ }
+{
+    answer::counts(labels::compile_8_16(policy, users, objects, table))
 }
 
 // Whether something tells two user sets apart.
 #[no_mangle]
-pub extern "C" fn helvemoik_apart(policy: PackedPolicy, one: u32, other: u32) -> Separation
-    ensures { λ r. ⌜ ((a : Apartness) × Tells (unpackedPolicy policy) one other a × (r ≡ separation a)) ⌝ }
+pub extern "C" fn helvemoik_apart(policy: PolicyValue, one: u32, other: u32) -> Separation
+    ensures { λ r. ⌜ ((a : Apartness) × Tells policy one other a × (r ≡ separation a)) ⌝ }
 {
-    answer::separation(labels::apart(packing::unpack::unpack(policy), one, other))
+    answer::separation(labels::apart(policy, one, other))
 }
 
 // A board that holds no session.
@@ -123,62 +137,62 @@ pub extern "C" fn helvemoik_fresh() -> Board
 #[no_mangle]
 pub extern "C" fn helvemoik_open(
     board: Board,
-    policy: PackedPolicy,
+    policy: PolicyValue,
     user: u32,
     session: u32,
     set: u32,
-) -> PackedStep
-    ensures { λ r. ⌜ ((l : Labels) → r ≡ packedStep (boardStep (unpackedPolicy policy) l (opens user session set) board)) ⌝ }
+) -> CrossedStep
+    ensures { λ r. ⌜ ((l : Labels) → r ≡ crossedStep (boardStep policy l (opens user session set) board)) ⌝ }
 {
-    answer::step(board::open(board, packing::unpack::unpack(policy), user, session, set))
+    answer::step(board::open(board, policy, user, session, set))
 }
 
 // The session's held set gains these values.
 #[no_mangle]
 pub extern "C" fn helvemoik_add(
     board: Board,
-    policy: PackedPolicy,
+    policy: PolicyValue,
     user: u32,
     session: u32,
     set: u32,
-) -> PackedStep
-    ensures { λ r. ⌜ ((l : Labels) → r ≡ packedStep (boardStep (unpackedPolicy policy) l (adds user session set) board)) ⌝ }
+) -> CrossedStep
+    ensures { λ r. ⌜ ((l : Labels) → r ≡ crossedStep (boardStep policy l (adds user session set) board)) ⌝ }
 {
-    answer::step(board::add(board, packing::unpack::unpack(policy), user, session, set))
+    answer::step(board::add(board, policy, user, session, set))
 }
 
 // The session's held set loses these values.
 #[no_mangle]
 pub extern "C" fn helvemoik_drop(
     board: Board,
-    policy: PackedPolicy,
+    policy: PolicyValue,
     user: u32,
     session: u32,
     set: u32,
-) -> PackedStep
-    ensures { λ r. ⌜ ((l : Labels) → r ≡ packedStep (boardStep (unpackedPolicy policy) l (drops user session set) board)) ⌝ }
+) -> CrossedStep
+    ensures { λ r. ⌜ ((l : Labels) → r ≡ crossedStep (boardStep policy l (drops user session set) board)) ⌝ }
 {
-    answer::step(board::drop(board, packing::unpack::unpack(policy), user, session, set))
+    answer::step(board::drop(board, policy, user, session, set))
 }
 
 // Closes the session.
 #[no_mangle]
 pub extern "C" fn helvemoik_close(
     board: Board,
-    policy: PackedPolicy,
+    policy: PolicyValue,
     user: u32,
     session: u32,
-) -> PackedStep
-    ensures { λ r. ⌜ ((l : Labels) → r ≡ packedStep (boardStep (unpackedPolicy policy) l (closes user session) board)) ⌝ }
+) -> CrossedStep
+    ensures { λ r. ⌜ ((l : Labels) → r ≡ crossedStep (boardStep policy l (closes user session) board)) ⌝ }
 {
-    answer::step(board::close(board, packing::unpack::unpack(policy), user, session))
+    answer::step(board::close(board, policy, user, session))
 }
 
-// Grants or denies an action on an object by the labels.
+// Grants or denies an action on an object by labels and table in bytes.
 #[no_mangle]
-pub extern "C" fn helvemoik_request(
+pub extern "C" fn helvemoik_request_8_8(
     board: Board,
-    policy: PackedPolicy,
+    policy: PolicyValue,
     nu: u32,
     no: u32,
     users: &[u8],
@@ -187,22 +201,39 @@ pub extern "C" fn helvemoik_request(
     session: u32,
     action: u32,
     object: u32,
-) -> PackedStep
-    ensures { λ r. ⌜ r ≡ packedStep (boardStep (unpackedPolicy policy) (labelsOf (record { users = nu; objects = «no» }) (lent (now (users .entry)) (now (objects .entry)) (now (table .entry)))) (requests session action object) board) ⌝ }
+) -> CrossedStep
+    ensures { λ r. ⌜ r ≡ crossedStep (boardStep policy (labelsOf (record { users = nu; objects = «no» }) (lent (bits 8 8) (now (users .entry)) (now (objects .entry)) (now (table .entry)))) (requests session action object) board) ⌝ }
 {
     let counts = Counts {
         users: nu,
         objects: no,
     };
-    answer::step(board::request(
-        board,
-        packing::unpack::unpack(policy),
-        counts,
-        users,
-        objects,
-        table,
-        session,
-        action,
-        object,
+    answer::step(board::request_8_8(
+        board, policy, counts, users, objects, table, session, action, object,
+    ))
+}
+
+// Grants or denies an action on an object by labels in bytes and a table of 16-bit entries.
+#[no_mangle]
+pub extern "C" fn helvemoik_request_8_16(
+    board: Board,
+    policy: PolicyValue,
+    nu: u32,
+    no: u32,
+    users: &[u8],
+    objects: &[u8],
+    table: &[u16],
+    session: u32,
+    action: u32,
+    object: u32,
+) -> CrossedStep
+    ensures { λ r. ⌜ r ≡ crossedStep (boardStep policy (labelsOf (record { users = nu; objects = «no» }) (lent (bits 8 16) (now (users .entry)) (now (objects .entry)) (now (table .entry)))) (requests session action object) board) ⌝ }
+{
+    let counts = Counts {
+        users: nu,
+        objects: no,
+    };
+    answer::step(board::request_8_16(
+        board, policy, counts, users, objects, table, session, action, object,
     ))
 }

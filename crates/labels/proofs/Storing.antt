@@ -25,7 +25,7 @@ use Rattle.sets.proofs.Laws.{setOf-lt}
 use Rattle.policy.proofs.Forms.{actions-stored}
 use Rattle.formula.specs.Truth.{grants}
 use Rattle.labels.specs.Compile.{entryOf}
-use Rattle.labels.specs.Compile.{likeUsers, likeObjects, NU, NO, entry, userLabel, objectLabel, userResult, objectResult, tableResult, lent, fitsWidths, tooShort, compile, compileBuffers, Compiles}
+use Rattle.labels.specs.Compile.{likeUsers, likeObjects, NU, NO, entry, userLabel, objectLabel, userResult, objectResult, tableResult, lent, counts, stored, used, fitsWidths, tooShort, compile, compileBuffers, Compiles}
 use Rattle.labels.specs.Inner.Grid.{cell, turnedView, likeRows, Narrow, GridOf, Labelled, Puts}
 use Rattle.labels.specs.declared.grid.View.{View}
 use Rattle.labels.specs.declared.Counts.{Counts}
@@ -52,6 +52,13 @@ module _ {p : Policy} {grid : List ℕ} {view : View} (G : GridOf p grid view) {
       (columns-alike (cell grid (turnedView view)) (grants p) (actions (p .form)) (view .rows) (view .columns) (λ o u ho hu.
       let e : o * view .along + u * view .down ≡ u * view .down + o * view .along = omega arith in
       ap (λ (x : ℕ). getD grid x 0) e ∙ G .entries u o hu ho)) s)
+
+-- how many there are
+pub counts-are : {p : Policy} {grid : List ℕ} {view : View} → GridOf p grid view → {lu fu lo fo : List ℕ} (c : Counts)
+    → Labelled (likeRows grid view) (view .rows) lu fu (c .users) → Labelled (likeRows grid (turnedView view)) (view .columns) lo fo (c .objects)
+    → (c .users ≡ NU p) × (c .objects ≡ NO p)
+unfolding NU NO
+counts-are G c U O = (users-labelled G U .counted, objects-labelled G O .counted)
 
 -- ---- the entries
 
@@ -115,6 +122,15 @@ module _ (v : PolicyValue) (w : Widths) (ok : valid v ≡ true) (own : ownWidths
   unfolding compile compileBuffers firstBroken
   stored-long c us′ os′ ts′ e a b qu qo qt = record { answer = rw (ok, own, e, ← a, ← b); buffers = rw (ok, own, e, qu, qo, qt) }
 
+-- NU and NO alone
+pub used-refused : (v : PolicyValue) → valid v ≡ false → stored (Refused InvalidState) ≡ used v
+unfolding used firstBroken
+used-refused v e = rw e
+
+pub used-stored : (v : PolicyValue) → valid v ≡ true → (c : Counts) → c ≡ counts (policyOf v) → stored (Stored c) ≡ used v
+unfolding used firstBroken
+used-stored v e c q = rw (e, q)
+
 -- ---- a grid whose rows and columns are labelled
 
 module _ (v : PolicyValue) (w : Widths) (ok : valid v ≡ true) (own : ownWidths (v .form) w ≡ true) (us os ts : List ℕ) {grid : List ℕ} {view : View} (G : GridOf (policyOf v) grid view) where
@@ -127,12 +143,10 @@ module _ (v : PolicyValue) (w : Widths) (ok : valid v ≡ true) (own : ownWidths
   module _ {lu fu lo fo : List ℕ} (c : Counts) (U : Labelled (likeRows grid view) (view .rows) lu fu (c .users))
       (O : Labelled (likeRows grid (turnedView view)) (view .columns) lo fo (c .objects)) where
     users-counted : c .users ≡ NU (policyOf v)
-    unfolding NU
-    users-counted = users-labelled G U .counted
+    users-counted = counts-are G c U O .0
 
     objects-counted : c .objects ≡ NO (policyOf v)
-    unfolding NO
-    objects-counted = objects-labelled G O .counted
+    objects-counted = counts-are G c U O .1
 
     pub short-table : length ts < c .users * c .objects → Compiles v (lent w us os ts) (Refused BufferTooShort) (lent w us os ts)
     short-table h = refused-short v w ok own us os ts (table-short (policyOf v) w us os ts (rw (← users-counted, ← objects-counted) h))

@@ -110,6 +110,10 @@ stored (Refused r) = refuses (numberOf r)
 unfoldable pub compile : PolicyValue → Buffers → Result Counts
 compile v b = unlessRefused (compileChecks v b) (counts (policyOf v))
 
+-- NU and NO alone, without a buffer (refusal 11)
+unfoldable pub used : PolicyValue → Result Counts
+used v = unlessRefused (check 11 (not (valid v)) ∷ []) (counts (policyOf v))
+
 -- "what lies past a result in a longer buffer stays"
 abbrev pub filled : Policy → Buffers → Buffers
 filled p b =

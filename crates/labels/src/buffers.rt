@@ -6,10 +6,11 @@ ghost use lib.ListN.{length, getD};
 ghost use Rattle.basis.specs.Lists.{over};
 ghost use Rattle.basis.specs.Numbers.{upTo};
 ghost use Rattle.policy.specs.Limits.{mostSets, ownWidths};
+ghost use Rattle.policy.specs.Policy.{Policy};
 ghost use Rattle.policy.specs.Value.{policyOf};
 ghost use Rattle.policy.specs.Valid.{valid};
 ghost use Rattle.policy.specs.declared.value.PolicyValue.{PolicyValue};
-ghost use Rattle.labels.specs.Compile.{lent, Compiles};
+ghost use Rattle.labels.specs.Compile.{counts, lent, Compiles};
 ghost use Rattle.labels.specs.Inner.Grid.{cell, Inside, Narrow, GridOf, Leading, Puts};
 ghost use Rattle.labels.specs.Inner.Table.{tableIn};
 use crate::Compiled;
@@ -80,6 +81,19 @@ fn put_table(
             let x = grid::entry(grid, view, u, o);
             tables::put(entry, bytes, wide, at, x);
         }
+    }
+}
+
+// How many labels rows and columns have.
+pub fn counts(grid: &[u16; MOST_TUPLES], view: View) -> Counts
+    requires { ⌜ Inside view ⌝ }
+    ensures { λ r. ⌜ ((p : Policy) → GridOf p (now (grid .entry)) view → r ≡ counts p) ⌝ }
+{
+    let rows = classify(grid, view);
+    let columns = classify(grid, grid::turned(view));
+    Counts {
+        users: rows.count as u32,
+        objects: columns.count as u32,
     }
 }
 

@@ -2,7 +2,7 @@
 ghost use Prim.Native.Nat.{_+_, _*_};
 ghost use mathlib.Core.Path.{_≡_};
 ghost use Rattle.policy.specs.Limits.{bits};
-ghost use Rattle.labels.specs.Compile.{lent, Compiles};
+ghost use Rattle.labels.specs.Compile.{lent, stored, used, Compiles};
 ghost use Rattle.labels.specs.Apart.{Tells};
 ghost use Rattle.labels.specs.Inner.Table.{tableIn};
 
@@ -125,6 +125,22 @@ pub fn compile_8_16(
         &mut none,
         table,
     )
+}
+
+// How many labels the sets of each side have, without a buffer.
+pub fn used(policy: PolicyValue) -> Compiled
+    ensures { λ r. ⌜ stored r ≡ used policy ⌝ }
+{
+    if !validity::check(policy) {
+        return Compiled::Refused(Refusal::InvalidState);
+    }
+    let from = rows::rows_of(policy);
+    let source = from.source;
+    let sides = source.sides;
+    let view = grid::view_of(sides);
+    let mut entries = [0u16; MOST_TUPLES];
+    grid::fill(&mut entries, from, view);
+    Compiled::Stored(buffers::counts(&entries, view))
 }
 
 // Whether no action and no object set tells two user sets apart, or else some that do: the lowest object set, and at it

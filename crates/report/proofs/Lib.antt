@@ -8,4 +8,3 @@ pub mod Falls
 pub mod Handing
 pub mod Answers
 pub mod Reading
-pub mod Enough

@@ -1,7 +1,9 @@
 // A list of calls on a fresh board: calls in, answers out.
 ghost use mathlib.Core.Path.{_≡_};
 ghost use Rattle.policy.specs.Answers.{replyNumber};
+ghost use Rattle.policy.specs.Limits.{bits};
 ghost use Rattle.labels.specs.Compile.{lent};
+ghost use Rattle.labels.specs.Inner.Table.{tableIn};
 ghost use Rattle.board.specs.Board.{labelsOf, replyOf, outOf, boardStep};
 ghost use Rattle.runner.specs.Calls.{itemOf};
 ghost use Rattle.runner.specs.Run.{RunsAs};
@@ -13,7 +15,9 @@ use crate::list::Item;
 use board::Answer;
 use board::Board;
 use board::Step;
+use board::tables;
 use labels::Counts;
+use policy::limits::Widths;
 use policy::refusal::Refusal;
 use policy::value::PolicyValue;
 
@@ -29,20 +33,25 @@ pub struct Ran {
     pub board: Board,
 }
 
-// One item on a board: what is no call answers 5 and leaves the board.
+// One item on a board: what is no call answers 5 and leaves the board. The table is lent in one of two buffers, the one
+// of the widths that the calls are made for.
 fn answer(
     board: Board,
     policy: PolicyValue,
     counts: Counts,
+    widths: Widths,
     users: &[u8],
     objects: &[u8],
-    table: &[u8],
+    bytes: &[u8],
+    wide: &[u16],
     item: Item,
 ) -> Step
-    ensures { λ r. ⌜ outOf r ≡ itemStep (boardStep policy (labelsOf counts (lent (now (users .entry)) (now (objects .entry)) (now (table .entry))))) (itemOf item) board ⌝ }
+    ensures { λ r. ⌜ outOf r ≡ itemStep (boardStep policy (labelsOf counts (lent widths (now (users .entry)) (now (objects .entry)) (tableIn (widths .entry) (now (bytes .entry)) (now (wide .entry)))))) (itemOf item) board ⌝ }
 {
     match item {
-        Item::Is(call) => board::take(board, policy, counts, users, objects, table, call),
+        Item::Is(call) => tables::take(
+            board, policy, counts, widths, users, objects, bytes, wide, call,
+        ),
         Item::NoCall => Step {
             answer: Answer::Refused(Refusal::MalformedField),
             board: board,
@@ -58,16 +67,18 @@ fn byte_of(answer: Answer) -> u8
 }
 
 // Runs a list of calls from a fresh board, four numbers to a call, and stores a byte for each answer.
-pub fn run(
+fn run(
     policy: PolicyValue,
     counts: Counts,
+    widths: Widths,
     users: &[u8],
     objects: &[u8],
-    table: &[u8],
+    bytes: &[u8],
+    wide: &[u16],
     calls: &[u32],
     answers: &mut [u8],
 ) -> Ran
-    ensures { λ r. ⌜ RunsAs policy (labelsOf counts (lent (now (users .entry)) (now (objects .entry)) (now (table .entry)))) (now (calls .entry)) (now (answers .entry)) r (now (answers .exit)) ⌝ }
+    ensures { λ r. ⌜ RunsAs policy (labelsOf counts (lent widths (now (users .entry)) (now (objects .entry)) (tableIn (widths .entry) (now (bytes .entry)) (now (wide .entry))))) (now (calls .entry)) (now (answers .entry)) r (now (answers .exit)) ⌝ }
 {
     let n = list::count_of(calls.len());
     let mut board = board::fresh();
@@ -80,7 +91,9 @@ pub fn run(
     let mut i: usize = 0;
     while i < n {
         let item = list::item_at(calls, i);
-        let step = answer(board, policy, counts, users, objects, table, item);
+        let step = answer(
+            board, policy, counts, widths, users, objects, bytes, wide, item,
+        );
         let given = step.answer;
         answers[i] = byte_of(given);
         let after = step.board;
@@ -91,4 +104,59 @@ pub fn run(
         verdict: Verdict::Answered(n),
         board: board,
     }
+}
+
+// A list of calls, its requests by labels and table in bytes.
+pub fn run_8_8(
+    policy: PolicyValue,
+    counts: Counts,
+    users: &[u8],
+    objects: &[u8],
+    table: &[u8],
+    calls: &[u32],
+    answers: &mut [u8],
+) -> Ran
+    ensures { λ r. ⌜ RunsAs policy (labelsOf counts (lent (bits 8 8) (now (users .entry)) (now (objects .entry)) (now (table .entry)))) (now (calls .entry)) (now (answers .entry)) r (now (answers .exit)) ⌝ }
+{
+    let none = [0u16; 0];
+    run(
+        policy,
+        counts,
+        Widths { label: 8, entry: 8 },
+        users,
+        objects,
+        table,
+        &none,
+        calls,
+        answers,
+    )
+}
+
+// A list of calls, its requests by labels in bytes and a table of 16-bit entries.
+pub fn run_8_16(
+    policy: PolicyValue,
+    counts: Counts,
+    users: &[u8],
+    objects: &[u8],
+    table: &[u16],
+    calls: &[u32],
+    answers: &mut [u8],
+) -> Ran
+    ensures { λ r. ⌜ RunsAs policy (labelsOf counts (lent (bits 8 16) (now (users .entry)) (now (objects .entry)) (now (table .entry)))) (now (calls .entry)) (now (answers .entry)) r (now (answers .exit)) ⌝ }
+{
+    let none = [0u8; 0];
+    run(
+        policy,
+        counts,
+        Widths {
+            label: 8,
+            entry: 16,
+        },
+        users,
+        objects,
+        &none,
+        table,
+        calls,
+        answers,
+    )
 }

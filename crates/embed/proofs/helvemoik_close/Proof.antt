@@ -1,12 +1,9 @@
--- `embed::helvemoik_close` meets its contract: the board's step on the unpacked policy, packed.
+-- `embed::helvemoik_close` meets its contract: the board's step, crossed.
 use mathlib.Core.Path.{ap, _∙_}
-use Rattle.embed.specs.Answers.{packedStep}
+use Rattle.embed.specs.Answers.{crossedStep}
 use borrow.Author.Needs.{needs}
 use Rattle.embed.proofs.helvemoik_close.Statement.{statement}
 use Rattle.embed.proofs.helvemoik_close.Tie as tie
-
-unpack-requires : tie.Need-unpack-requires
-unpack-requires c κs = search needs
 
 close-requires : tie.Need-close-requires
 close-requires c κs = search needs
@@ -15,7 +12,7 @@ step-requires : tie.Need-step-requires
 step-requires c κs = search needs
 
 returns : tie.Need-returns
-returns c l = rw (← c .before .before .unpack .ensures) (c .step .ensures ∙ ap packedStep (c .before .close .ensures l))
+returns c l = c .step .ensures ∙ ap crossedStep (c .before .close .ensures l)
 
 pub helvemoik-close-spec : {M : Type 1} → statement M
-helvemoik-close-spec = tie.close (tie.spec unpack-requires close-requires step-requires returns)
+helvemoik-close-spec = tie.close (tie.spec close-requires step-requires returns)

@@ -1,12 +1,9 @@
--- `embed::helvemoik_decide_by_tuples` meets its contract: the number of the answer for the unpacked policy.
+-- `embed::helvemoik_decide_by_tuples` meets its contract: the number of the answer.
 use mathlib.Core.Path.{ap, _∙_}
 use Rattle.policy.specs.Answers.{replyNumber}
 use borrow.Author.Needs.{needs}
 use Rattle.embed.proofs.helvemoik_decide_by_tuples.Statement.{statement}
 use Rattle.embed.proofs.helvemoik_decide_by_tuples.Tie as tie
-
-unpack-requires : tie.Need-unpack-requires
-unpack-requires c κs = search needs
 
 decide-requires : tie.Need-decide-requires
 decide-requires c κs = search needs
@@ -15,8 +12,7 @@ decision-requires : tie.Need-decision-requires
 decision-requires c κs = search needs
 
 returns : tie.Need-returns
-returns c = rw (← c .before .before .unpack .ensures) (c .decision .ensures ∙ ap replyNumber (c .before .decide .ensures))
+returns c = c .decision .ensures ∙ ap replyNumber (c .before .decide .ensures)
 
 pub helvemoik-decide-by-tuples-spec : {M : Type 1} → statement M
-helvemoik-decide-by-tuples-spec =
-    tie.close (tie.spec unpack-requires decide-requires decision-requires returns)
+helvemoik-decide-by-tuples-spec = tie.close (tie.spec decide-requires decision-requires returns)

@@ -1,12 +1,9 @@
--- `embed::helvemoik_list` meets its contract: the answer for the unpacked policy, counted.
+-- `embed::helvemoik_list` meets its contract: the answer, counted.
 use mathlib.Core.Path.{ap, _∙_}
 use Rattle.embed.specs.Answers.{counted}
 use borrow.Author.Needs.{needs}
 use Rattle.embed.proofs.helvemoik_list.Statement.{statement}
 use Rattle.embed.proofs.helvemoik_list.Tie as tie
-
-unpack-requires : tie.Need-unpack-requires
-unpack-requires c κs = search needs
 
 list-requires : tie.Need-list-requires
 list-requires c κs = search needs
@@ -20,8 +17,7 @@ same-length c = search needs
 returns : tie.Need-returns
 returns c =
     let w = c .before .before .before .list in
-    rw (← c .before .before .before .before .before .unpack .ensures) (c .listed .ensures ∙ ap counted (w .ensures .0), w .ensures .1)
+    (c .listed .ensures ∙ ap counted (w .ensures .0), w .ensures .1)
 
 pub helvemoik-list-spec : {M : Type 1} → statement M
-helvemoik-list-spec =
-    tie.close (tie.spec unpack-requires list-requires listed-requires same-length returns)
+helvemoik-list-spec = tie.close (tie.spec list-requires listed-requires same-length returns)

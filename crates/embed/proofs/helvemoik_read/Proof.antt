@@ -1,4 +1,4 @@
--- `embed::helvemoik_read` meets its contract: the reading, packed.
+-- `embed::helvemoik_read` meets its contract: the reading, crossed.
 use borrow.Author.Needs.{needs}
 use Rattle.embed.proofs.helvemoik_read.Statement.{statement}
 use Rattle.embed.proofs.helvemoik_read.Tie as tie

@@ -1,12 +1,9 @@
--- `embed::helvemoik_write` meets its contract: the answer for the unpacked policy, counted.
+-- `embed::helvemoik_write` meets its contract: the answer, counted.
 use mathlib.Core.Path.{ap, _∙_}
 use Rattle.embed.specs.Answers.{counted}
 use borrow.Author.Needs.{needs}
 use Rattle.embed.proofs.helvemoik_write.Statement.{statement}
 use Rattle.embed.proofs.helvemoik_write.Tie as tie
-
-unpack-requires : tie.Need-unpack-requires
-unpack-requires c κs = search needs
 
 write-requires : tie.Need-write-requires
 write-requires c κs = search needs
@@ -20,8 +17,7 @@ same-length c = search needs
 returns : tie.Need-returns
 returns c =
     let w = c .before .before .before .write in
-    rw (← c .before .before .before .before .before .unpack .ensures) (c .written .ensures ∙ ap counted (w .ensures .0), w .ensures .1)
+    (c .written .ensures ∙ ap counted (w .ensures .0), w .ensures .1)
 
 pub helvemoik-write-spec : {M : Type 1} → statement M
-helvemoik-write-spec =
-    tie.close (tie.spec unpack-requires write-requires written-requires same-length returns)
+helvemoik-write-spec = tie.close (tie.spec write-requires written-requires same-length returns)

@@ -4,9 +4,6 @@ use borrow.Author.Needs.{needs}
 use Rattle.embed.proofs.answer.reading.Statement.{statement}
 use Rattle.embed.proofs.answer.reading.Tie as tie
 
-pack-requires : tie.Need-pack-requires
-pack-requires c κs = search needs
-
 enum-told : tie.Need-enum-told
 enum-told c = search needs
 
@@ -17,13 +14,13 @@ number-of-requires : tie.Need-number-of-requires
 number-of-requires c κs = search needs
 
 returns : tie.Need-returns
-returns c o R = as-read _ _ (c .before .before .pack .ensures) _ (c .enum-told .given .1) o R
+returns c o R = as-read _ _ (c .enum-told .given .1) o R
 
 returns-2 : tie.Need-returns-2
 returns-2 c o R =
-    rw (c .number-of .ensures) (as-read _ _ (c .before .before .before .before .pack .ensures) _ (c .before .before .verdict .given .1) o R)
+    rw (c .number-of .ensures) (as-read _ _ (c .before .before .verdict .given .1) o R)
 
 pub reading-spec : {M : Type 1} → statement M
 reading-spec =
     tie.close
-    (tie.spec pack-requires enum-told enum-known-verdict number-of-requires returns returns-2)
+    (tie.spec enum-told enum-known-verdict number-of-requires returns returns-2)

@@ -1,13 +1,13 @@
 // The answers as they cross to C and Rust: numbers beside their values.
 use board::Board;
-use packing::value::PackedPolicy;
+use policy::value::PolicyValue;
 
 // The answer of reading: refusal 0 is an accepted text. Beside a refusal stand its line and the blank value, which check 11 refuses.
 #[repr(C)]
-pub struct PackedReading {
+pub struct CrossedReading {
     pub refusal: u32,
     pub line: usize,
-    pub policy: PackedPolicy,
+    pub policy: PolicyValue,
 }
 
 // How much was stored, or the refusal; refusal 0 is that it was stored.
@@ -19,7 +19,7 @@ pub struct Counted {
 
 // NU and NO, or the refusal; refusal 0 is that they were found.
 #[repr(C)]
-pub struct PackedCounts {
+pub struct CrossedCounts {
     pub refusal: u32,
     pub users: u32,
     pub objects: u32,
@@ -35,7 +35,7 @@ pub struct Separation {
 
 // The answer of a session call and the board after it.
 #[repr(C)]
-pub struct PackedStep {
+pub struct CrossedStep {
     pub answer: u32,
     pub board: Board,
 }

@@ -1,5 +1,0 @@
-pub mod Mapped
-pub mod Packing
-pub mod Blank
-pub mod RoundTrip
-pub mod Crossing
