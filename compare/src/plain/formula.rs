@@ -2,7 +2,7 @@
 
 use super::checks::{valid, Shape};
 use super::pairs::{meets, pairs_of};
-use super::policy::{Policy, Refusal, Word, ACTIONS};
+use super::policy::{Policy, Refusal, Word};
 use crate::boundary::{SideValue, WIDTH_PLACES, WORD_PLACES};
 
 /// A set with all juniors of its values. Lines rise, so the last comes first.
@@ -132,7 +132,7 @@ pub fn decide(policy: &Policy, action: u32, user: u32, object: u32) -> Result<bo
     if !valid(policy) {
         return Err(Refusal::InvalidState);
     }
-    if action >= ACTIONS {
+    if action >= policy.actions() {
         return Err(Refusal::UnknownAction);
     }
     if lacking(policy, user, object) {

@@ -3,7 +3,7 @@
 use super::seen::changed;
 use super::Fault::*;
 use super::Faulty;
-use helvemoik_compare::boundary::{PackedCounts, PackedPolicy, SideValue, MOST_ACTIONS};
+use helvemoik_compare::boundary::{Counts, PolicyValue, SideValue, MOST_ACTIONS};
 use helvemoik_compare::engine::Engine;
 use helvemoik_compare::plain::formula::{with_seniors, Evaluator, Held};
 use helvemoik_compare::plain::policy::{Policy, Word};
@@ -14,7 +14,7 @@ use reference::policy;
 impl Faulty {
     /// A policy value with each comparison that an engine with this fault misjudges as the
     /// truth value that it takes it for at two sets.
-    pub fn compared(&self, policy: &PackedPolicy, user: u32, object: u32) -> PackedPolicy {
+    pub fn compared(&self, policy: &PolicyValue, user: u32, object: u32) -> PolicyValue {
         changed(policy, |policy| {
             let judged = unpacked(policy);
             let evaluator = Evaluator::of(&judged);
@@ -36,8 +36,8 @@ impl Faulty {
     /// sets of the labels. Where it misjudges nothing, the table stays.
     pub fn fill(
         &self,
-        policy: &PackedPolicy,
-        counts: PackedCounts,
+        policy: &PolicyValue,
+        counts: Counts,
         users: &[u8],
         objects: &[u8],
         table: &mut [u8],

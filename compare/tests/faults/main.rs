@@ -119,7 +119,7 @@ fn lines_before(text: &[u8], kind: &[u8], line: usize) -> usize {
 }
 
 impl Engine for Faulty {
-    fn read(&self, text: &[u8]) -> PackedReading {
+    fn read(&self, text: &[u8]) -> Reading {
         let mut reading = Plain.read(text);
         let full =
             |kind, most| reading.refusal == 7 && lines_before(text, kind, reading.line) == most;
@@ -133,7 +133,7 @@ impl Engine for Faulty {
         reading
     }
 
-    fn write(&self, policy: &PackedPolicy, buffer: &mut [u8]) -> Counted {
+    fn write(&self, policy: &PolicyValue, buffer: &mut [u8]) -> Counted {
         let seen = match self.0 {
             WritesNoPairs => without_pairs(policy),
             WritesNoConflicts => without_conflicts(policy),
@@ -156,11 +156,11 @@ impl Engine for Faulty {
         written
     }
 
-    fn valid(&self, policy: &PackedPolicy) -> bool {
+    fn valid(&self, policy: &PolicyValue) -> bool {
         Plain.valid(&self.seen(policy))
     }
 
-    fn decide(&self, policy: &PackedPolicy, action: u32, user: u32, object: u32) -> u32 {
+    fn decide(&self, policy: &PolicyValue, action: u32, user: u32, object: u32) -> u32 {
         let seen = match self.0 {
             DecidesWithoutPairs => without_pairs(policy),
             DecidesByPlaces => by_places(policy),
@@ -172,7 +172,7 @@ impl Engine for Faulty {
         }
     }
 
-    fn list(&self, policy: &PackedPolicy, action: u32, buffer: &mut [u16]) -> Counted {
+    fn list(&self, policy: &PolicyValue, action: u32, buffer: &mut [u16]) -> Counted {
         let seen = match self.0 {
             ListsWithoutPairs => without_pairs(policy),
             ListsThePairsOfAll => all_of(policy, action),
@@ -188,7 +188,7 @@ impl Engine for Faulty {
 
     fn decide_by_tuples(
         &self,
-        policy: &PackedPolicy,
+        policy: &PolicyValue,
         user: u32,
         object: u32,
         listing: &[u16],
@@ -203,11 +203,11 @@ impl Engine for Faulty {
 
     fn compile(
         &self,
-        policy: &PackedPolicy,
+        policy: &PolicyValue,
         users: &mut [u8],
         objects: &mut [u8],
         table: &mut [u8],
-    ) -> PackedCounts {
+    ) -> Counts {
         let before = table.to_vec();
         let seen = match self.0 {
             CompilesWithoutPairs => without_pairs(policy),
@@ -224,7 +224,7 @@ impl Engine for Faulty {
         counts
     }
 
-    fn apart(&self, policy: &PackedPolicy, one: u32, other: u32) -> Separation {
+    fn apart(&self, policy: &PolicyValue, one: u32, other: u32) -> Separation {
         let seen = match self.0 {
             TellsApartWithoutPairs => without_pairs(policy),
             TellsApartByPlaces => by_places(policy),
@@ -245,14 +245,7 @@ impl Engine for Faulty {
         board
     }
 
-    fn open(
-        &self,
-        board: &Board,
-        policy: &PackedPolicy,
-        user: u32,
-        session: u32,
-        set: u32,
-    ) -> PackedStep {
+    fn open(&self, board: &Board, policy: &PolicyValue, user: u32, session: u32, set: u32) -> Step {
         let mut step = self.taking(Move::Open, board, policy, user, session, set);
         match self.0 {
             OpensForAll if step.answer == 19 => {
@@ -268,14 +261,7 @@ impl Engine for Faulty {
         step
     }
 
-    fn add(
-        &self,
-        board: &Board,
-        policy: &PackedPolicy,
-        user: u32,
-        session: u32,
-        set: u32,
-    ) -> PackedStep {
+    fn add(&self, board: &Board, policy: &PolicyValue, user: u32, session: u32, set: u32) -> Step {
         let mut step = self.taking(Move::Add, board, policy, user, session, set);
         match self.0 {
             AddForgets => step.board = *board,
@@ -288,14 +274,7 @@ impl Engine for Faulty {
         step
     }
 
-    fn drop(
-        &self,
-        board: &Board,
-        policy: &PackedPolicy,
-        user: u32,
-        session: u32,
-        set: u32,
-    ) -> PackedStep {
+    fn drop(&self, board: &Board, policy: &PolicyValue, user: u32, session: u32, set: u32) -> Step {
         let mut step = self.taking(Move::Drop, board, policy, user, session, set);
         if self.0 == DropDropsAll && step.answer == DONE {
             step.board.sessions[session as usize].held = 0;
@@ -303,14 +282,14 @@ impl Engine for Faulty {
         step
     }
 
-    fn close(&self, board: &Board, policy: &PackedPolicy, user: u32, session: u32) -> PackedStep {
+    fn close(&self, board: &Board, policy: &PolicyValue, user: u32, session: u32) -> Step {
         let mut step = self.on_board(CloseTakesABoardOver, board, policy, |policy| {
             Plain.close(board, policy, user, session)
         });
         match self.0 {
             CloseKeeps => step.board = *board,
             OnlyOneIsOpen if step.answer == DONE && board.sessions[session as usize].live != 1 => {
-                step = PackedStep {
+                step = Step {
                     answer: 17,
                     board: *board,
                 };
@@ -323,12 +302,12 @@ impl Engine for Faulty {
     fn request(
         &self,
         board: &Board,
-        policy: &PackedPolicy,
+        policy: &PolicyValue,
         labels: &Labels,
         session: u32,
         action: u32,
         object: u32,
-    ) -> PackedStep {
+    ) -> Step {
         let mut step = self.on_board(RequestTakesABoardOver, board, policy, |policy| {
             Plain.request(board, policy, labels, session, action, object)
         });

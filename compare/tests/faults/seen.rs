@@ -10,7 +10,7 @@ use reference::spelled::spelled_out;
 
 impl Faulty {
     /// The policy value as an engine with this fault sees it.
-    pub fn seen(&self, policy: &PackedPolicy) -> PackedPolicy {
+    pub fn seen(&self, policy: &PolicyValue) -> PolicyValue {
         let mut seen = *policy;
         match self.0 {
             MissesALeftover => {
@@ -28,7 +28,7 @@ impl Faulty {
     }
 
     /// The same for faults in what conflicts there are.
-    fn see_conflicts(&self, seen: &mut PackedPolicy) {
+    fn see_conflicts(&self, seen: &mut PolicyValue) {
         let Conflicts { count, entries } = &mut seen.conflicts;
         let (conflicts, rest) = entries.split_at_mut((*count).min(CONFLICT_PLACES));
         let sets = 1u32 << (seen.user.values() % u32::BITS);
@@ -52,7 +52,7 @@ impl Faulty {
     }
 
     /// The same for faults in what pairs there are.
-    fn see_pairs(&self, seen: &mut PackedPolicy) {
+    fn see_pairs(&self, seen: &mut PolicyValue) {
         let Pairs { count, entries } = &mut seen.pairs;
         let (pairs, rest) = entries.split_at_mut((*count).min(PAIR_PLACES));
         let (users, objects) = (seen.user.values().max(1), seen.object.values().max(1));
@@ -87,7 +87,7 @@ fn refill<T: Copy + Default>(places: &mut [T], entries: &[T]) -> usize {
 }
 
 /// A valid policy with something changed that leaves it valid; another as it is.
-pub fn changed(policy: &PackedPolicy, change: impl Fn(&mut PackedPolicy)) -> PackedPolicy {
+pub fn changed(policy: &PolicyValue, change: impl Fn(&mut PolicyValue)) -> PolicyValue {
     let mut changed = *policy;
     if Plain.valid(policy) {
         change(&mut changed);
@@ -95,16 +95,16 @@ pub fn changed(policy: &PackedPolicy, change: impl Fn(&mut PackedPolicy)) -> Pac
     changed
 }
 
-pub fn without_pairs(policy: &PackedPolicy) -> PackedPolicy {
+pub fn without_pairs(policy: &PolicyValue) -> PolicyValue {
     changed(policy, |policy| policy.pairs = Pairs::default())
 }
 
-pub fn without_conflicts(policy: &PackedPolicy) -> PackedPolicy {
+pub fn without_conflicts(policy: &PolicyValue) -> PolicyValue {
     changed(policy, |policy| policy.conflicts = Conflicts::default())
 }
 
 /// With a value more that each conflict allows.
-pub fn with_eased_conflicts(policy: &PackedPolicy) -> PackedPolicy {
+pub fn with_eased_conflicts(policy: &PolicyValue) -> PolicyValue {
     changed(policy, |policy| {
         let used = policy.conflicts.count;
         each(&mut policy.conflicts.entries[..used], |conflict| {
@@ -114,7 +114,7 @@ pub fn with_eased_conflicts(policy: &PackedPolicy) -> PackedPolicy {
 }
 
 /// With all pairs for one action.
-pub fn all_of(policy: &PackedPolicy, action: u32) -> PackedPolicy {
+pub fn all_of(policy: &PolicyValue, action: u32) -> PolicyValue {
     if action >= MOST_ACTIONS as u32 {
         return *policy;
     }
@@ -129,7 +129,7 @@ pub fn all_of(policy: &PackedPolicy, action: u32) -> PackedPolicy {
 }
 
 /// With dominance by places alone; as it is where the seniors that hold do not fit in.
-pub fn by_places(policy: &PackedPolicy) -> PackedPolicy {
+pub fn by_places(policy: &PolicyValue) -> PolicyValue {
     let spelled = yielded(policy).map(|policy| {
         let mut spelled = spelled_out(&policy);
         spelled.pairs.sort();
