@@ -5,7 +5,7 @@ use crate::boundary::{Board, Counts, PolicyValue, Step};
 use crate::engine::Engine;
 use reference::form;
 use std::fmt::Debug;
-use std::ops::{BitAnd, BitOr, BitOrAssign, BitXor};
+use std::ops::{BitAnd, BitOr, BitOrAssign};
 
 /// A number as a lent buffer stores it.
 pub trait Element:
@@ -13,12 +13,10 @@ pub trait Element:
     + Debug
     + Default
     + PartialEq
-    + From<u8>
     + Into<u32>
     + BitAnd<Output = Self>
     + BitOr<Output = Self>
     + BitOrAssign
-    + BitXor<Output = Self>
     + 'static
 {
     const BITS: u32;

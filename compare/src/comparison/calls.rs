@@ -28,12 +28,14 @@ impl Trial<'_> {
         (set(rng, sides.0, u32::MAX), set(rng, sides.1, u32::MAX))
     }
 
-    /// An action, mostly one that has a rule or a pair.
+    /// An action, mostly one that has a rule or a pair; now and then the first that the form
+    /// lacks.
     fn some_action(&mut self, known: &Known) -> u32 {
         let actions = known.actions();
-        match !actions.is_empty() && self.rng.chance(3, 4) {
-            true => self.rng.pick(&actions),
-            false => action(&mut self.rng, known.form(), u32::MAX),
+        match self.rng.below(16) {
+            0 => known.form().actions,
+            1..=12 if !actions.is_empty() => self.rng.pick(&actions),
+            _ => action(&mut self.rng, known.form(), u32::MAX),
         }
     }
 

@@ -373,6 +373,7 @@ fn request_on(rng: &mut Rng, known: &Known, policy: &Policy, session: u32) -> Ca
     };
     let actions = known.actions();
     let action = match rng.below(12) {
+        0 if rng.chance(1, 2) => policy.actions(),
         0 => odd(rng),
         1..=3 => rng.below(policy.actions()),
         _ if actions.is_empty() => rng.below(policy.actions()),
