@@ -212,7 +212,19 @@ fn rules_valid(rules: &Rules, shapes: Shapes) -> bool {
         }
         before = Some(rule.action);
     }
-    rest.iter().all(|&rule| rule == Rule::default())
+    rest.iter().all(is_blank)
+}
+
+fn is_blank(rule: &Rule) -> bool {
+    rule.action == 0 && rule.count == 0 && all_blank(&rule.words)
+}
+
+/// Whether words are all the blank one. All are looked at, so that the compiler can take
+/// several at once.
+fn all_blank(words: &[Word]) -> bool {
+    words
+        .iter()
+        .fold(true, |blank, &word| blank & (word == Word::True))
 }
 
 /// Whether a pair rises above the one before it.
@@ -229,7 +241,7 @@ fn pairs_valid(pairs: &Pairs, shapes: Shapes) -> bool {
 /// One to 32 words, and the blank word behind them.
 fn words_blank_behind(rule: &Rule) -> bool {
     match rule.words.split_at_checked(rule.count) {
-        Some((words, rest)) => !words.is_empty() && rest.iter().all(|&word| word == Word::True),
+        Some((words, rest)) => !words.is_empty() && all_blank(rest),
         None => false,
     }
 }
