@@ -668,7 +668,8 @@ mod tests {
     fn an_accepted_text_is_written_again() {
         let text = format!(
             "{HEAD}usen,1,0\nosen,1,0\nuser,0,7\nuser,31,0\nobject,63,5\n\
-             conflict,0,0\nconflict,5,7\nconflict,7,1\nrule,0,t,f,u0,o2,d00,q11,n,a,r,a,r,a\nrule,7,f\npair,0,0,2\npair,7,2,0\nend\n"
+             conflict,0,0\nconflict,5,7\nconflict,7,1\nrule,0,t,f,u0,o2,d00,q11,n,a,r,a,r,a\n\
+             rule,7,f\npair,0,0,2\npair,7,2,0\nend\n"
         );
         for form in ["policy,1", "policy,2"] {
             let text = text.replace("policy,1", form);
