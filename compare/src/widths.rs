@@ -54,7 +54,7 @@ pub struct Labels<'a, W: Widths> {
 }
 
 /// Stored widths, and the two calls that are made for them.
-pub trait Widths: Copy + Debug + 'static {
+pub trait Widths: Copy + Debug + PartialEq + 'static {
     type Label: Element;
     type Entry: Element;
     const COMPILE: &'static str;

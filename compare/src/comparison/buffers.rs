@@ -8,6 +8,7 @@ use reference::cases::Rng;
 use reference::labels::Labelling;
 
 /// What a request is lent.
+#[derive(Debug, Clone, PartialEq)]
 pub struct Buffers<W: Widths> {
     pub nu: u32,
     pub no: u32,

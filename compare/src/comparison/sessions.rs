@@ -85,7 +85,7 @@ impl Trial<'_> {
     /// A list of calls, made for these widths, which are those of the policy's form.
     fn list_for<W: Widths>(&mut self, known: &Known, policy: &Policy, count: u32) -> Outcome {
         let buffers = self.compiled::<W>(known, policy)?;
-        let labels = buffers.labels();
+        let (labels, before) = (buffers.labels(), buffers.clone());
         let board = self.engine.fresh();
         self.coverage.count_call("fresh", 0);
         same(&|| "a fresh board".to_string(), &board, &Board::default())?;
@@ -97,7 +97,8 @@ impl Trial<'_> {
         for call in self.requests_by_dominance(known, policy, &course.map) {
             self.next_call(known, policy, &labels, &mut course, call)?;
         }
-        Ok(())
+        let what = || format!("the buffers after a list: {}", known.shown());
+        same(&what, &buffers, &before)
     }
 
     /// The next call of a list, beside the plain machine. A request is now and then made
@@ -145,11 +146,13 @@ impl Trial<'_> {
         for bits in others(policy) {
             at_widths!(bits, W => {
                 let buffers = Buffers::<W>::cut(known.labelling(policy));
+                let before = buffers.clone();
                 let found = by_engine(self.engine, board, known, &buffers.labels(), call);
                 self.count(W::REQUEST, known, found.answer);
                 self.coverage.count_cause(Cause::Widths, W::REQUEST);
                 let what = || format!("{call:?} made for {bits:?}: {}", known.shown());
                 same(&what, &found, &Step { answer: 11, board: *board })?;
+                same(&what, &buffers, &before)?;
             });
         }
         Ok(())
@@ -227,6 +230,7 @@ impl Trial<'_> {
             board = damaged_board(&mut self.rng, policy, &board);
         }
         let buffers = some_buffers::<W>(&mut self.rng, known);
+        let before = buffers.clone();
         let call = call_on(&mut self.rng, known, policy, &board);
         let found = by_engine(self.engine, &board, known, &buffers.labels(), &call);
         self.count(kind::<W>(&call), known, found.answer);
@@ -235,6 +239,7 @@ impl Trial<'_> {
             let (kind, policy) = (kind::<W>(&call), known.shown());
             format!("{kind}: {call:?} on {map:?}: {policy}")
         };
+        same(&what, &buffers, &before)?;
         if !self.sound::<W>(known, &map, &call) {
             let due = Step { answer: 11, board };
             return same(&what, &found, &due);
