@@ -350,16 +350,22 @@ fn widen(rng: &mut Rng, value: &mut PolicyValue) {
             append(&mut value.pairs.entries, &mut value.pairs.count, pair);
         }
         _ => {
-            let limit = limit_action(rng);
-            let mut rule = RuleValue {
-                action: rng.pick(&[one, one + 8, limit]),
-                count: 1,
-                ..RuleValue::default()
-            };
-            rule.words[0] = word_number(&Word::User(other));
+            let rule = late_rule(rng, one, other);
             append(&mut value.rules.entries, &mut value.rules.count, rule);
         }
     }
+}
+
+/// A rule of one word, for any action or one at the limits of the forms.
+fn late_rule(rng: &mut Rng, action: u32, value: u32) -> RuleValue {
+    let limit = limit_action(rng);
+    let mut rule = RuleValue {
+        action: rng.pick(&[action, action + 8, limit]),
+        count: 1,
+        ..RuleValue::default()
+    };
+    rule.words[0] = word_number(&Word::User(value));
+    rule
 }
 
 /// A conflict of the greatest set that a side has, or of the number past it.
