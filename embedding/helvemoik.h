@@ -176,6 +176,7 @@ struct helvemoik_pairs {
     struct helvemoik_pair entries[HELVEMOIK_PAIR_PLACES];
 };
 
+/* The form, 1 or 2, says how many actions there are, and which compile and request serve the policy. */
 struct helvemoik_policy {
     uint32_t form;
     struct helvemoik_side user;
