@@ -61,8 +61,9 @@ static void hold_text_bytes(void) {
 }
 
 /* A truth value, negated until there are so many words. */
-static void hold_words(void) {
-    char bytes[256] = "policy,1\nuattr,1\noattr,1\nrule,0,t";
+static void hold_words(int form) {
+    char bytes[256];
+    snprintf(bytes, sizeof bytes, "policy,%d\nuattr,1\noattr,1\nrule,0,t", form);
     for (int i = 1; i < HELVEMOIK_MOST_WORDS; i++)
         strcat(bytes, ",n");
     char *last = bytes + strlen(bytes);
@@ -84,9 +85,9 @@ static int put_pair(char *bytes, size_t room, int number) {
 }
 
 /* The refusal of a text of so many of these lines. */
-static uint32_t refusal_of_lines(put_line *put, int count) {
+static uint32_t refusal_of_lines(int form, put_line *put, int count) {
     char bytes[1024];
-    int n = snprintf(bytes, sizeof bytes, "policy,1\nuattr,5\noattr,5\n");
+    int n = snprintf(bytes, sizeof bytes, "policy,%d\nuattr,5\noattr,5\n", form);
     for (int i = 0; i < count; i++)
         n += put(bytes + n, sizeof bytes - (size_t)n, i);
     snprintf(bytes + n, sizeof bytes - (size_t)n, "end\n");
@@ -94,8 +95,10 @@ static uint32_t refusal_of_lines(put_line *put, int count) {
 }
 
 static void hold_lines(const char *what, put_line *put, int most, uint32_t refusal) {
-    expect(refusal_of_lines(put, most) == 0, what, (size_t)most);
-    expect(refusal_of_lines(put, most + 1) == refusal, what, (size_t)most + 1);
+    for (int form = 1; form <= 2; form++) {
+        expect(refusal_of_lines(form, put, most) == 0, what, (size_t)most);
+        expect(refusal_of_lines(form, put, most + 1) == refusal, what, (size_t)most + 1);
+    }
 }
 
 /* ---- limits of a result */
@@ -192,7 +195,8 @@ int main(void) {
     hold_greatest("uattr,1\noattr,7\npair,0,0,%d\nend\n", HELVEMOIK_MOST_VALUES - 1);
     hold_actions(1, HELVEMOIK_FORM_1_ACTIONS);
     hold_actions(2, HELVEMOIK_FORM_2_ACTIONS);
-    hold_words();
+    hold_words(1);
+    hold_words(2);
     hold_lines("conflicts", put_conflict, HELVEMOIK_MOST_CONFLICTS, HELVEMOIK_TOO_MANY_CONFLICTS);
     hold_lines("pairs", put_pair, HELVEMOIK_MOST_PAIRS, HELVEMOIK_TOO_MANY_PAIRS);
     hold_results_of_both();
