@@ -1,6 +1,7 @@
 /*
  * A screen's day: the hall's card is read, its policy compiled, and a member of staff opens a session, works and
- * closes it. At noon the card gains a pair, and in the evening a conflict; the next morning there is another card.
+ * closes it. At noon the card gains a pair, and in the evening a conflict; the next morning there is another card, and
+ * then one with more than eight actions.
  *
  * usage: example FILE, where FILE is a policy text such as examples/front-desk.txt.
  */
@@ -9,13 +10,14 @@
 
 #include "helvemoik.h"
 
-/* What the screen keeps: the policy, the board, and the compiled labels with their table. */
+/* What the screen keeps: the policy, the board, and the compiled labels with their table, which goes by the form. */
 static struct helvemoik_policy policy;
 static struct helvemoik_board board;
 static struct helvemoik_counts counts;
 static uint8_t user_labels[HELVEMOIK_MOST_LABELS];
 static uint8_t object_labels[HELVEMOIK_MOST_LABELS];
 static uint8_t table[HELVEMOIK_MOST_TABLE];
+static uint16_t wide_table[HELVEMOIK_MOST_TABLE];
 
 /* One byte more than the longest text, so that a longer one is seen to be longer. */
 static uint8_t card[HELVEMOIK_TEXT_BYTES + 1];
@@ -49,11 +51,23 @@ static void took(const char *call, struct helvemoik_step step) {
     printf("\n");
 }
 
-static void request(uint32_t session, uint32_t action, uint32_t object) {
+static void asked(const char *name, uint32_t session, uint32_t action, uint32_t object, struct helvemoik_step step) {
     char call[64];
-    snprintf(call, sizeof call, "request %u %u %u", (unsigned)session, (unsigned)action, (unsigned)object);
-    took(call, helvemoik_request(board, policy, counts.users, counts.objects, user_labels, sizeof user_labels,
-                                 object_labels, sizeof object_labels, table, sizeof table, session, action, object));
+    snprintf(call, sizeof call, "%s %u %u %u", name, (unsigned)session, (unsigned)action, (unsigned)object);
+    took(call, step);
+}
+
+static void request(const char *name, uint32_t session, uint32_t action, uint32_t object) {
+    asked(name, session, action, object,
+          helvemoik_request_8_8(board, policy, counts.users, counts.objects, user_labels, sizeof user_labels,
+                                object_labels, sizeof object_labels, table, sizeof table, session, action, object));
+}
+
+static void request_wide(uint32_t session, uint32_t action, uint32_t object) {
+    asked("request_8_16", session, action, object,
+          helvemoik_request_8_16(board, policy, counts.users, counts.objects, user_labels, sizeof user_labels,
+                                 object_labels, sizeof object_labels, wide_table, HELVEMOIK_MOST_TABLE,
+                                 session, action, object));
 }
 
 static void list(uint32_t action) {
@@ -72,11 +86,21 @@ static void write_card(size_t length) {
            written.count == length && memcmp(copy, card, length) == 0 ? "the same text" : "another text");
 }
 
-static void compile(void) {
-    counts = helvemoik_compile(policy, user_labels, sizeof user_labels, object_labels, sizeof object_labels,
-                               table, sizeof table);
-    printf("compile: refusal %u, NU %u, NO %u\n", (unsigned)counts.refusal, (unsigned)counts.users,
+static void compiled(const char *name, struct helvemoik_counts compiled) {
+    counts = compiled;
+    printf("%s: refusal %u, NU %u, NO %u\n", name, (unsigned)counts.refusal, (unsigned)counts.users,
            (unsigned)counts.objects);
+}
+
+static void compile(const char *name) {
+    compiled(name, helvemoik_compile_8_8(policy, user_labels, sizeof user_labels, object_labels, sizeof object_labels,
+                                         table, sizeof table));
+}
+
+static void compile_wide(void) {
+    compiled("compile_8_16",
+             helvemoik_compile_8_16(policy, user_labels, sizeof user_labels, object_labels, sizeof object_labels,
+                                    wide_table, HELVEMOIK_MOST_TABLE));
 }
 
 static void decide(uint32_t action, uint32_t user, uint32_t object) {
@@ -89,13 +113,13 @@ static void gain_pair(size_t length) {
     decide(3, 2, 1);
     policy.pairs.entries[policy.pairs.count++] = (struct helvemoik_pair){ 3, 1, 0 };
     write_card(length);
-    compile();
+    compile("compile");
     list(3);
     decide(3, 2, 1);
     board = helvemoik_fresh();
     took("open 1 5 2", helvemoik_open(board, policy, 1, 5, 2));
-    request(5, 3, 0);
-    request(5, 3, 1);
+    request("request", 5, 3, 0);
+    request("request", 5, 3, 1);
     took("close 1 5", helvemoik_close(board, policy, 1, 5));
 }
 
@@ -103,14 +127,14 @@ static void gain_pair(size_t length) {
 static void gain_conflict(size_t length) {
     policy.conflicts.entries[policy.conflicts.count++] = (struct helvemoik_conflict){ 6, 1 };
     write_card(length);
-    compile();
+    compile("compile");
     board = helvemoik_fresh();
     took("open 2 5 6", helvemoik_open(board, policy, 2, 5, 6));
     took("open 2 5 2", helvemoik_open(board, policy, 2, 5, 2));
     took("add 2 5 4", helvemoik_add(board, policy, 2, 5, 4));
     took("drop 2 5 2", helvemoik_drop(board, policy, 2, 5, 2));
     took("add 2 5 4", helvemoik_add(board, policy, 2, 5, 4));
-    request(5, 2, 1);
+    request("request", 5, 2, 1);
     took("close 2 5", helvemoik_close(board, policy, 2, 5));
 }
 
@@ -119,14 +143,38 @@ static void next_card(void) {
     static const uint8_t text[] = "policy,1\nuattr,3\noattr,3\nusen,1,0\nusen,2,1\n"
                                   "user,0,4\nobject,0,3\nobject,1,4\nrule,0,d00\nrule,1,q00\nend\n";
     policy = helvemoik_read(text, sizeof text - 1).policy;
-    compile();
+    compile("compile");
     decide(0, 4, 1);
     decide(0, 1, 4);
     board = helvemoik_fresh();
     took("open 0 5 4", helvemoik_open(board, policy, 0, 5, 4));
-    request(5, 0, 0);
-    request(5, 1, 0);
-    request(5, 1, 1);
+    request("request", 5, 0, 0);
+    request("request", 5, 1, 0);
+    request("request", 5, 1, 1);
+    took("close 0 5", helvemoik_close(board, policy, 0, 5));
+}
+
+/*
+ * Form 2: chiefs pin (8), helpers translate what is foreign (9), all have it read aloud (15). The table has entries of
+ * 16 bits, and the calls for bytes refuse the policy.
+ */
+static void more_actions(void) {
+    static const uint8_t text[] = "policy,2\nuattr,2\noattr,2\nusen,1,0\nuser,0,1\nuser,1,2\nobject,0,1\nobject,1,2\n"
+                                  "rule,0,t\nrule,1,u0\nrule,2,u0,o0,a\nrule,3,u1\nrule,4,u1,o1,a\nrule,5,u1,o0,a\n"
+                                  "rule,6,u1\nrule,7,u1\nrule,8,u1\nrule,15,t\npair,9,0,1\nend\n";
+    policy = helvemoik_read(text, sizeof text - 1).policy;
+    compile("compile_8_8");
+    compile_wide();
+    list(8);
+    decide(9, 1, 2);
+    board = helvemoik_fresh();
+    took("open 0 5 1", helvemoik_open(board, policy, 0, 5, 1));
+    request_wide(5, 8, 0);
+    request_wide(5, 9, 0);
+    request_wide(5, 9, 1);
+    request_wide(5, 15, 1);
+    request_wide(5, 16, 1);
+    request("request_8_8", 5, 15, 1);
     took("close 0 5", helvemoik_close(board, policy, 0, 5));
 }
 
@@ -140,7 +188,7 @@ int main(int argc, char **argv) {
     printf("valid: %s\n", helvemoik_valid(policy) ? "yes" : "no");
 
     write_card(length);
-    compile();
+    compile("compile");
     for (uint32_t action = 0; action < 4; action++)
         list(action);
     decide(1, 2, 2);
@@ -151,24 +199,25 @@ int main(int argc, char **argv) {
     board = helvemoik_fresh();
     took("open 2 5 1", helvemoik_open(board, policy, 2, 5, 1));
     took("open 2 5 1", helvemoik_open(board, policy, 2, 5, 1));
-    request(5, 0, 0);
-    request(5, 2, 1);
+    request("request", 5, 0, 0);
+    request("request", 5, 2, 1);
     took("add 2 5 4", helvemoik_add(board, policy, 2, 5, 4));
-    request(5, 2, 1);
+    request("request", 5, 2, 1);
     took("add 2 5 8", helvemoik_add(board, policy, 2, 5, 8));
     took("drop 1 5 4", helvemoik_drop(board, policy, 1, 5, 4));
     took("drop 2 5 4", helvemoik_drop(board, policy, 2, 5, 4));
-    request(5, 2, 1);
-    request(5, 9, 1);
-    request(5, 0, 63);
+    request("request", 5, 2, 1);
+    request("request", 5, 9, 1);
+    request("request", 5, 0, 63);
     took("close 2 5", helvemoik_close(board, policy, 2, 5));
-    request(5, 0, 0);
+    request("request", 5, 0, 0);
     gain_pair(length);
     gain_conflict(length);
     next_card();
+    more_actions();
 
-    /* A word that no policy has: check 11 refuses the policy. */
-    policy.rules.entries[0].words[0] = 9 * 65536;
+    /* A number that is no word's: check 11 refuses the policy. */
+    policy.rules.entries[0].words[0] = 255;
     printf("valid: %s\n", helvemoik_valid(policy) ? "yes" : "no");
     return 0;
 }

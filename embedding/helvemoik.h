@@ -28,7 +28,8 @@ extern "C" {
 enum {
     HELVEMOIK_TEXT_BYTES = 8192,   /* the longest text that is read, and room for any text that is written */
     HELVEMOIK_MOST_VALUES = 7,     /* values of a side */
-    HELVEMOIK_MOST_ACTIONS = 8,
+    HELVEMOIK_FORM_1_ACTIONS = 8,  /* actions of a `policy,1` text */
+    HELVEMOIK_FORM_2_ACTIONS = 16, /* actions of a `policy,2` text */
     HELVEMOIK_MOST_WORDS = 32,     /* words of a formula */
     HELVEMOIK_MOST_CONFLICTS = 16, /* conflict lines */
     HELVEMOIK_MOST_TOGETHER = 7,   /* the greatest K of a conflict line */
@@ -40,6 +41,8 @@ enum {
 
 /* What follows from them. */
 enum {
+    /* actions of any form */
+    HELVEMOIK_MOST_ACTIONS = HELVEMOIK_FORM_2_ACTIONS,
     /* attributes of a side, and its direct seniorities: one for each two values */
     HELVEMOIK_WIDTH_PLACES = HELVEMOIK_MOST_VALUES,
     HELVEMOIK_LINE_PLACES = HELVEMOIK_MOST_VALUES * (HELVEMOIK_MOST_VALUES - 1) / 2,
@@ -49,7 +52,7 @@ enum {
     HELVEMOIK_RULE_PLACES = HELVEMOIK_MOST_ACTIONS,
     HELVEMOIK_CONFLICT_PLACES = HELVEMOIK_MOST_CONFLICTS,
     HELVEMOIK_PAIR_PLACES = HELVEMOIK_MOST_PAIRS,
-    /* room for the labels of a side, for a table, and for the tuples of an action */
+    /* room for the labels of a side, the entries of a table and the tuples of an action, in any form */
     HELVEMOIK_MOST_LABELS = 1 << HELVEMOIK_MOST_VALUES,
     HELVEMOIK_MOST_TABLE = HELVEMOIK_MOST_LABELS * HELVEMOIK_MOST_LABELS,
     HELVEMOIK_MOST_TUPLES = HELVEMOIK_MOST_LABELS * HELVEMOIK_MOST_LABELS
@@ -96,6 +99,21 @@ enum {
     HELVEMOIK_APART = 1
 };
 
+/* ---- words of a formula */
+
+/* The number of a word. Any other number stands for a word that no policy has: check 11 refuses the policy. */
+enum {
+    HELVEMOIK_WORD_T = 0,
+    HELVEMOIK_WORD_F = 1,
+    HELVEMOIK_WORD_N = 2,
+    HELVEMOIK_WORD_A = 3,
+    HELVEMOIK_WORD_R = 4,
+    HELVEMOIK_WORD_U = 10, /* and V: uV */
+    HELVEMOIK_WORD_O = 20, /* and V: oV */
+    HELVEMOIK_WORD_D = 50, /* and 10 * I + J: dIJ */
+    HELVEMOIK_WORD_Q = 150 /* and 10 * I + J: qIJ */
+};
+
 /* ---- the policy value: the text's lines by kind, in text order; every place past a count is 0 */
 
 /* `usen,V,J` or `osen,V,J`. */
@@ -134,15 +152,11 @@ struct helvemoik_conflicts {
     struct helvemoik_conflict entries[HELVEMOIK_CONFLICT_PLACES];
 };
 
-/*
- * `rule,A,w,w,..`. A word is kind * 65536 + first * 256 + second, where the kind of t is 0, f 1, n 2, a 3, r 4, u 5,
- * o 6, d 7, q 8; first is the value or the user attribute, second the object attribute, each 0 where the word has none.
- * Any other number stands for a word that no policy has: check 11 refuses the policy.
- */
+/* `rule,A,w,w,..`: the action, and each word as its number. */
 struct helvemoik_rule {
     uint32_t action;
     size_t count;
-    uint32_t words[HELVEMOIK_WORD_PLACES];
+    uint8_t words[HELVEMOIK_WORD_PLACES];
 };
 
 struct helvemoik_rules {
@@ -162,6 +176,7 @@ struct helvemoik_pairs {
     struct helvemoik_pair entries[HELVEMOIK_PAIR_PLACES];
 };
 
+/* The form, 1 or 2, says how many actions there are, and which compile and request serve the policy. */
 struct helvemoik_policy {
     uint32_t form;
     struct helvemoik_side user;
@@ -232,8 +247,8 @@ struct helvemoik_step {
 };
 
 /* The library is for x86-64. A compiler that lays out otherwise what a call takes or gives refuses this line. */
-typedef char helvemoik_layout[sizeof(struct helvemoik_policy) == 3552 && sizeof(struct helvemoik_board) == 384
-                              && sizeof(struct helvemoik_reading) == 3568 && sizeof(struct helvemoik_counted) == 16
+typedef char helvemoik_layout[sizeof(struct helvemoik_policy) == 3168 && sizeof(struct helvemoik_board) == 384
+                              && sizeof(struct helvemoik_reading) == 3184 && sizeof(struct helvemoik_counted) == 16
                               && sizeof(struct helvemoik_counts) == 12 && sizeof(struct helvemoik_separation) == 12
                               && sizeof(struct helvemoik_step) == 388 ? 1 : -1];
 
@@ -267,10 +282,18 @@ uint32_t helvemoik_decide_by_tuples(struct helvemoik_policy policy, uint32_t use
 
 /*
  * The labels of the user sets, those of the object sets, and their table; what lies past each stays. Refusals 11, 20,
- * which leave all three.
+ * which leave all three. The numbers in a name are the bits of a label and those of an entry of the table.
  */
-struct helvemoik_counts helvemoik_compile(struct helvemoik_policy policy, uint8_t *users, size_t users_length,
-                                          uint8_t *objects, size_t objects_length, uint8_t *table, size_t table_length);
+
+/* Of a policy of form 1, in bytes. A policy of another form gets 11, which leaves everything as it was. */
+struct helvemoik_counts helvemoik_compile_8_8(struct helvemoik_policy policy, uint8_t *users, size_t users_length,
+                                              uint8_t *objects, size_t objects_length,
+                                              uint8_t *table, size_t table_length);
+
+/* Of one of form 2, with a table of 16 bits. A policy of another form gets 11, which leaves everything as it was. */
+struct helvemoik_counts helvemoik_compile_8_16(struct helvemoik_policy policy, uint8_t *users, size_t users_length,
+                                               uint8_t *objects, size_t objects_length,
+                                               uint16_t *table, size_t table_length);
 
 /* Whether some action and object set tell two user sets apart. Refusals 11, 19. */
 struct helvemoik_separation helvemoik_apart(struct helvemoik_policy policy, uint32_t one, uint32_t other);
@@ -297,16 +320,26 @@ struct helvemoik_step helvemoik_close(struct helvemoik_board board, struct helve
                                       uint32_t user, uint32_t session);
 
 /*
- * Whether the action on the registered object is granted to the session's held set, by labels and table as
- * helvemoik_compile filled them, with the NU and NO that it returned: granted or denied. Refusals 11, 12, 13, 15, 17,
+ * Whether the action on the registered object is granted to the session's held set, by labels and table as the compile
+ * of the same widths filled them, with the NU and NO that it returned: granted or denied. Refusals 11, 12, 13, 15, 17,
  * 20.
  */
-struct helvemoik_step helvemoik_request(struct helvemoik_board board, struct helvemoik_policy policy,
-                                        uint32_t nu, uint32_t no,
-                                        const uint8_t *users, size_t users_length,
-                                        const uint8_t *objects, size_t objects_length,
-                                        const uint8_t *table, size_t table_length,
-                                        uint32_t session, uint32_t action, uint32_t object);
+
+/* Under a policy of form 1, by bytes. A policy of another form gets 11, which leaves everything as it was. */
+struct helvemoik_step helvemoik_request_8_8(struct helvemoik_board board, struct helvemoik_policy policy,
+                                            uint32_t nu, uint32_t no,
+                                            const uint8_t *users, size_t users_length,
+                                            const uint8_t *objects, size_t objects_length,
+                                            const uint8_t *table, size_t table_length,
+                                            uint32_t session, uint32_t action, uint32_t object);
+
+/* Under one of form 2, by a table of 16 bits. A policy of another form gets 11, which leaves everything as it was. */
+struct helvemoik_step helvemoik_request_8_16(struct helvemoik_board board, struct helvemoik_policy policy,
+                                             uint32_t nu, uint32_t no,
+                                             const uint8_t *users, size_t users_length,
+                                             const uint8_t *objects, size_t objects_length,
+                                             const uint16_t *table, size_t table_length,
+                                             uint32_t session, uint32_t action, uint32_t object);
 
 #ifdef __cplusplus
 }

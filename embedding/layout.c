@@ -19,7 +19,7 @@ struct numbers {
     struct {
         const void *at;
         size_t size;
-    } of[1024];
+    } of[2048];
 };
 
 static void number(struct numbers *n, const void *at, size_t size) {
@@ -179,17 +179,22 @@ static void put_conflicts(struct text *text, const struct helvemoik_conflicts *c
     }
 }
 
-/* The kinds of words in the order of their numbers. */
-enum { T, F, N, A, R, U, O, D, Q, KINDS };
-static const char kinds[KINDS + 1] = "tfnaruodq";
-
-static void put_word(struct text *text, uint32_t word) {
-    uint32_t kind = word >> 16;
-    put(text, ",%c", kind < KINDS ? kinds[kind] : '?');
-    if (kind >= U)
-        put(text, "%u", (unsigned)(word >> 8 & 255));
-    if (kind >= D)
-        put(text, "%u", (unsigned)(word & 255));
+static void put_word(struct text *text, unsigned word) {
+    static const struct { unsigned first; char letter; } plain[] = {
+        { HELVEMOIK_WORD_T, 't' }, { HELVEMOIK_WORD_F, 'f' }, { HELVEMOIK_WORD_N, 'n' }, { HELVEMOIK_WORD_A, 'a' },
+        { HELVEMOIK_WORD_R, 'r' },
+    };
+    if (word >= HELVEMOIK_WORD_Q)
+        put(text, ",q%02u", word - HELVEMOIK_WORD_Q);
+    else if (word >= HELVEMOIK_WORD_D)
+        put(text, ",d%02u", word - HELVEMOIK_WORD_D);
+    else if (word >= HELVEMOIK_WORD_O)
+        put(text, ",o%u", word - HELVEMOIK_WORD_O);
+    else if (word >= HELVEMOIK_WORD_U)
+        put(text, ",u%u", word - HELVEMOIK_WORD_U);
+    for (size_t i = 0; i < sizeof plain / sizeof *plain; i++)
+        if (word == plain[i].first)
+            put(text, ",%c", plain[i].letter);
 }
 
 static void put_rules(struct text *text, const struct helvemoik_rules *rules) {
@@ -287,21 +292,17 @@ static void all_conflicts(struct helvemoik_conflicts *conflicts) {
         conflict(conflicts, i * step + step - 1, (i * 3 + 5) % (HELVEMOIK_MOST_TOGETHER + 1));
 }
 
-static uint32_t word(uint32_t kind, uint32_t first, uint32_t second) {
-    return kind * 65536 + first * 256 + second;
-}
-
 /* A rule of so many of the leaves, each joined to those before it, and the whole negated: twice as many words. */
-static void rule(struct helvemoik_rules *rules, uint32_t action, const uint32_t *leaves, size_t kinds_of_leaf,
+static void rule(struct helvemoik_rules *rules, uint32_t action, const uint8_t *leaves, size_t kinds_of_leaf,
                  size_t count) {
     struct helvemoik_rule *r = &rules->entries[rules->count++];
     r->action = action;
     for (size_t k = 0; k < count; k++) {
         r->words[r->count++] = leaves[(k + action) % kinds_of_leaf];
         if (k > 0)
-            r->words[r->count++] = word(k % 3 ? A : R, 0, 0);
+            r->words[r->count++] = k % 3 ? HELVEMOIK_WORD_A : HELVEMOIK_WORD_R;
     }
-    r->words[r->count++] = word(N, 0, 0);
+    r->words[r->count++] = HELVEMOIK_WORD_N;
 }
 
 static void pair(struct helvemoik_pairs *pairs, uint32_t action, uint32_t user, uint32_t object) {
@@ -323,9 +324,9 @@ static void all_pairs(struct helvemoik_pairs *pairs) {
 
 /* All places of one side's seniorities and the other's widths, of users, objects, conflicts, rules, words and pairs. */
 static void full(struct helvemoik_policy *policy, struct helvemoik_side *one, struct helvemoik_side *other) {
-    const uint32_t leaves[] = { word(U, 6, 0), word(O, 0, 0), word(T, 0, 0), word(U, 1, 0), word(O, 5, 0),
-                                word(F, 0, 0), word(U, 3, 0), word(O, 4, 0) };
-    policy->form = 1;
+    const uint8_t leaves[] = { HELVEMOIK_WORD_U + 6, HELVEMOIK_WORD_O, HELVEMOIK_WORD_T, HELVEMOIK_WORD_U + 1,
+                               HELVEMOIK_WORD_O + 5, HELVEMOIK_WORD_F, HELVEMOIK_WORD_U + 3, HELVEMOIK_WORD_O + 4 };
+    policy->form = 2;
     chain(one);
     singles(other);
     enter(&policy->users, HELVEMOIK_USER_NUMBERS, HELVEMOIK_USER_NUMBERS - 1, 1 << HELVEMOIK_MOST_VALUES);
@@ -337,9 +338,10 @@ static void full(struct helvemoik_policy *policy, struct helvemoik_side *one, st
 }
 
 /* Few of everything, with comparisons among the words; counts that stand in one struct differ. */
-static void few(struct helvemoik_policy *policy) {
-    const uint32_t leaves[] = { word(U, 5, 0), word(D, 0, 1), word(O, 4, 0), word(Q, 1, 0), word(U, 2, 0) };
-    policy->form = 1;
+static void few(struct helvemoik_policy *policy, uint32_t form) {
+    const uint8_t leaves[] = { HELVEMOIK_WORD_U + 5, HELVEMOIK_WORD_D + 1, HELVEMOIK_WORD_O + 4, HELVEMOIK_WORD_Q + 10,
+                               HELVEMOIK_WORD_U + 2 };
+    policy->form = form;
     some(&policy->user, "321", "1021");
     some(&policy->object, "23", "10324243");
     enter(&policy->users, 3, HELVEMOIK_USER_NUMBERS - 1, 1 << 6);
@@ -480,10 +482,29 @@ static void hold_byte(const struct helvemoik_board *board, const struct helvemoi
     hold_step(helvemoik_close(changed, *policy, staff[0].user, 0), HELVEMOIK_INVALID_STATE, &changed, where);
 }
 
-static void hold_open(const struct helvemoik_board *board, const struct helvemoik_policy *policy, uint32_t k) {
+/* A label for each set, and tables with one place that grants: requests find it, in the table of the policy's form. */
+static void hold_request(const struct helvemoik_board *board, const struct helvemoik_policy *policy, uint32_t k) {
     static uint8_t labels[HELVEMOIK_MOST_LABELS], table[HELVEMOIK_MOST_TABLE];
-    const struct helvemoik_session *entry = &board->sessions[k];
+    static uint16_t wide[HELVEMOIK_MOST_TABLE];
+    const uint32_t most = HELVEMOIK_MOST_LABELS, action = policy->form == 1 ? 3 : 11;
     const struct helvemoik_entry *object = &policy->objects.entries[k % policy->objects.count];
+    const size_t place = board->sessions[k].held * most + object->set;
+    for (uint32_t i = 0; i < most; i++)
+        labels[i] = (uint8_t)i;
+    memset(table, 0, sizeof table);
+    memset(wide, 0, sizeof wide);
+    table[place] = (uint8_t)(1u << action);
+    wide[place] = (uint16_t)(1u << action);
+    hold_step(helvemoik_request_8_8(*board, *policy, most, most, labels, most, labels, most,
+                                    table, HELVEMOIK_MOST_TABLE, k, action, object->number),
+              policy->form == 1 ? HELVEMOIK_GRANTED : HELVEMOIK_INVALID_STATE, board, k);
+    hold_step(helvemoik_request_8_16(*board, *policy, most, most, labels, most, labels, most,
+                                     wide, HELVEMOIK_MOST_TABLE, k, action, object->number),
+              policy->form == 2 ? HELVEMOIK_GRANTED : HELVEMOIK_INVALID_STATE, board, k);
+}
+
+static void hold_open(const struct helvemoik_board *board, const struct helvemoik_policy *policy, uint32_t k) {
+    const struct helvemoik_session *entry = &board->sessions[k];
     uint32_t user = entry->user, another = staff[(k + 1) % STAFF].user;
     struct helvemoik_board due = *board;
     hold_step(helvemoik_open(*board, *policy, user, k, 0), HELVEMOIK_SESSION_OPEN, board, k);
@@ -494,14 +515,7 @@ static void hold_open(const struct helvemoik_board *board, const struct helvemoi
     hold_step(helvemoik_drop(*board, *policy, user, k, entry->held), HELVEMOIK_DONE, &due, k);
     due.sessions[k] = session(0, 0, 0);
     hold_step(helvemoik_close(*board, *policy, user, k), HELVEMOIK_DONE, &due, k);
-    /* a label for each set, and the one place of the table that grants */
-    for (uint32_t i = 0; i < HELVEMOIK_MOST_LABELS; i++)
-        labels[i] = (uint8_t)i;
-    memset(table, 0, sizeof table);
-    table[entry->held * HELVEMOIK_MOST_LABELS + object->set] = 1 << 3;
-    hold_step(helvemoik_request(*board, *policy, HELVEMOIK_MOST_LABELS, HELVEMOIK_MOST_LABELS, labels, sizeof labels,
-                                labels, sizeof labels, table, sizeof table, k, 3, object->number),
-              HELVEMOIK_GRANTED, board, k);
+    hold_request(board, policy, k);
     for (size_t i = 0; i < sizeof entry->user; i++)
         hold_byte(board, policy, &entry->user, i, k);
     for (size_t i = 0; i < sizeof entry->held; i++)
@@ -557,10 +571,42 @@ static void hold_counts(void) {
     uint8_t users[4], objects[2], table[6];
     struct helvemoik_reading reading = reading_of(
         "policy,1\nuattr,2\noattr,1\nusen,1,0\nuser,0,2\nobject,0,1\nrule,0,u0,o0,a\nrule,3,u1,n\nend\n");
-    struct helvemoik_counts n = helvemoik_compile(reading.policy, users, 4, objects, 2, table, 6);
+    struct helvemoik_counts n = helvemoik_compile_8_8(reading.policy, users, 4, objects, 2, table, 6);
     expect(n.refusal == 0 && n.users == 3 && n.objects == 2, "counts: another NU or NO", 0);
-    n = helvemoik_compile(reading.policy, users, 4, objects, 2, table, 5);
+    n = helvemoik_compile_8_8(reading.policy, users, 4, objects, 2, table, 5);
     expect(n.refusal == HELVEMOIK_BUFFER_TOO_SHORT && n.users == 0 && n.objects == 0, "counts: another refusal", 0);
+}
+
+/* ---- tables, by the widths of both forms */
+
+/* The same text of either form, with the last action that the form has. */
+static struct helvemoik_policy of_form(uint32_t form) {
+    static struct text text;
+    text.length = 0;
+    put(&text, "policy,%u\nuattr,2\noattr,1\nusen,1,0\nrule,0,u0,o0,a\nrule,%u,u1,n\nend\n", (unsigned)form,
+        form == 1 ? HELVEMOIK_FORM_1_ACTIONS - 1u : HELVEMOIK_FORM_2_ACTIONS - 1u);
+    return reading_of(text.bytes).policy;
+}
+
+/* Every entry of its width, nothing past the table, and nothing at all by the call for the other form. */
+static void hold_tables(void) {
+    static const uint8_t due[] = { 128, 128, 128, 129, 0, 1, PAINT };
+    static const uint16_t wide_due[] = { 32768, 32768, 32768, 32769, 0, 1, PAINT * 257 };
+    uint8_t users[4], objects[2], table[7], untouched[7];
+    uint16_t wide[7], wide_untouched[7];
+    memset(table, PAINT, sizeof table);
+    memset(wide, PAINT, sizeof wide);
+    memset(untouched, PAINT, sizeof untouched);
+    memset(wide_untouched, PAINT, sizeof wide_untouched);
+    const struct helvemoik_policy one = of_form(1), two = of_form(2);
+    expect(helvemoik_compile_8_16(one, users, 4, objects, 2, wide, 7).refusal == HELVEMOIK_INVALID_STATE
+               && memcmp(wide, wide_untouched, sizeof wide) == 0, "tables: 16 bits of form 1", 0);
+    expect(helvemoik_compile_8_8(two, users, 4, objects, 2, table, 7).refusal == HELVEMOIK_INVALID_STATE
+               && memcmp(table, untouched, sizeof table) == 0, "tables: bytes of form 2", 0);
+    expect(helvemoik_compile_8_8(one, users, 4, objects, 2, table, 7).refusal == 0
+               && memcmp(table, due, sizeof table) == 0, "tables: other bytes", 0);
+    expect(helvemoik_compile_8_16(two, users, 4, objects, 2, wide, 7).refusal == 0
+               && memcmp(wide, wide_due, sizeof wide) == 0, "tables: other entries of 16 bits", 0);
 }
 
 /* Only action 5 on object set 2 tells the sets apart that hold user value 0 and those that do not. */
@@ -573,19 +619,22 @@ static void hold_separation(void) {
 }
 
 int main(void) {
-    static struct helvemoik_policy policies[3];
-    for (size_t i = 0; i < 3; i++)
+    static struct helvemoik_policy policies[4];
+    for (size_t i = 0; i < 4; i++)
         clear(&policies[i]);
     full(&policies[0], &policies[0].user, &policies[0].object);
     full(&policies[1], &policies[1].object, &policies[1].user);
-    few(&policies[2]);
-    for (size_t i = 0; i < 3; i++)
+    few(&policies[2], 1);
+    few(&policies[3], 2);
+    for (size_t i = 0; i < 4; i++)
         hold_policy(&policies[i], i);
     hold_answers_written(&policies[2]);
     hold_board(&policies[2]);
+    hold_board(&policies[3]);
     hold_reading();
     hold_counted(&policies[2]);
     hold_counts();
+    hold_tables();
     hold_separation();
     return verdict("layout");
 }

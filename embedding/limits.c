@@ -9,6 +9,7 @@
 
 static uint8_t text[HELVEMOIK_TEXT_BYTES + 2];
 static uint8_t users[HELVEMOIK_MOST_LABELS], objects[HELVEMOIK_MOST_LABELS], table[HELVEMOIK_MOST_TABLE];
+static uint16_t wide[HELVEMOIK_MOST_TABLE];
 static uint16_t tuples[HELVEMOIK_MOST_TUPLES];
 
 static uint32_t refusal_of(const char *bytes) {
@@ -23,13 +24,34 @@ static struct helvemoik_policy policy_of(const char *bytes) {
 
 /* ---- limits of a text */
 
-/* The number is read in this text, and the next one is out of range. */
-static void hold_greatest(const char *format, int greatest) {
+/* The number is read in the text of this form, and the next one is out of range. */
+static void hold_greatest_of(int form, const char *lines, int greatest) {
     char bytes[128];
-    snprintf(bytes, sizeof bytes, format, greatest);
+    int n = snprintf(bytes, sizeof bytes, "policy,%d\n", form);
+    snprintf(bytes + n, sizeof bytes - (size_t)n, lines, greatest);
     expect(refusal_of(bytes) == 0, "a limit is not met", (size_t)greatest);
-    snprintf(bytes, sizeof bytes, format, greatest + 1);
+    snprintf(bytes + n, sizeof bytes - (size_t)n, lines, greatest + 1);
     expect(refusal_of(bytes) == HELVEMOIK_OUT_OF_RANGE, "a limit is passed", (size_t)greatest);
+}
+
+/* The same in both forms. */
+static void hold_greatest(const char *lines, int greatest) {
+    hold_greatest_of(1, lines, greatest);
+    hold_greatest_of(2, lines, greatest);
+}
+
+/* A form has so many actions: in rules, in pairs and in calls. */
+static void hold_actions(int form, int actions) {
+    char bytes[64];
+    hold_greatest_of(form, "uattr,1\noattr,1\nrule,%d,t\nend\n", actions - 1);
+    hold_greatest_of(form, "uattr,1\noattr,1\npair,%d,0,0\nend\n", actions - 1);
+    snprintf(bytes, sizeof bytes, "policy,%d\nuattr,1\noattr,1\nend\n", form);
+    struct helvemoik_policy policy = policy_of(bytes);
+    uint32_t last = (uint32_t)actions - 1;
+    expect(helvemoik_decide(policy, last, 0, 0) == HELVEMOIK_DENIED, "actions", last);
+    expect(helvemoik_decide(policy, last + 1, 0, 0) == HELVEMOIK_UNKNOWN_ACTION, "actions", last + 1);
+    expect(helvemoik_list(policy, last, tuples, 0).refusal == 0, "actions listed", last);
+    expect(helvemoik_list(policy, last + 1, tuples, 0).refusal == HELVEMOIK_UNKNOWN_ACTION, "actions listed", last + 1);
 }
 
 static void hold_text_bytes(void) {
@@ -39,8 +61,9 @@ static void hold_text_bytes(void) {
 }
 
 /* A truth value, negated until there are so many words. */
-static void hold_words(void) {
-    char bytes[256] = "policy,1\nuattr,1\noattr,1\nrule,0,t";
+static void hold_words(int form) {
+    char bytes[256];
+    snprintf(bytes, sizeof bytes, "policy,%d\nuattr,1\noattr,1\nrule,0,t", form);
     for (int i = 1; i < HELVEMOIK_MOST_WORDS; i++)
         strcat(bytes, ",n");
     char *last = bytes + strlen(bytes);
@@ -62,9 +85,9 @@ static int put_pair(char *bytes, size_t room, int number) {
 }
 
 /* The refusal of a text of so many of these lines. */
-static uint32_t refusal_of_lines(put_line *put, int count) {
+static uint32_t refusal_of_lines(int form, put_line *put, int count) {
     char bytes[1024];
-    int n = snprintf(bytes, sizeof bytes, "policy,1\nuattr,5\noattr,5\n");
+    int n = snprintf(bytes, sizeof bytes, "policy,%d\nuattr,5\noattr,5\n", form);
     for (int i = 0; i < count; i++)
         n += put(bytes + n, sizeof bytes - (size_t)n, i);
     snprintf(bytes + n, sizeof bytes - (size_t)n, "end\n");
@@ -72,28 +95,39 @@ static uint32_t refusal_of_lines(put_line *put, int count) {
 }
 
 static void hold_lines(const char *what, put_line *put, int most, uint32_t refusal) {
-    expect(refusal_of_lines(put, most) == 0, what, (size_t)most);
-    expect(refusal_of_lines(put, most + 1) == refusal, what, (size_t)most + 1);
+    for (int form = 1; form <= 2; form++) {
+        expect(refusal_of_lines(form, put, most) == 0, what, (size_t)most);
+        expect(refusal_of_lines(form, put, most + 1) == refusal, what, (size_t)most + 1);
+    }
 }
 
 /* ---- limits of a result */
 
+/* By the call of the policy's form. */
 static uint32_t compiled(struct helvemoik_policy policy, size_t u, size_t o, size_t t) {
-    return helvemoik_compile(policy, users, u, objects, o, table, t).refusal;
+    return policy.form == 1 ? helvemoik_compile_8_8(policy, users, u, objects, o, table, t).refusal
+                            : helvemoik_compile_8_16(policy, users, u, objects, o, wide, t).refusal;
 }
 
 /* No two sets alike, and an action that is granted always: no policy has more labels or tuples. */
-static void hold_results(void) {
-    struct helvemoik_policy policy = policy_of(
-        "policy,1\nuattr,7\noattr,7\nrule,0,u0,o0,a\nrule,1,u1,o1,a\nrule,2,u2,o2,a\nrule,3,u3,o3,a\n"
-        "rule,4,u4,o4,a\nrule,5,u5,o5,a\nrule,6,u6,o6,a\nrule,7,t\nend\n");
+static void hold_results(struct helvemoik_policy policy) {
     const size_t labels = HELVEMOIK_MOST_LABELS, places = HELVEMOIK_MOST_TABLE, most = HELVEMOIK_MOST_TUPLES;
     expect(compiled(policy, labels, labels, places) == 0, "labels", labels);
     expect(compiled(policy, labels - 1, labels, places) == HELVEMOIK_BUFFER_TOO_SHORT, "user labels", labels - 1);
     expect(compiled(policy, labels, labels - 1, places) == HELVEMOIK_BUFFER_TOO_SHORT, "object labels", labels - 1);
     expect(compiled(policy, labels, labels, places - 1) == HELVEMOIK_BUFFER_TOO_SHORT, "table", places - 1);
     expect(helvemoik_list(policy, 7, tuples, most).count == most, "tuples", most);
+    expect(helvemoik_decide_by_tuples(policy, 0, 9, tuples, most, 9) == HELVEMOIK_DENIED, "first tuples", 9);
+    expect(helvemoik_decide_by_tuples(policy, 0, 9, tuples, most, 10) == HELVEMOIK_GRANTED, "first tuples", 10);
     expect(helvemoik_list(policy, 7, tuples, most - 1).refusal == HELVEMOIK_BUFFER_TOO_SHORT, "tuples", most - 1);
+}
+
+static void hold_results_of_both(void) {
+    char bytes[] = "policy,1\nuattr,7\noattr,7\nrule,0,u0,o0,a\nrule,1,u1,o1,a\nrule,2,u2,o2,a\nrule,3,u3,o3,a\n"
+                   "rule,4,u4,o4,a\nrule,5,u5,o5,a\nrule,6,u6,o6,a\nrule,7,t\nend\n";
+    hold_results(policy_of(bytes));
+    bytes[strlen("policy,")] = '2';
+    hold_results(policy_of(bytes));
 }
 
 /* ---- refusals and answers, by the smallest text or call that gets each */
@@ -135,11 +169,10 @@ static void hold_answers(void) {
     answers(helvemoik_apart(policy, 0, 1).answer, HELVEMOIK_APART);
     answers(helvemoik_decide(invalid, 0, 0, 0), HELVEMOIK_INVALID_STATE);
     answers(helvemoik_close(over, policy, 0, last).answer, HELVEMOIK_INVALID_STATE);
-    answers(helvemoik_decide(policy, HELVEMOIK_MOST_ACTIONS - 1, 0, 0), HELVEMOIK_DENIED);
-    answers(helvemoik_decide(policy, HELVEMOIK_MOST_ACTIONS, 0, 0), HELVEMOIK_UNKNOWN_ACTION);
+    answers(helvemoik_decide(policy, HELVEMOIK_FORM_1_ACTIONS, 0, 0), HELVEMOIK_UNKNOWN_ACTION);
     answers(helvemoik_open(none, policy, 0, HELVEMOIK_SESSIONS, 1).answer, HELVEMOIK_UNKNOWN_SESSION);
     answers(helvemoik_open(none, policy, 2, 0, 1).answer, HELVEMOIK_UNREGISTERED_USER);
-    answers(helvemoik_request(one, policy, 1, 1, users, 0, objects, 0, table, 0, last, 0, 1).answer,
+    answers(helvemoik_request_8_8(one, policy, 1, 1, users, 0, objects, 0, table, 0, last, 0, 1).answer,
             HELVEMOIK_UNREGISTERED_OBJECT);
     answers(helvemoik_open(one, policy, 1, last, 1).answer, HELVEMOIK_SESSION_OPEN);
     answers(helvemoik_close(none, policy, 0, last).answer, HELVEMOIK_SESSION_NOT_OPEN);
@@ -147,25 +180,26 @@ static void hold_answers(void) {
     answers(helvemoik_open(none, policy, 1, 0, 2).answer, HELVEMOIK_SET_OUT_OF_REACH);
     answers(helvemoik_open(none, policy, 0, 0, 3).answer, HELVEMOIK_TOO_MANY_HELD);
     answers(helvemoik_add(one, policy, 0, last, 2).answer, HELVEMOIK_TOO_MANY_HELD);
-    answers(helvemoik_request(one, policy, 1, 1, users, 0, objects, 0, table, 0, last, 0, 0).answer,
+    answers(helvemoik_request_8_8(one, policy, 1, 1, users, 0, objects, 0, table, 0, last, 0, 0).answer,
             HELVEMOIK_BUFFER_TOO_SHORT);
 }
 
 int main(void) {
     hold_text_bytes();
-    hold_greatest("policy,1\nuattr,%d\noattr,1\nend\n", HELVEMOIK_MOST_VALUES);
-    hold_greatest("policy,1\nuattr,1\noattr,%d\nend\n", HELVEMOIK_MOST_VALUES);
-    hold_greatest("policy,1\nuattr,1\noattr,1\nuser,%d,0\nend\n", HELVEMOIK_USER_NUMBERS - 1);
-    hold_greatest("policy,1\nuattr,1\noattr,1\nobject,%d,0\nend\n", HELVEMOIK_OBJECT_NUMBERS - 1);
-    hold_greatest("policy,1\nuattr,1\noattr,1\nconflict,0,%d\nend\n", HELVEMOIK_MOST_TOGETHER);
-    hold_greatest("policy,1\nuattr,1\noattr,1\nrule,%d,t\nend\n", HELVEMOIK_MOST_ACTIONS - 1);
-    hold_greatest("policy,1\nuattr,1\noattr,1\npair,%d,0,0\nend\n", HELVEMOIK_MOST_ACTIONS - 1);
-    hold_greatest("policy,1\nuattr,7\noattr,1\npair,0,%d,0\nend\n", HELVEMOIK_MOST_VALUES - 1);
-    hold_greatest("policy,1\nuattr,1\noattr,7\npair,0,0,%d\nend\n", HELVEMOIK_MOST_VALUES - 1);
-    hold_words();
+    hold_greatest("uattr,%d\noattr,1\nend\n", HELVEMOIK_MOST_VALUES);
+    hold_greatest("uattr,1\noattr,%d\nend\n", HELVEMOIK_MOST_VALUES);
+    hold_greatest("uattr,1\noattr,1\nuser,%d,0\nend\n", HELVEMOIK_USER_NUMBERS - 1);
+    hold_greatest("uattr,1\noattr,1\nobject,%d,0\nend\n", HELVEMOIK_OBJECT_NUMBERS - 1);
+    hold_greatest("uattr,1\noattr,1\nconflict,0,%d\nend\n", HELVEMOIK_MOST_TOGETHER);
+    hold_greatest("uattr,7\noattr,1\npair,0,%d,0\nend\n", HELVEMOIK_MOST_VALUES - 1);
+    hold_greatest("uattr,1\noattr,7\npair,0,0,%d\nend\n", HELVEMOIK_MOST_VALUES - 1);
+    hold_actions(1, HELVEMOIK_FORM_1_ACTIONS);
+    hold_actions(2, HELVEMOIK_FORM_2_ACTIONS);
+    hold_words(1);
+    hold_words(2);
     hold_lines("conflicts", put_conflict, HELVEMOIK_MOST_CONFLICTS, HELVEMOIK_TOO_MANY_CONFLICTS);
     hold_lines("pairs", put_pair, HELVEMOIK_MOST_PAIRS, HELVEMOIK_TOO_MANY_PAIRS);
-    hold_results();
+    hold_results_of_both();
     hold_reading_refusals();
     hold_answers();
     return verdict("limits");

@@ -1,8 +1,8 @@
 #!/bin/sh
 # Shows that layout.c and limits.c find a wrong header: every two fields of a struct in each other's place, every number
-# field of the other width, and every named number one higher. Each time the header's own line on sizes stops the
-# compiler, or the program finds faults. One wrong width cannot be told: counted.refusal comes back in a register whose
-# other half is padding.
+# field of the other width, every named number one higher, and every lent buffer with elements of the other width. Each
+# time the header's own line on sizes or a buffer's type stops the compiler, or the program finds faults. One wrong
+# width cannot be told: counted.refusal comes back in a register whose other half is padding.
 set -eu
 cd "$(dirname "$0")/.."
 header=embedding/helvemoik.h
@@ -19,8 +19,9 @@ must_find() {
     exit 1
   fi
   while [ $# -gt 1 ]; do
-    if ! gcc -std=c99 -O0 -w "$wrong/$1.c" target/staticlib/libembed.a -o "$wrong/$1" 2>"$wrong/errors"; then
-      grep -q helvemoik_layout "$wrong/errors" && stopped=$((stopped + 1)) && return
+    if ! gcc -std=c99 -O0 -Werror=incompatible-pointer-types "$wrong/$1.c" target/staticlib/libembed.a -o "$wrong/$1" \
+      2>"$wrong/errors"; then
+      grep -q -e helvemoik_layout -e 'incompatible pointer' "$wrong/errors" && stopped=$((stopped + 1)) && return
       cat "$wrong/errors" >&2
       exit 1
     fi
@@ -54,9 +55,17 @@ d}" "$header" | sed -e "${other}s/.*/$(sed -n "${one}p" "$header")/" >"$wrong/he
   case "$struct $field" in
     *" struct "* | "helvemoik_counted     uint32_t refusal;") ;;
     *)
-      sed "${one}s/uint32_t/uint64_t/;${one}s/size_t/uint32_t/" "$header" >"$wrong/helvemoik.h"
+      sed "${one}s/uint32_t/uint64_t/;${one}s/size_t/uint32_t/;${one}s/uint8_t/uint16_t/" "$header" \
+        >"$wrong/helvemoik.h"
       must_find layout "line $one is of the other width"
       ;;
   esac
 done <"$wrong/lines"
-echo "wrong headers: $stopped stopped by the line on sizes, $found found"
+
+# The calls have one lent buffer to a line.
+for line in $(grep -n 'uint[0-9]*_t \*' "$header" | cut -d : -f 1); do
+  sed "${line}s/uint8_t \*/uint0_t */;${line}s/uint16_t \*/uint8_t */;${line}s/uint0_t \*/uint16_t */" "$header" \
+    >"$wrong/helvemoik.h"
+  must_find layout limits "the buffer of line $line is of the other width"
+done
+echo "wrong headers: $stopped stopped by the compiler, $found found"

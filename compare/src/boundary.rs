@@ -3,7 +3,8 @@
 /// The limits of documents 01 and 02.
 pub const TEXT_BYTES: usize = 8192;
 pub const MOST_VALUES: usize = 7;
-pub const MOST_ACTIONS: usize = 8;
+pub const FORM_1_ACTIONS: usize = 8;
+pub const FORM_2_ACTIONS: usize = 16;
 pub const MOST_WORDS: usize = 32;
 pub const MOST_CONFLICTS: usize = 16;
 pub const MOST_TOGETHER: usize = 7;
@@ -12,6 +13,9 @@ pub const OBJECT_NUMBERS: usize = 64;
 
 /// The entries of a board.
 pub const SESSIONS: usize = 32;
+
+/// Actions of any form.
+pub const MOST_ACTIONS: usize = FORM_2_ACTIONS;
 
 /// The places of each array of a policy value.
 pub const WIDTH_PLACES: usize = MOST_VALUES;
@@ -22,7 +26,7 @@ pub const RULE_PLACES: usize = MOST_ACTIONS;
 pub const CONFLICT_PLACES: usize = MOST_CONFLICTS;
 pub const PAIR_PLACES: usize = MOST_PAIRS;
 
-/// Room for the labels of a side, and for a table.
+/// Room for the labels of a side, and for the entries of a table, in any form.
 pub const MOST_LABELS: usize = 1 << MOST_VALUES;
 pub const MOST_TABLE: usize = MOST_LABELS * MOST_LABELS;
 
@@ -89,20 +93,20 @@ pub struct Conflicts {
     pub entries: [Conflict; CONFLICT_PLACES],
 }
 
-/// A rule; each word is kind × 65536 + first × 256 + second.
+/// A rule; each word is its number.
 #[repr(C)]
 #[derive(Debug, Clone, Copy, Default, PartialEq, Eq)]
-pub struct PackedRule {
+pub struct RuleValue {
     pub action: u32,
     pub count: usize,
-    pub words: [u32; WORD_PLACES],
+    pub words: [u8; WORD_PLACES],
 }
 
 #[repr(C)]
 #[derive(Debug, Clone, Copy, Default, PartialEq, Eq)]
-pub struct PackedRules {
+pub struct RulesValue {
     pub count: usize,
-    pub entries: [PackedRule; RULE_PLACES],
+    pub entries: [RuleValue; RULE_PLACES],
 }
 
 /// A pair line: an action, a user value and an object value.
@@ -133,24 +137,24 @@ impl Default for Pairs {
 /// A policy value; the default is the blank one.
 #[repr(C)]
 #[derive(Debug, Clone, Copy, Default, PartialEq, Eq)]
-pub struct PackedPolicy {
+pub struct PolicyValue {
     pub form: u32,
     pub user: SideValue,
     pub object: SideValue,
     pub users: Register,
     pub objects: Register,
     pub conflicts: Conflicts,
-    pub rules: PackedRules,
+    pub rules: RulesValue,
     pub pairs: Pairs,
 }
 
 /// The answer of reading; refusal 0 is accepted.
 #[repr(C)]
 #[derive(Debug, Clone, Copy, Default, PartialEq, Eq)]
-pub struct PackedReading {
+pub struct Reading {
     pub refusal: u32,
     pub line: usize,
-    pub policy: PackedPolicy,
+    pub policy: PolicyValue,
 }
 
 /// A count, or a refusal beside the count 0.
@@ -164,7 +168,7 @@ pub struct Counted {
 /// NU and NO, or a refusal beside 0 and 0.
 #[repr(C)]
 #[derive(Debug, Clone, Copy, Default, PartialEq, Eq)]
-pub struct PackedCounts {
+pub struct Counts {
     pub refusal: u32,
     pub users: u32,
     pub objects: u32,
@@ -212,7 +216,7 @@ pub struct Board {
 /// The answer of a session call and the board after it.
 #[repr(C)]
 #[derive(Debug, Clone, Copy, Default, PartialEq, Eq)]
-pub struct PackedStep {
+pub struct Step {
     pub answer: u32,
     pub board: Board,
 }

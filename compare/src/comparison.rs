@@ -1,19 +1,22 @@
 //! An engine beside the second implementation: made texts and calls, and every
 //! answer, buffer and board compared.
 
+mod buffers;
 mod calls;
+mod compiling;
 mod coverage;
 mod known;
 mod lent;
 mod sessions;
 mod texts;
 
-pub use coverage::Coverage;
+pub use coverage::{Cause, Coverage};
 
 use crate::damage::damaged;
 use crate::engine::Engine;
 use known::Known;
 use reference::cases::{text, Rng};
+use reference::form::{Widths, WIDTHS};
 use std::fmt::Debug;
 use std::fmt::{self, Display};
 
@@ -113,6 +116,22 @@ impl Trial<'_> {
             }
         }
         Ok(())
+    }
+
+    /// Counts a call on a policy value.
+    fn count(&mut self, kind: &'static str, known: &Known, answer: u32) {
+        self.coverage.count_call(kind, answer);
+        if let Some(policy) = &known.policy {
+            self.coverage.count_form(kind, policy.form.number);
+        }
+    }
+
+    /// The widths that a call is made for: mostly those of the policy's form.
+    fn some_widths(&mut self, known: &Known) -> Widths {
+        match &known.policy {
+            Some(policy) if self.rng.chance(2, 3) => policy.form.widths,
+            _ => self.rng.pick(&WIDTHS),
+        }
     }
 
     /// A call of any kind with any arguments.

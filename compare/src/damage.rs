@@ -5,7 +5,7 @@ mod boards;
 pub use boards::{board, damaged_board};
 
 use crate::boundary::*;
-use crate::value::packed_word;
+use crate::value::word_number;
 use reference::cases::Rng;
 use reference::policy::Word;
 
@@ -19,6 +19,9 @@ pub fn odd(rng: &mut Rng) -> u32 {
         7,
         8,
         9,
+        15,
+        16,
+        17,
         21,
         22,
         31,
@@ -58,10 +61,10 @@ pub fn odd_count(rng: &mut Rng) -> usize {
 }
 
 /// A value with one or, seldom, two things changed; some changes leave it good.
-pub fn damaged(rng: &mut Rng, value: &PackedPolicy) -> PackedPolicy {
+pub fn damaged(rng: &mut Rng, value: &PolicyValue) -> PolicyValue {
     let mut damaged = *value;
     for _ in 0..1 + u32::from(rng.chance(1, 5)) {
-        match rng.below(8) {
+        match rng.below(9) {
             0 => change_form(rng, &mut damaged),
             1 => change_count(rng, &mut damaged),
             2 => leave_over(rng, &mut damaged),
@@ -69,18 +72,27 @@ pub fn damaged(rng: &mut Rng, value: &PackedPolicy) -> PackedPolicy {
             4 => change_word(rng, &mut damaged),
             5 => break_order(rng, &mut damaged),
             6 => widen(rng, &mut damaged),
+            7 => change_last_action(rng, &mut damaged),
             _ => flip_bit(rng, &mut damaged),
         }
     }
     damaged
 }
 
-fn change_form(rng: &mut Rng, value: &mut PackedPolicy) {
-    value.form = rng.pick(&[0, 2, 3, 257, 65_537, u32::MAX]);
+/// Another form, good or not; one of those that there are may lack an action of the value.
+fn change_form(rng: &mut Rng, value: &mut PolicyValue) {
+    let other = if value.form == 1 { 2 } else { 1 };
+    let none = rng.pick(&[0, 3, 4, 5, 257, 258, 65_537, 65_538, u32::MAX]);
+    value.form = rng.pick(&[other, other, none]);
+}
+
+/// An action at the limits of the forms.
+fn limit_action(rng: &mut Rng) -> u32 {
+    rng.pick(&[6, 7, 8, 14, 15, 16])
 }
 
 /// One of the counts of a value.
-fn count_of<'a>(rng: &mut Rng, value: &'a mut PackedPolicy) -> &'a mut usize {
+fn count_of<'a>(rng: &mut Rng, value: &'a mut PolicyValue) -> &'a mut usize {
     let rule = rule_place(rng, value);
     match rng.below(10) {
         0 => &mut value.user.attributes,
@@ -96,7 +108,7 @@ fn count_of<'a>(rng: &mut Rng, value: &'a mut PackedPolicy) -> &'a mut usize {
     }
 }
 
-fn change_count(rng: &mut Rng, value: &mut PackedPolicy) {
+fn change_count(rng: &mut Rng, value: &mut PolicyValue) {
     let kind = rng.below(4);
     let odd = odd_count(rng);
     let count = count_of(rng, value);
@@ -109,7 +121,7 @@ fn change_count(rng: &mut Rng, value: &mut PackedPolicy) {
 }
 
 /// The place of a rule, mostly of one in use.
-fn rule_place(rng: &mut Rng, value: &PackedPolicy) -> usize {
+fn rule_place(rng: &mut Rng, value: &PolicyValue) -> usize {
     place(rng, value.rules.count, RULE_PLACES)
 }
 
@@ -132,7 +144,7 @@ fn place_behind(rng: &mut Rng, count: usize, places: usize) -> usize {
 }
 
 /// Something behind the last entry of a list.
-fn leave_over(rng: &mut Rng, value: &mut PackedPolicy) {
+fn leave_over(rng: &mut Rng, value: &mut PolicyValue) {
     let number = 1 + rng.below(9);
     let user = rng.chance(1, 2);
     let (side, register) = match user {
@@ -148,7 +160,7 @@ fn leave_over(rng: &mut Rng, value: &mut PackedPolicy) {
         5 => {
             let rule = rule_place(rng, value);
             let rule = &mut value.rules.entries[rule];
-            rule.words[place_behind(rng, rule.count, WORD_PLACES)] = number << 16;
+            rule.words[place_behind(rng, rule.count, WORD_PLACES)] = number as u8;
         }
         _ => {
             let rule = place_behind(rng, value.rules.count, RULE_PLACES);
@@ -156,7 +168,7 @@ fn leave_over(rng: &mut Rng, value: &mut PackedPolicy) {
             match rng.below(3) {
                 0 => rule.action = number,
                 1 => rule.count = number as usize,
-                _ => rule.words[rng.index(WORD_PLACES)] = number,
+                _ => rule.words[rng.index(WORD_PLACES)] = number as u8,
             }
         }
     }
@@ -208,7 +220,7 @@ fn pair_number<'a>(rng: &mut Rng, pairs: &'a mut Pairs, place: Place) -> &'a mut
 }
 
 /// A width, value, number, set or action becomes another, often out of range.
-fn change_number(rng: &mut Rng, value: &mut PackedPolicy) {
+fn change_number(rng: &mut Rng, value: &mut PolicyValue) {
     let odd = odd(rng);
     let kind = rng.below(4);
     let number = number_of(rng, value);
@@ -219,7 +231,21 @@ fn change_number(rng: &mut Rng, value: &mut PackedPolicy) {
     };
 }
 
-fn number_of<'a>(rng: &mut Rng, value: &'a mut PackedPolicy) -> &'a mut u32 {
+/// The action of the last rule or pair, above which no other must rise, goes to the
+/// limit of a form.
+fn change_last_action(rng: &mut Rng, value: &mut PolicyValue) {
+    let action = limit_action(rng);
+    let (rules, pairs) = (value.rules.count, value.pairs.count);
+    match rng.chance(1, 2) {
+        true if (1..=RULE_PLACES).contains(&rules) => {
+            value.rules.entries[rules - 1].action = action
+        }
+        _ if (1..=PAIR_PLACES).contains(&pairs) => value.pairs.entries[pairs - 1].action = action,
+        _ => {}
+    }
+}
+
+fn number_of<'a>(rng: &mut Rng, value: &'a mut PolicyValue) -> &'a mut u32 {
     let rule = rule_place(rng, value);
     let (side, register) = match rng.chance(1, 2) {
         true => (&mut value.user, &mut value.users),
@@ -236,12 +262,12 @@ fn number_of<'a>(rng: &mut Rng, value: &'a mut PackedPolicy) -> &'a mut u32 {
 }
 
 /// A word becomes another, or a number that is no word's.
-fn change_word(rng: &mut Rng, value: &mut PackedPolicy) {
+fn change_word(rng: &mut Rng, value: &mut PolicyValue) {
     let rule = rule_place(rng, value);
     let rule = &mut value.rules.entries[rule];
     let word = place(rng, rule.count, WORD_PLACES);
     let word = &mut rule.words[word];
-    let (one, other) = (rng.below(11), rng.below(11));
+    let (one, other) = (rng.below(10), rng.below(10));
     let words = [
         Word::True,
         Word::False,
@@ -254,24 +280,14 @@ fn change_word(rng: &mut Rng, value: &mut PackedPolicy) {
         Word::Same(one, other),
     ];
     *word = match rng.below(5) {
-        0 => rng.pick(&[
-            1,
-            256,
-            0x1_0001,
-            0x5_0001,
-            0x6_00FF,
-            0x9_0000,
-            0x100_0000,
-            u32::MAX,
-        ]),
-        1 => *word ^ 1 << rng.below(32),
-        2 => packed_word(&rng.pick(&words)) | rng.pick(&[1, 256, 0xFF00, 1 << 24]),
-        _ => packed_word(&rng.pick(&words)),
+        0 => rng.pick(&[5, 9, 30, 31, 39, 40, 49, 250, 255]),
+        1 => *word ^ 1 << rng.below(u8::BITS),
+        _ => word_number(&rng.pick(&words)),
     };
 }
 
 /// Two entries of a list change places, or one stands twice.
-fn break_order(rng: &mut Rng, value: &mut PackedPolicy) {
+fn break_order(rng: &mut Rng, value: &mut PolicyValue) {
     let user = rng.chance(1, 2);
     let (side, register) = match user {
         true => (&mut value.user, &mut value.users),
@@ -297,7 +313,7 @@ fn disorder<T: Copy>(rng: &mut Rng, entries: &mut [T], count: usize) {
 }
 
 /// One more entry at the end of a list, small numbers in it.
-fn widen(rng: &mut Rng, value: &mut PackedPolicy) {
+fn widen(rng: &mut Rng, value: &mut PolicyValue) {
     let (one, other) = (rng.below(8), rng.below(8));
     let user = rng.chance(1, 2);
     let (side, register) = match user {
@@ -327,22 +343,29 @@ fn widen(rng: &mut Rng, value: &mut PackedPolicy) {
         }
         4 => {
             let pair = Pair {
-                action: 7 - rng.below(2),
+                action: limit_action(rng),
                 user: one,
                 object: other,
             };
             append(&mut value.pairs.entries, &mut value.pairs.count, pair);
         }
         _ => {
-            let mut rule = PackedRule {
-                action: one,
-                count: 1,
-                ..PackedRule::default()
-            };
-            rule.words[0] = packed_word(&Word::User(other));
+            let rule = late_rule(rng, one, other);
             append(&mut value.rules.entries, &mut value.rules.count, rule);
         }
     }
+}
+
+/// A rule of one word, for any action or one at the limits of the forms.
+fn late_rule(rng: &mut Rng, action: u32, value: u32) -> RuleValue {
+    let limit = limit_action(rng);
+    let mut rule = RuleValue {
+        action: rng.pick(&[action, action + 8, limit]),
+        count: 1,
+        ..RuleValue::default()
+    };
+    rule.words[0] = word_number(&Word::User(value));
+    rule
 }
 
 /// A conflict of the greatest set that a side has, or of the number past it.
@@ -361,7 +384,7 @@ fn append<T>(entries: &mut [T], count: &mut usize, entry: T) {
     }
 }
 
-fn flip_bit(rng: &mut Rng, value: &mut PackedPolicy) {
+fn flip_bit(rng: &mut Rng, value: &mut PolicyValue) {
     match rng.chance(1, 4) {
         true => *count_of(rng, value) ^= 1 << rng.below(usize::BITS),
         false => *number_of(rng, value) ^= 1 << rng.below(u32::BITS),

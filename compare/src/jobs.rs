@@ -1,11 +1,12 @@
 //! The jobs that are measured: one call each, on one sample, or a list of calls.
 
-use crate::boundary::{Board, PackedPolicy, DONE, MOST_LABELS, MOST_TABLE, SESSIONS, TEXT_BYTES};
-use crate::engine::{Engine, Labels};
+use crate::boundary::{Board, PolicyValue, DONE, MOST_LABELS, MOST_TABLE, SESSIONS, TEXT_BYTES};
+use crate::engine::Engine;
 use crate::plain;
 use crate::plain::policy::Policy;
 use crate::sample::Sample;
 use crate::timing::{job, Job};
+use crate::widths::{Labels, Widths};
 use reference::machine::Call;
 use std::hint::black_box;
 
@@ -32,49 +33,58 @@ pub const NAMES: [&str; 18] = [
 ];
 
 /// The jobs of an engine behind the boundary.
-pub fn of_engine<'a, E: Engine>(engine: &'a E, sample: &'a Sample) -> [Job<'a>; NAMES.len()] {
-    let (packed, board, set) = (&sample.packed, &sample.board, sample.all_values());
+pub fn of_engine<'a, E: Engine, W: Widths>(
+    engine: &'a E,
+    sample: &'a Sample<W>,
+) -> [Job<'a>; NAMES.len()] {
+    let (value, board, set) = (&sample.value, &sample.board, sample.all_values());
     let labels = sample.labels();
     let on_full = |k: usize| {
         let calls = &sample.on_full[k];
         job(move || {
             let board = *black_box(&sample.full);
-            list_by_engine(engine, board, black_box(packed), &labels, calls)
+            list_by_engine(engine, board, black_box(value), &labels, calls)
         })
     };
     let mut text = [0; TEXT_BYTES];
     let mut tuples = [0; MOST_TABLE];
-    let mut users = [0; MOST_LABELS];
-    let mut objects = [0; MOST_LABELS];
-    let mut table = [0; MOST_TABLE];
+    let mut users = [W::Label::default(); MOST_LABELS];
+    let mut objects = [W::Label::default(); MOST_LABELS];
+    let mut table = [W::Entry::default(); MOST_TABLE];
     [
         job(move || engine.read(black_box(&sample.text))),
         job(move || engine.read(black_box(&sample.misspelt))),
         job(move || engine.read(black_box(&sample.no_form))),
         job(move || engine.read(black_box(&sample.endless))),
         job(move || engine.read(black_box(&sample.too_long))),
-        job(move || engine.valid(black_box(packed))),
-        job(move || engine.write(black_box(packed), &mut text)),
-        job(move || engine.compile(black_box(packed), &mut users, &mut objects, &mut table)),
-        job(move || engine.list(black_box(packed), 0, &mut tuples)),
-        job(move || engine.decide(black_box(packed), 0, set, set)),
+        job(move || engine.valid(black_box(value))),
+        job(move || engine.write(black_box(value), &mut text)),
+        job(move || {
+            let value = black_box(value);
+            W::compile(engine, value, &mut users, &mut objects, &mut table)
+        }),
+        job(move || engine.list(black_box(value), 0, &mut tuples)),
+        job(move || engine.decide(black_box(value), 0, set, set)),
         // Alike, so that every object set is looked at.
-        job(move || engine.apart(black_box(packed), set, set)),
-        job(move || engine.open(black_box(board), black_box(packed), 0, LAST, 0)),
-        job(move || engine.request(black_box(board), black_box(packed), &labels, 0, 0, 0)),
+        job(move || engine.apart(black_box(value), set, set)),
+        job(move || engine.open(black_box(board), black_box(value), 0, LAST, 0)),
+        job(move || {
+            let (board, value) = (black_box(board), black_box(value));
+            W::request(engine, board, value, &labels, 0, 0, 0)
+        }),
         on_full(0),
         on_full(1),
         on_full(2),
         on_full(3),
         job(move || {
             let board = engine.fresh();
-            list_by_engine(engine, board, black_box(packed), &labels, &sample.calls)
+            list_by_engine(engine, board, black_box(value), &labels, &sample.calls)
         }),
     ]
 }
 
 /// The same jobs of plain Rust, with its own policy value by reference.
-pub fn by_reference(sample: &Sample) -> [Job<'_>; NAMES.len()] {
+pub fn by_reference<W: Widths>(sample: &Sample<W>) -> [Job<'_>; NAMES.len()] {
     let (policy, board, set) = (&sample.policy, &sample.board, sample.all_values());
     let labels = sample.labels();
     let on_full = |k: usize| {
@@ -86,9 +96,9 @@ pub fn by_reference(sample: &Sample) -> [Job<'_>; NAMES.len()] {
     };
     let mut text = [0; TEXT_BYTES];
     let mut tuples = [0; MOST_TABLE];
-    let mut users = [0; MOST_LABELS];
-    let mut objects = [0; MOST_LABELS];
-    let mut table = [0; MOST_TABLE];
+    let mut users = [W::Label::default(); MOST_LABELS];
+    let mut objects = [W::Label::default(); MOST_LABELS];
+    let mut table = [W::Entry::default(); MOST_TABLE];
     [
         job(move || plain::reader::read(black_box(&sample.text))),
         job(move || plain::reader::read(black_box(&sample.misspelt))),
@@ -98,7 +108,8 @@ pub fn by_reference(sample: &Sample) -> [Job<'_>; NAMES.len()] {
         job(move || plain::checks::valid(black_box(policy))),
         job(move || plain::writer::write(black_box(policy), &mut text)),
         job(move || {
-            plain::labels::compile(black_box(policy), &mut users, &mut objects, &mut table)
+            let policy = black_box(policy);
+            plain::labels::compile::<W>(policy, &mut users, &mut objects, &mut table)
         }),
         job(move || plain::tuples::list(black_box(policy), 0, &mut tuples)),
         job(move || plain::formula::decide(black_box(policy), 0, set, set)),
@@ -121,11 +132,11 @@ pub fn by_reference(sample: &Sample) -> [Job<'_>; NAMES.len()] {
 const LAST: u32 = SESSIONS as u32 - 1;
 
 /// The sum of the answers of a list of calls from a board on, and the board after it.
-fn list_by_engine<E: Engine>(
+fn list_by_engine<E: Engine, W: Widths>(
     engine: &E,
     mut board: Board,
-    policy: &PackedPolicy,
-    labels: &Labels,
+    policy: &PolicyValue,
+    labels: &Labels<W>,
     calls: &[Call],
 ) -> (u32, Board) {
     let mut sum = 0;
@@ -139,7 +150,7 @@ fn list_by_engine<E: Engine>(
                 session,
                 action,
                 object,
-            } => engine.request(&board, policy, labels, session, action, object),
+            } => W::request(engine, &board, policy, labels, session, action, object),
         };
         sum += step.answer;
         board = step.board;
@@ -147,10 +158,10 @@ fn list_by_engine<E: Engine>(
     (sum, board)
 }
 
-fn list_by_reference(
+fn list_by_reference<W: Widths>(
     mut board: Board,
     policy: &Policy,
-    labels: &Labels,
+    labels: &Labels<W>,
     calls: &[Call],
 ) -> (u32, Board) {
     use plain::board::{add, close, drop, open, request};
@@ -178,87 +189,115 @@ mod tests {
     use super::*;
     use crate::engine::Archive;
     use crate::plain::Plain;
-    use crate::sample::SIZES;
+    use crate::sample::{Size, FORM_1_SIZES, FORM_2_SIZES};
+    use crate::widths::{Widths8x16, Widths8x8};
 
     /// What writing, listing and compiling leave in their buffers.
-    type Left = (
-        [u8; TEXT_BYTES],
-        [u16; MOST_TABLE],
-        [u8; MOST_LABELS],
-        [u8; MOST_LABELS],
-        [u8; MOST_TABLE],
-    );
-
-    const EMPTY: Left = (
-        [0; TEXT_BYTES],
-        [0; MOST_TABLE],
-        [0; MOST_LABELS],
-        [0; MOST_LABELS],
-        [0; MOST_TABLE],
-    );
-
-    fn left_by_engine<E: Engine>(engine: &E, policy: &PackedPolicy) -> Box<Left> {
-        let mut left = Box::new(EMPTY);
-        let (text, tuples, users, objects, table) = &mut *left;
-        assert_eq!(engine.write(policy, text).refusal, 0);
-        assert_eq!(engine.list(policy, 0, tuples).refusal, 0);
-        assert_eq!(engine.compile(policy, users, objects, table).refusal, 0);
-        left
+    #[derive(PartialEq)]
+    struct Left<W: Widths> {
+        text: Vec<u8>,
+        tuples: Vec<u16>,
+        users: Vec<W::Label>,
+        objects: Vec<W::Label>,
+        table: Vec<W::Entry>,
     }
 
-    fn left_by_reference(policy: &Policy) -> Box<Left> {
-        let mut left = Box::new(EMPTY);
-        let (text, tuples, users, objects, table) = &mut *left;
-        assert!(plain::writer::write(policy, text).is_ok());
-        assert!(plain::tuples::list(policy, 0, tuples).is_ok());
-        assert!(plain::labels::compile(policy, users, objects, table).is_ok());
-        left
+    impl<W: Widths> Left<W> {
+        fn nothing() -> Self {
+            Left {
+                text: vec![0; TEXT_BYTES],
+                tuples: vec![0; MOST_TABLE],
+                users: vec![W::Label::default(); MOST_LABELS],
+                objects: vec![W::Label::default(); MOST_LABELS],
+                table: vec![W::Entry::default(); MOST_TABLE],
+            }
+        }
+
+        fn by_engine(engine: &dyn Engine, policy: &PolicyValue) -> Self {
+            let mut left = Self::nothing();
+            let (users, objects) = (&mut left.users, &mut left.objects);
+            assert_eq!(engine.write(policy, &mut left.text).refusal, 0);
+            assert_eq!(engine.list(policy, 0, &mut left.tuples).refusal, 0);
+            let counts = W::compile(engine, policy, users, objects, &mut left.table);
+            assert_eq!(counts.refusal, 0);
+            left
+        }
+
+        fn by_reference(policy: &Policy) -> Self {
+            let mut left = Self::nothing();
+            let (users, objects) = (&mut left.users, &mut left.objects);
+            assert!(plain::writer::write(policy, &mut left.text).is_ok());
+            assert!(plain::tuples::list(policy, 0, &mut left.tuples).is_ok());
+            assert!(plain::labels::compile::<W>(policy, users, objects, &mut left.table).is_ok());
+            left
+        }
+    }
+
+    fn leave_the_same<W: Widths + PartialEq>(size: Size) {
+        let sample = Sample::<W>::of(size);
+        let due = Left::<W>::by_reference(&sample.policy);
+        assert!(Left::by_engine(&Archive, &sample.value) == due);
+        assert!(Left::by_engine(&Plain, &sample.value) == due);
     }
 
     #[test]
     fn all_sides_leave_the_same_in_buffers() {
-        for size in SIZES {
-            let sample = Sample::of(size);
-            let due = left_by_reference(&sample.policy);
-            assert!(left_by_engine(&Archive, &sample.packed) == due);
-            assert!(left_by_engine(&Plain, &sample.packed) == due);
-        }
+        FORM_1_SIZES
+            .into_iter()
+            .for_each(leave_the_same::<Widths8x8>);
+        FORM_2_SIZES
+            .into_iter()
+            .for_each(leave_the_same::<Widths8x16>);
     }
 
     /// All sides answer a list of calls from a board on alike.
-    fn answered_alike(sample: &Sample, board: Board, calls: &[Call]) {
-        let (packed, labels) = (&sample.packed, &sample.labels());
+    fn answered_alike<W: Widths>(sample: &Sample<W>, board: Board, calls: &[Call]) {
+        let (value, labels) = (&sample.value, &sample.labels());
         let due = list_by_reference(board, &sample.policy, labels, calls);
-        assert_eq!(list_by_engine(&Archive, board, packed, labels, calls), due);
-        assert_eq!(list_by_engine(&Plain, board, packed, labels, calls), due);
+        assert_eq!(list_by_engine(&Archive, board, value, labels, calls), due);
+        assert_eq!(list_by_engine(&Plain, board, value, labels, calls), due);
+    }
+
+    fn lists_answered_alike<W: Widths>(size: Size) {
+        let sample = Sample::<W>::of(size);
+        answered_alike(&sample, Board::default(), &sample.calls);
+        for calls in &sample.on_full {
+            answered_alike(&sample, sample.full, calls);
+        }
     }
 
     #[test]
     fn all_sides_answer_every_list_alike() {
-        for size in SIZES {
-            let sample = Sample::of(size);
-            answered_alike(&sample, Board::default(), &sample.calls);
-            for calls in &sample.on_full {
-                answered_alike(&sample, sample.full, calls);
-            }
+        FORM_1_SIZES
+            .into_iter()
+            .for_each(lists_answered_alike::<Widths8x8>);
+        FORM_2_SIZES
+            .into_iter()
+            .for_each(lists_answered_alike::<Widths8x16>);
+    }
+
+    fn refused_as_called<W: Widths>(size: Size) {
+        let sample = Sample::<W>::of(size);
+        let lines = sample.endless.iter().filter(|&&byte| byte == 10).count();
+        for (text, refusal, line) in [
+            (&sample.misspelt, 5, 0),
+            (&sample.no_form, 6, 0),
+            (&sample.endless, 10, lines),
+            (&sample.too_long, 1, 0),
+        ] {
+            let reading = Archive.read(text);
+            assert_eq!((reading.refusal, reading.line), (refusal, line));
+            assert_eq!(Plain.read(text), reading);
         }
     }
 
     #[test]
     fn refused_texts_are_refused_as_they_are_called() {
-        for size in SIZES {
-            let sample = Sample::of(size);
-            let lines = sample.endless.iter().filter(|&&byte| byte == 10).count();
-            for (text, refusal, line) in [
-                (&sample.misspelt, 5, 0),
-                (&sample.no_form, 6, 0),
-                (&sample.endless, 10, lines),
-                (&sample.too_long, 1, 0),
-            ] {
-                let reading = Archive.read(text);
-                assert_eq!((reading.refusal, reading.line), (refusal, line));
-                assert_eq!(Plain.read(text), reading);
-            }
-        }
+        FORM_1_SIZES
+            .into_iter()
+            .for_each(refused_as_called::<Widths8x8>);
+        FORM_2_SIZES
+            .into_iter()
+            .for_each(refused_as_called::<Widths8x16>);
     }
 }

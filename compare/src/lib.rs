@@ -14,3 +14,4 @@ pub mod plain;
 pub mod sample;
 pub mod timing;
 pub mod value;
+pub mod widths;

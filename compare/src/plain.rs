@@ -15,6 +15,6 @@ pub mod reader;
 pub mod tuples;
 pub mod writer;
 
-mod packing;
+mod behind;
 
-pub use packing::{unpacked, Plain};
+pub use behind::{policy_of, Plain};

@@ -1,12 +1,13 @@
 //! The policies, boards and calls that are measured.
 
 use crate::boundary::{
-    Board, PackedCounts, PackedPolicy, Session, MOST_ACTIONS, MOST_LABELS, MOST_TABLE, SESSIONS,
-    TEXT_BYTES,
+    Board, Counts, PolicyValue, Session, FORM_1_ACTIONS, FORM_2_ACTIONS, MOST_LABELS, MOST_TABLE,
+    SESSIONS, TEXT_BYTES,
 };
-use crate::engine::{Archive, Engine, Labels};
+use crate::engine::{Archive, Engine};
 use crate::plain::policy::Policy;
-use crate::plain::{self, unpacked};
+use crate::plain::{self, policy_of};
+use crate::widths::{Labels, Widths};
 use reference::cases::Rng;
 use reference::machine::Call;
 use std::fmt::{self, Display};
@@ -14,6 +15,7 @@ use std::fmt::{self, Display};
 /// How many of each thing a policy has.
 #[derive(Clone, Copy)]
 pub struct Size {
+    pub form: u32,
     /// Of each side, all of one attribute, so that each pair of them may be a line of seniority.
     pub values: u32,
     pub users: u32,
@@ -28,6 +30,7 @@ pub struct Size {
 }
 
 const SMALL: Size = Size {
+    form: 1,
     values: 2,
     users: 2,
     objects: 4,
@@ -38,6 +41,7 @@ const SMALL: Size = Size {
 };
 
 const MIDDLE: Size = Size {
+    form: 1,
     values: 4,
     users: 8,
     objects: 16,
@@ -48,6 +52,7 @@ const MIDDLE: Size = Size {
 };
 
 const LARGE: Size = Size {
+    form: 1,
     values: 7,
     users: 32,
     objects: 64,
@@ -57,9 +62,10 @@ const LARGE: Size = Size {
     pairs: 0,
 };
 
-/// From a small policy to one at every limit but those of pairs and conflicts; then
-/// each once more with as many pairs as there can be, and with as many conflicts.
-pub const SIZES: [Size; 9] = [
+/// Of form 1: from a small policy to one at every limit but those of pairs and
+/// conflicts; then each once more with as many pairs as there can be, and with as many
+/// conflicts.
+pub const FORM_1_SIZES: [Size; 9] = [
     SMALL,
     MIDDLE,
     LARGE,
@@ -83,9 +89,36 @@ pub const SIZES: [Size; 9] = [
     },
 ];
 
+const LARGE_2: Size = Size {
+    form: 2,
+    rules: FORM_2_ACTIONS as u32,
+    ..LARGE
+};
+
+/// Of form 2, at the limits: with a rule for each action, and with pairs too.
+pub const FORM_2_SIZES: [Size; 2] = [
+    LARGE_2,
+    Size {
+        pairs: 64,
+        ..LARGE_2
+    },
+];
+
+impl Size {
+    fn actions(&self) -> u32 {
+        match self.form {
+            1 => FORM_1_ACTIONS as u32,
+            _ => FORM_2_ACTIONS as u32,
+        }
+    }
+}
+
 impl Display for Size {
     fn fmt(&self, f: &mut fmt::Formatter<'_>) -> fmt::Result {
         write!(f, "{0} + {0}", self.values)?;
+        if self.form != 1 {
+            write!(f, ", form {}, {} rules", self.form, self.rules)?;
+        }
         for (count, kind) in [(self.pairs, "pairs"), (self.conflicts, "conflicts")] {
             if count > 0 {
                 write!(f, ", {count} {kind}")?;
@@ -95,8 +128,8 @@ impl Display for Size {
     }
 }
 
-/// What one size is measured on.
-pub struct Sample {
+/// What one size is measured on, with the stored widths of its form.
+pub struct Sample<W: Widths> {
     pub size: Size,
     pub text: Vec<u8>,
     /// The text with a word for its form, and with a form that there is none of: refused in line 0.
@@ -106,7 +139,7 @@ pub struct Sample {
     pub endless: Vec<u8>,
     /// A text of one byte more than any may have.
     pub too_long: Vec<u8>,
-    pub packed: PackedPolicy,
+    pub value: PolicyValue,
     pub policy: Policy,
     /// All sessions are open but the last.
     pub board: Board,
@@ -116,23 +149,24 @@ pub struct Sample {
     pub on_full: [Vec<Call>; 4],
     /// A thousand calls from a fresh board, none of them refused.
     pub calls: Vec<Call>,
-    compiled: Compiled,
+    compiled: Compiled<W>,
 }
 
 /// What compiling gave, in buffers that are always long enough.
-struct Compiled {
-    counts: PackedCounts,
-    users: [u8; MOST_LABELS],
-    objects: [u8; MOST_LABELS],
-    table: [u8; MOST_TABLE],
+struct Compiled<W: Widths> {
+    counts: Counts,
+    users: [W::Label; MOST_LABELS],
+    objects: [W::Label; MOST_LABELS],
+    table: [W::Entry; MOST_TABLE],
 }
 
-impl Compiled {
-    fn of(policy: &PackedPolicy) -> Self {
-        let mut users = [0; MOST_LABELS];
-        let mut objects = [0; MOST_LABELS];
-        let mut table = [0; MOST_TABLE];
-        let counts = Archive.compile(policy, &mut users, &mut objects, &mut table);
+impl<W: Widths> Compiled<W> {
+    fn of(policy: &PolicyValue) -> Self {
+        let mut users = [W::Label::default(); MOST_LABELS];
+        let mut objects = [W::Label::default(); MOST_LABELS];
+        let mut table = [W::Entry::default(); MOST_TABLE];
+        let counts = W::compile(&Archive, policy, &mut users, &mut objects, &mut table);
+        assert_eq!(counts.refusal, 0, "a sample of other widths");
         Compiled {
             counts,
             users,
@@ -142,12 +176,12 @@ impl Compiled {
     }
 }
 
-impl Sample {
+impl<W: Widths> Sample<W> {
     pub fn of(size: Size) -> Self {
         let text = text(size).into_bytes();
-        let packed = Archive.read(&text).policy;
-        let policy = unpacked(&packed);
-        assert!(Archive.valid(&packed), "a sample text is refused");
+        let value = Archive.read(&text).policy;
+        let policy = policy_of(&value);
+        assert!(Archive.valid(&value), "a sample text is refused");
         assert_eq!(plain::reader::read(&text), Ok(policy));
         Sample {
             size,
@@ -156,13 +190,13 @@ impl Sample {
             endless: text[..text.len() - "end\n".len()].to_vec(),
             too_long: vec![b'\n'; TEXT_BYTES + 1],
             text,
-            packed,
+            value,
             policy,
             board: board(size, &policy, SESSIONS - 1),
             full: board(size, &policy, SESSIONS),
             on_full: on_full(size, &policy),
             calls: calls(size, &policy),
-            compiled: Compiled::of(&packed),
+            compiled: Compiled::of(&value),
         }
     }
 
@@ -172,7 +206,7 @@ impl Sample {
     }
 
     /// What a request is lent.
-    pub fn labels(&self) -> Labels<'_> {
+    pub fn labels(&self) -> Labels<'_, W> {
         let compiled = &self.compiled;
         Labels {
             nu: compiled.counts.users,
@@ -192,7 +226,7 @@ fn in_place_of_form(text: &[u8], form: &[u8]) -> Vec<u8> {
 
 fn text(size: Size) -> String {
     let values = size.values;
-    let mut text = format!("policy,1\nuattr,{values}\noattr,{values}\n");
+    let mut text = format!("policy,{}\nuattr,{values}\noattr,{values}\n", size.form);
     for kind in ["usen", "osen"] {
         for senior in 1..values {
             for junior in 0..senior {
@@ -234,7 +268,7 @@ fn conflicts(size: Size) -> String {
 /// The pair lines, equally many of each action. Their user values are senior and
 /// their object values junior, which the fewest sets hold: much is left to formulas.
 fn pairs(size: Size) -> String {
-    let (actions, values) = (MOST_ACTIONS as u32, size.values);
+    let (actions, values) = (size.actions(), size.values);
     let mut pairs = Vec::new();
     for action in 0..actions {
         for k in 0..size.pairs / actions {
@@ -341,44 +375,67 @@ fn calls(size: Size, policy: &Policy) -> Vec<Call> {
 mod tests {
     use super::*;
     use crate::value::sessions;
+    use crate::widths::{Widths8x16, Widths8x8};
     use reference::machine::{run, step, Answer};
+    use reference::text::read;
 
-    #[test]
-    fn samples_have_the_lines_of_their_size() {
-        for size in SIZES {
-            let sample = Sample::of(size);
-            assert_eq!(sample.policy.pairs().len(), size.pairs as usize);
-            assert_eq!(sample.policy.conflicts().len(), size.conflicts as usize);
-        }
+    fn has_its_lines<W: Widths>(size: Size) {
+        let policy = Sample::<W>::of(size).policy;
+        assert_eq!(policy.form, size.form);
+        assert_eq!(policy.rules().len(), size.rules as usize);
+        assert_eq!(policy.pairs().len(), size.pairs as usize);
+        assert_eq!(policy.conflicts().len(), size.conflicts as usize);
     }
 
     #[test]
-    fn no_call_on_the_full_board_is_refused() {
-        for size in SIZES {
-            let sample = Sample::of(size);
-            let policy = reference::text::read(&sample.text).expect("accepted");
-            for calls in &sample.on_full {
-                let mut map = sessions(&sample.full);
-                assert_eq!(map.len(), SESSIONS);
-                for call in calls {
-                    let (after, answer) = step(&policy, &map, call);
-                    assert!(!matches!(answer, Answer::Refused(_)), "{call:?}");
-                    map = after;
-                }
+    fn samples_have_the_lines_of_their_size() {
+        FORM_1_SIZES
+            .into_iter()
+            .for_each(has_its_lines::<Widths8x8>);
+        FORM_2_SIZES
+            .into_iter()
+            .for_each(has_its_lines::<Widths8x16>);
+    }
+
+    fn none_refused_on_full<W: Widths>(size: Size) {
+        let sample = Sample::<W>::of(size);
+        let policy = read(&sample.text).expect("accepted");
+        for calls in &sample.on_full {
+            let mut map = sessions(&sample.full);
+            assert_eq!(map.len(), SESSIONS);
+            for call in calls {
+                let (after, answer) = step(&policy, &map, call);
+                assert!(!matches!(answer, Answer::Refused(_)), "{call:?}");
+                map = after;
             }
         }
     }
 
     #[test]
+    fn no_call_on_the_full_board_is_refused() {
+        FORM_1_SIZES
+            .into_iter()
+            .for_each(none_refused_on_full::<Widths8x8>);
+        FORM_2_SIZES
+            .into_iter()
+            .for_each(none_refused_on_full::<Widths8x16>);
+    }
+
+    fn none_refused<W: Widths>(size: Size) {
+        let sample = Sample::<W>::of(size);
+        let policy = read(&sample.text).expect("accepted");
+        let (answers, _) = run(&policy, &sample.calls);
+        let refused = answers
+            .iter()
+            .any(|answer| matches!(answer, Answer::Refused(_)));
+        assert!(!refused && answers.len() == 1000);
+    }
+
+    #[test]
     fn no_call_of_a_sample_is_refused() {
-        for size in SIZES {
-            let sample = Sample::of(size);
-            let policy = reference::text::read(&sample.text).expect("accepted");
-            let (answers, _) = run(&policy, &sample.calls);
-            let refused = answers
-                .iter()
-                .any(|answer| matches!(answer, Answer::Refused(_)));
-            assert!(!refused && answers.len() == 1000);
-        }
+        FORM_1_SIZES.into_iter().for_each(none_refused::<Widths8x8>);
+        FORM_2_SIZES
+            .into_iter()
+            .for_each(none_refused::<Widths8x16>);
     }
 }

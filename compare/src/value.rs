@@ -2,14 +2,15 @@
 //! implementation's lists.
 
 use crate::boundary::*;
+use reference::form::Form;
 use reference::machine::Sessions;
 use reference::policy::{self, Policy, Rule, Word};
 use reference::text::{read, write};
 
 /// The value that reading yields for a policy.
-pub fn packed(policy: &Policy) -> PackedPolicy {
-    PackedPolicy {
-        form: 1,
+pub fn value_of(policy: &Policy) -> PolicyValue {
+    PolicyValue {
+        form: policy.form.number,
         user: side(&policy.user_widths, &policy.user_seniority),
         object: side(&policy.object_widths, &policy.object_seniority),
         users: register(&policy.users),
@@ -58,16 +59,16 @@ fn conflicts(conflicts: &[policy::Conflict]) -> Conflicts {
     value
 }
 
-fn rules(rules: &[Rule]) -> PackedRules {
-    let mut value = PackedRules {
+fn rules(rules: &[Rule]) -> RulesValue {
+    let mut value = RulesValue {
         count: rules.len(),
-        ..PackedRules::default()
+        ..RulesValue::default()
     };
     for (entry, rule) in value.entries.iter_mut().zip(rules) {
         entry.action = rule.action;
         entry.count = rule.words.len();
         for (word, from) in entry.words.iter_mut().zip(&rule.words) {
-            *word = packed_word(from);
+            *word = word_number(from);
         }
     }
     value
@@ -84,52 +85,60 @@ fn pairs(pairs: &[policy::Pair]) -> Pairs {
     value
 }
 
-/// A word as kind × 65536 + first × 256 + second.
-pub fn packed_word(word: &Word) -> u32 {
-    let (kind, first, second) = match *word {
-        Word::True => (0, 0, 0),
-        Word::False => (1, 0, 0),
-        Word::Not => (2, 0, 0),
-        Word::And => (3, 0, 0),
-        Word::Or => (4, 0, 0),
-        Word::User(value) => (5, value, 0),
-        Word::Object(value) => (6, value, 0),
-        Word::Within(i, j) => (7, i, j),
-        Word::Same(i, j) => (8, i, j),
+/// The number of a word.
+pub fn word_number(word: &Word) -> u8 {
+    let number = match *word {
+        Word::True => 0,
+        Word::False => 1,
+        Word::Not => 2,
+        Word::And => 3,
+        Word::Or => 4,
+        Word::User(value) => 10 + value,
+        Word::Object(value) => 20 + value,
+        Word::Within(i, j) => 50 + 10 * i + j,
+        Word::Same(i, j) => 150 + 10 * i + j,
     };
-    kind * 65536 + first * 256 + second
+    u8::try_from(number).expect("a word of digits")
 }
 
-fn word(packed: u32) -> Option<Word> {
-    let (kind, first, second) = (packed / 65536, packed / 256 % 256, packed % 256);
-    let word = match kind {
+/// The word of a number, if it is one's.
+fn word(number: u8) -> Option<Word> {
+    let digits = |from: u32| {
+        (
+            (u32::from(number) - from) / 10,
+            (u32::from(number) - from) % 10,
+        )
+    };
+    let word = match number {
         0 => Word::True,
         1 => Word::False,
         2 => Word::Not,
         3 => Word::And,
         4 => Word::Or,
-        5 => Word::User(first),
-        6 => Word::Object(first),
-        7 => Word::Within(first, second),
-        8 => Word::Same(first, second),
+        10..=19 => Word::User(digits(10).1),
+        20..=29 => Word::Object(digits(20).1),
+        50..=149 => Word::Within(digits(50).0, digits(50).1),
+        150..=249 => Word::Same(digits(150).0, digits(150).1),
         _ => return None,
     };
-    (packed_word(&word) == packed).then_some(word)
+    Some(word)
 }
 
 /// The policy that a value is yielded for, if reading some text yields it:
 /// the text can only be the one that the value's own lists are written as.
-pub fn yielded(value: &PackedPolicy) -> Option<Policy> {
+pub fn yielded(value: &PolicyValue) -> Option<Policy> {
     let policy = read(&write(&lists(value)?)).ok()?;
-    (packed(&policy) == *value).then_some(policy)
+    (value_of(&policy) == *value).then_some(policy)
 }
 
-/// The lists up to the counts; none where a count is past its array or a word is none.
-fn lists(value: &PackedPolicy) -> Option<Policy> {
+/// The lists up to the counts; none where there is no such form, a count is past its
+/// array or a number is no word's.
+fn lists(value: &PolicyValue) -> Option<Policy> {
     let conflicts = value.conflicts.entries.get(..value.conflicts.count)?;
     let rules = value.rules.entries.get(..value.rules.count)?;
     let pairs = value.pairs.entries.get(..value.pairs.count)?;
     Some(Policy {
+        form: Form::numbered(value.form)?,
         user_widths: value.user.widths.get(..value.user.attributes)?.to_vec(),
         object_widths: value.object.widths.get(..value.object.attributes)?.to_vec(),
         user_seniority: lines(&value.user)?,
@@ -166,13 +175,13 @@ fn conflict(&Conflict { set, most }: &Conflict) -> policy::Conflict {
     policy::Conflict { set, most }
 }
 
-fn rule(rule: &PackedRule) -> Option<Rule> {
+fn rule(rule: &RuleValue) -> Option<Rule> {
     let words = rule.words.get(..rule.count)?;
     Some(Rule {
         action: rule.action,
         words: words
             .iter()
-            .map(|&packed| word(packed))
+            .map(|&number| word(number))
             .collect::<Option<_>>()?,
     })
 }
@@ -198,8 +207,8 @@ pub fn sessions(board: &Board) -> Sessions {
 mod tests {
     use super::*;
 
-    fn value(text: &str) -> PackedPolicy {
-        packed(&read(text.as_bytes()).expect("accepted"))
+    fn value(text: &str) -> PolicyValue {
+        value_of(&read(text.as_bytes()).expect("accepted"))
     }
 
     const TEXT: &str = "policy,1\nuattr,2\noattr,1\nusen,1,0\nuser,0,2\nobject,0,1\n\
@@ -208,10 +217,8 @@ mod tests {
     #[test]
     fn a_read_value_is_yielded() {
         let value = value(TEXT);
-        assert_eq!(
-            value.rules.entries[0].words[..4],
-            [0x50000, 0x60000, 0x30000, 0]
-        );
+        assert_eq!(value.form, 1);
+        assert_eq!(value.rules.entries[0].words[..4], [10, 20, 3, 0]);
         let second = Pair {
             action: 5,
             user: 0,
@@ -226,9 +233,9 @@ mod tests {
 
     #[test]
     fn the_blank_value_and_leftovers_are_not() {
-        assert_eq!(yielded(&PackedPolicy::default()), None);
+        assert_eq!(yielded(&PolicyValue::default()), None);
         let mut leftover = value(TEXT);
-        leftover.rules.entries[1].words[2] = 0x10000;
+        leftover.rules.entries[1].words[2] = 1;
         assert_eq!(yielded(&leftover), None);
         let mut leftover = value(TEXT);
         leftover.pairs.entries[PAIR_PLACES - 1].object = 1;
@@ -248,11 +255,37 @@ mod tests {
     }
 
     #[test]
-    fn only_the_packed_forms_are_words() {
-        let words = (0..0xA_0000)
-            .filter(|&packed| word(packed).is_some())
-            .count();
-        assert_eq!(words, 5 + 2 * 256 + 2 * 65536);
-        assert_eq!(word(u32::MAX), None);
+    fn the_form_is_the_values_own() {
+        let text = TEXT.replace("policy,1", "policy,2");
+        let mut value = value(&text);
+        assert_eq!(
+            (value.form, yielded(&value)),
+            (2, read(text.as_bytes()).ok())
+        );
+        value.form = 1;
+        assert_eq!(yielded(&value), read(TEXT.as_bytes()).ok());
+        value.rules.entries[1].action = 8;
+        assert_eq!(yielded(&value), None);
+        value.form = 2;
+        assert!(yielded(&value).is_some());
+        value.rules.entries[1].action = 16;
+        assert_eq!(yielded(&value), None);
+        value.form = 0;
+        assert_eq!(yielded(&value), None);
+    }
+
+    #[test]
+    fn a_number_is_one_words_or_none() {
+        let words = (0..=u8::MAX).filter_map(|number| Some((number, word(number)?)));
+        let words: Vec<(u8, Word)> = words.collect();
+        assert_eq!(words.len(), 5 + 2 * 10 + 2 * 100);
+        assert!(words
+            .iter()
+            .all(|(number, word)| word_number(word) == *number));
+        assert_eq!(word(13), Some(Word::User(3)));
+        assert_eq!(word(20), Some(Word::Object(0)));
+        assert_eq!(word(71), Some(Word::Within(2, 1)));
+        assert_eq!(word(249), Some(Word::Same(9, 9)));
+        assert_eq!([5, 9, 30, 49, 250, 255].map(word), [const { None }; 6]);
     }
 }

@@ -1,8 +1,10 @@
 //! The calls of `examples/` with their answers, on the engine.
 
 use helvemoik_compare::boundary::*;
-use helvemoik_compare::engine::{Archive, Engine, Labels};
+use helvemoik_compare::engine::{Archive, Engine};
+use helvemoik_compare::widths::{Labels, Widths, Widths8x16, Widths8x8};
 use reference::card_calls::{call_file, CardCall};
+use reference::form;
 use reference::machine::{Answer, Call};
 use std::fs;
 use std::path::{Path, PathBuf};
@@ -11,33 +13,80 @@ fn top() -> PathBuf {
     Path::new(env!("CARGO_MANIFEST_DIR")).join("..")
 }
 
-/// The engine with a card, its labels and a board.
+/// Labels and table of a card, as a compile of some widths fills them, or refuses to.
+struct Compiled<W: Widths> {
+    counts: Counts,
+    users: [W::Label; MOST_LABELS],
+    objects: [W::Label; MOST_LABELS],
+    table: [W::Entry; MOST_TABLE],
+}
+
+impl<W: Widths> Compiled<W> {
+    fn of(policy: &PolicyValue) -> Self {
+        let mut compiled = Compiled {
+            counts: Counts::default(),
+            users: [W::Label::default(); MOST_LABELS],
+            objects: [W::Label::default(); MOST_LABELS],
+            table: [W::Entry::default(); MOST_TABLE],
+        };
+        let (users, objects) = (&mut compiled.users, &mut compiled.objects);
+        compiled.counts = W::compile(&Archive, policy, users, objects, &mut compiled.table);
+        compiled
+    }
+
+    /// The answer by the labels of two sets; none where compiling was refused.
+    fn decide(&self, action: u32, user_set: u32, object_set: u32) -> Option<u32> {
+        if self.counts.refusal != 0 {
+            return None;
+        }
+        let user: u32 = self.users[user_set as usize].into();
+        let object: u32 = self.objects[object_set as usize].into();
+        let entry: u32 = self.table[(user * self.counts.objects + object) as usize].into();
+        Some(entry >> action & 1)
+    }
+
+    fn request(&self, board: &Board, policy: &PolicyValue, asked: [u32; 3]) -> Step {
+        let labels = Labels::<W> {
+            nu: self.counts.users,
+            no: self.counts.objects,
+            users: &self.users,
+            objects: &self.objects,
+            table: &self.table,
+        };
+        let [session, action, object] = asked;
+        W::request(&Archive, board, policy, &labels, session, action, object)
+    }
+}
+
+/// The refusal of compiling for some widths into buffers of these lengths.
+fn compile<W: Widths>(policy: &PolicyValue, rooms: [usize; 3]) -> u32 {
+    let [mut users, mut objects] = [0, 1].map(|side| vec![W::Label::default(); rooms[side]]);
+    let mut table = vec![W::Entry::default(); rooms[2]];
+    W::compile(&Archive, policy, &mut users, &mut objects, &mut table).refusal
+}
+
+/// The engine with a card, its labels in all widths, and a board.
 struct Screen {
-    policy: PackedPolicy,
-    counts: PackedCounts,
-    users: [u8; MOST_LABELS],
-    objects: [u8; MOST_LABELS],
-    table: [u8; MOST_TABLE],
+    policy: PolicyValue,
+    bytes: Compiled<Widths8x8>,
+    wide: Compiled<Widths8x16>,
     board: Board,
 }
 
 impl Screen {
     fn new(card: &[u8]) -> Self {
-        let mut screen = Screen {
-            policy: Archive.read(card).policy,
-            counts: PackedCounts::default(),
-            users: [0; MOST_LABELS],
-            objects: [0; MOST_LABELS],
-            table: [0; MOST_TABLE],
+        let policy = Archive.read(card).policy;
+        Screen {
+            policy,
+            bytes: Compiled::of(&policy),
+            wide: Compiled::of(&policy),
             board: Archive.fresh(),
-        };
-        screen.counts = Archive.compile(
-            &screen.policy,
-            &mut screen.users,
-            &mut screen.objects,
-            &mut screen.table,
-        );
-        screen
+        }
+    }
+
+    /// The widths of the card's form; of a card that is refused, any.
+    fn widths(&self) -> form::Widths {
+        form::Form::numbered(self.policy.form).map_or(form::WIDTHS_8_8, |form| form.widths)
     }
 
     fn answer(&mut self, call: CardCall) -> u32 {
@@ -48,15 +97,17 @@ impl Screen {
                 user_set,
                 object_set,
             } => self.decide(action, user_set, object_set),
-            CardCall::Session(call) => self.session(call),
+            CardCall::Session(call) => self.session(self.widths(), call),
+            CardCall::RequestFor { widths, request } => self.session(widths, request),
             CardCall::List { action, room } => {
                 done(Archive.list(policy, action, &mut vec![0; room]).refusal)
             }
             CardCall::Write { room } => done(Archive.write(policy, &mut vec![0; room]).refusal),
-            CardCall::Compile { rooms } => {
-                let [mut users, mut objects, mut table] = rooms.map(|room| vec![0; room]);
-                let counts = Archive.compile(policy, &mut users, &mut objects, &mut table);
-                done(counts.refusal)
+            CardCall::Compile { widths, rooms } => {
+                done(match widths.unwrap_or_else(|| self.widths()) {
+                    form::WIDTHS_8_8 => compile::<Widths8x8>(policy, rooms),
+                    _ => compile::<Widths8x16>(policy, rooms),
+                })
             }
             CardCall::Board {
                 session,
@@ -78,22 +129,18 @@ impl Screen {
             let by_tuples =
                 Archive.decide_by_tuples(&self.policy, user_set, object_set, &listing, count);
             assert_eq!(by_tuples, answer, "by tuples");
-            let row = usize::from(self.users[user_set as usize]) * self.counts.objects as usize;
-            let byte = self.table[row + usize::from(self.objects[object_set as usize])];
-            assert_eq!(u32::from(byte >> action & 1), answer, "by labels");
+            let by_labels = match self.widths() {
+                form::WIDTHS_8_8 => self.bytes.decide(action, user_set, object_set),
+                _ => self.wide.decide(action, user_set, object_set),
+            };
+            assert_eq!(by_labels, Some(answer), "by labels");
         }
         answer
     }
 
-    fn session(&mut self, call: Call) -> u32 {
+    /// A session call; a request is made for these widths.
+    fn session(&mut self, widths: form::Widths, call: Call) -> u32 {
         let (board, policy) = (&self.board, &self.policy);
-        let labels = Labels {
-            nu: self.counts.users,
-            no: self.counts.objects,
-            users: &self.users,
-            objects: &self.objects,
-            table: &self.table,
-        };
         let step = match call {
             Call::Open { user, session, set } => Archive.open(board, policy, user, session, set),
             Call::Add { user, session, set } => Archive.add(board, policy, user, session, set),
@@ -103,7 +150,13 @@ impl Screen {
                 session,
                 action,
                 object,
-            } => Archive.request(board, policy, &labels, session, action, object),
+            } => {
+                let asked = [session, action, object];
+                match widths {
+                    form::WIDTHS_8_8 => self.bytes.request(board, policy, asked),
+                    _ => self.wide.request(board, policy, asked),
+                }
+            }
         };
         self.board = step.board;
         step.answer

@@ -1,33 +1,75 @@
 //! The engine gives the answers that are due, and every answer comes up.
 
-use helvemoik_compare::comparison::{compare, Coverage, Plan};
+use helvemoik_compare::comparison::{compare, Cause, Coverage, Plan};
 use helvemoik_compare::engine::{Archive, Engine};
 use helvemoik_compare::plain::Plain;
 
 /// The answers of reading, refusals 1 to 10, 21 and 22 among them.
 const READINGS: [u32; 13] = [0, 1, 2, 3, 4, 5, 6, 7, 8, 9, 10, 21, 22];
 
+/// The kinds of calls with a policy, reading among them.
+const ON_A_POLICY: [&str; 15] = [
+    "add",
+    "apart",
+    "close",
+    "compile_8_16",
+    "compile_8_8",
+    "decide",
+    "decide by tuples",
+    "drop",
+    "list",
+    "open",
+    "read",
+    "request_8_16",
+    "request_8_8",
+    "valid",
+    "write",
+];
+
 /// The kinds of calls that go by what is granted, and so by pairs and by seniority too.
-const BY_GRANTS: [&str; 5] = ["apart", "compile", "decide", "list", "request"];
+const BY_GRANTS: [&str; 7] = [
+    "apart",
+    "compile_8_16",
+    "compile_8_8",
+    "decide",
+    "list",
+    "request_8_16",
+    "request_8_8",
+];
+
+/// Those that an action which form 1 lacks may decide.
+const BY_ACTIONS_ABOVE_7: [&str; 5] = ["apart", "compile_8_16", "decide", "list", "request_8_16"];
 
 /// The kinds of calls on a board, which check 11 may refuse for a conflict alone.
-const BY_CONFLICTS: [&str; 5] = ["add", "close", "drop", "open", "request"];
+const BY_CONFLICTS: [&str; 6] = [
+    "add",
+    "close",
+    "drop",
+    "open",
+    "request_8_16",
+    "request_8_8",
+];
+
+/// The kinds of calls that are made for stored widths, which check 11 may refuse alone.
+const BY_WIDTHS: [&str; 4] = ["compile_8_16", "compile_8_8", "request_8_16", "request_8_8"];
 
 /// The answers of each kind of call: 0 and above as the header has them, 11 and above refused.
-const ANSWERS: [(&str, &[u32]); 13] = [
+const ANSWERS: [(&str, &[u32]); 15] = [
     ("valid", &[0, 1]),
     ("write", &[0, 11, 20]),
     ("decide", &[0, 1, 11, 12, 19]),
     ("list", &[0, 11, 12, 20]),
     ("decide by tuples", &[0, 1, 11, 19, 20]),
-    ("compile", &[0, 11, 20]),
+    ("compile_8_8", &[0, 11, 20]),
+    ("compile_8_16", &[0, 11, 20]),
     ("apart", &[0, 1, 11, 19]),
     ("fresh", &[0]),
     ("open", &[2, 11, 13, 14, 16, 19, 23]),
     ("add", &[2, 11, 13, 14, 17, 18, 19, 23]),
     ("drop", &[2, 11, 13, 14, 17, 18, 19]),
     ("close", &[2, 11, 13, 14, 17, 18]),
-    ("request", &[0, 1, 11, 12, 13, 15, 17, 20]),
+    ("request_8_8", &[0, 1, 11, 12, 13, 15, 17, 20]),
+    ("request_8_16", &[0, 1, 11, 12, 13, 15, 17, 20]),
 ];
 
 fn covered(engine: &dyn Engine, plan: Plan) -> Coverage {
@@ -35,9 +77,13 @@ fn covered(engine: &dyn Engine, plan: Plan) -> Coverage {
     println!("{coverage}");
     assert!(coverage.texts() >= plan.texts && coverage.calls() >= plan.calls);
     assert_eq!(coverage.readings(), READINGS);
-    assert_eq!(coverage.by_pairs(), BY_GRANTS);
-    assert_eq!(coverage.by_conflicts(), BY_CONFLICTS);
-    assert_eq!(coverage.by_seniority(), BY_GRANTS);
+    assert_eq!(coverage.on_form(1), ON_A_POLICY);
+    assert_eq!(coverage.on_form(2), ON_A_POLICY);
+    assert_eq!(coverage.by(Cause::Pairs), BY_GRANTS);
+    assert_eq!(coverage.by(Cause::Conflicts), BY_CONFLICTS);
+    assert_eq!(coverage.by(Cause::Seniority), BY_GRANTS);
+    assert_eq!(coverage.by(Cause::Above7), BY_ACTIONS_ABOVE_7);
+    assert_eq!(coverage.by(Cause::Widths), BY_WIDTHS);
     for (kind, answers) in ANSWERS {
         assert_eq!(coverage.answers(kind), answers, "{kind}");
     }

@@ -7,19 +7,27 @@
 
 use helvemoik_compare::engine::Archive;
 use helvemoik_compare::jobs::{of_engine, NAMES};
-use helvemoik_compare::sample::{Sample, SIZES};
-use helvemoik_compare::timing::time;
+use helvemoik_compare::sample::{Sample, FORM_1_SIZES, FORM_2_SIZES};
+use helvemoik_compare::timing::{time, Job};
+use helvemoik_compare::widths::{Widths, Widths8x16, Widths8x8};
 use std::io::{stdin, BufRead};
 
-fn main() {
-    let samples = SIZES.map(Sample::of);
-    let mut jobs = Vec::new();
-    for sample in &samples {
+/// Names the jobs on some samples, and adds them to the list.
+fn add<'a, W: Widths>(jobs: &mut Vec<Job<'a>>, samples: &'a [Sample<W>]) {
+    for sample in samples {
         for (name, job) in NAMES.iter().zip(of_engine(&Archive, sample)) {
             println!("{name} | {}", sample.size);
             jobs.push(job);
         }
     }
+}
+
+fn main() {
+    let form_1 = FORM_1_SIZES.map(Sample::<Widths8x8>::of);
+    let form_2 = FORM_2_SIZES.map(Sample::<Widths8x16>::of);
+    let mut jobs = Vec::new();
+    add(&mut jobs, &form_1);
+    add(&mut jobs, &form_2);
     println!();
     for line in stdin().lock().lines() {
         let line = line.expect("readable input");

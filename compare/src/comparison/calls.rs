@@ -1,16 +1,15 @@
-//! Deciding, listing, compiling and telling apart.
+//! Deciding, listing and telling apart.
 
-use super::known::Known;
+use super::coverage::Cause;
+use super::known::{is_above_7, Known};
 use super::lent::{length_for, Lent};
 use super::{same, Outcome, Trial, What};
-use crate::boundary::{
-    Counted, PackedCounts, Separation, ALIKE, APART, DENIED, GRANTED, MOST_LABELS,
-};
+use crate::boundary::{Counted, Separation, ALIKE, APART, DENIED, GRANTED, MOST_LABELS};
 use crate::damage::{odd, odd_count};
 use reference::cases::{action, set};
 use reference::formula::{decide, reach, Formulas};
 use reference::labels::apart;
-use reference::policy::{Policy, Refusal, ACTIONS};
+use reference::policy::{Policy, Refusal};
 use reference::tuples::decide_by_tuples;
 
 /// A decision as the header numbers it.
@@ -29,12 +28,14 @@ impl Trial<'_> {
         (set(rng, sides.0, u32::MAX), set(rng, sides.1, u32::MAX))
     }
 
-    /// An action, mostly one that has a rule or a pair.
+    /// An action, mostly one that has a rule or a pair; now and then the first that the form
+    /// lacks.
     fn some_action(&mut self, known: &Known) -> u32 {
         let actions = known.actions();
-        match !actions.is_empty() && self.rng.chance(3, 4) {
-            true => self.rng.pick(&actions),
-            false => action(&mut self.rng, u32::MAX),
+        match self.rng.below(16) {
+            0 => known.form().actions,
+            1..=12 if !actions.is_empty() => self.rng.pick(&actions),
+            _ => action(&mut self.rng, known.form(), u32::MAX),
         }
     }
 
@@ -52,7 +53,7 @@ impl Trial<'_> {
     pub(super) fn deciding(&mut self, known: &Known) -> Outcome {
         let (action, user, object) = self.decision_on(known);
         let found = self.engine.decide(&known.value, action, user, object);
-        self.coverage.count_call("decide", found);
+        self.count("decide", known, found);
         let due = match &known.policy {
             None => 11,
             Some(policy) => decision(decide(policy, action, user, object)),
@@ -64,8 +65,8 @@ impl Trial<'_> {
         same(&what, &found, &due)
     }
 
-    /// Counts a decision on an action and two sets that would be another without pairs, or
-    /// with dominance by places alone.
+    /// Counts a decision on an action and two sets that would be another without pairs,
+    /// with dominance by places alone, or without the actions above 7.
     pub(super) fn count_decision(
         &mut self,
         kind: &'static str,
@@ -73,42 +74,53 @@ impl Trial<'_> {
         (action, user, object): (u32, u32, u32),
     ) {
         if known.by_pair_alone(action, user, object) {
-            self.coverage.count_by_pairs(kind);
+            self.coverage.count_cause(Cause::Pairs, kind);
         }
         if known.by_seniority(action, user, object) {
-            self.coverage.count_by_seniority(kind);
+            self.coverage.count_cause(Cause::Seniority, kind);
+        }
+        if is_above_7(action) && known.grants(action, user, object) {
+            self.coverage.count_cause(Cause::Above7, kind);
         }
     }
 
     /// Counts a result that has these actions, and would be another without their pairs, or
     /// with dominance by places alone.
-    fn count_result(&mut self, kind: &'static str, known: &Known, among: impl Fn(u32) -> bool) {
+    pub(super) fn count_result(
+        &mut self,
+        kind: &'static str,
+        known: &Known,
+        among: impl Fn(u32) -> bool,
+    ) {
         if known.some_pair_alone(&among) {
-            self.coverage.count_by_pairs(kind);
+            self.coverage.count_cause(Cause::Pairs, kind);
         }
         if known.some_by_seniority(&among) {
-            self.coverage.count_by_seniority(kind);
+            self.coverage.count_cause(Cause::Seniority, kind);
         }
     }
 
     pub(super) fn listing(&mut self, known: &Known) -> Outcome {
         let (action, ..) = self.decision_on(known);
         let tuples: &[u16] = match &known.policy {
-            Some(policy) if action < ACTIONS => known.tuples(policy, action),
+            Some(policy) if action < policy.actions() => known.tuples(policy, action),
             _ => &[],
         };
         let length = length_for(&mut self.rng, tuples.len());
         let mut buffer = Lent::filled(&mut self.rng, length);
         let found = self.engine.list(&known.value, action, buffer.part());
-        self.coverage.count_call("list", found.refusal);
+        self.count("list", known, found.refusal);
         let (refusal, stored) = match &known.policy {
             None => (11, &[][..]),
-            Some(_) if action >= ACTIONS => (12, &[][..]),
+            Some(policy) if action >= policy.actions() => (12, &[][..]),
             Some(_) if tuples.len() > length => (20, &[][..]),
             Some(_) => (0, tuples),
         };
         if refusal == 0 {
             self.count_result("list", known, |a| a == action);
+            if is_above_7(action) && !stored.is_empty() {
+                self.coverage.count_cause(Cause::Above7, "list");
+            }
         }
         let count = stored.len();
         let what = || format!("list {action} into {length}: {}", known.shown());
@@ -130,7 +142,7 @@ impl Trial<'_> {
         let found = self
             .engine
             .decide_by_tuples(policy, user, object, &listing, count);
-        self.coverage.count_call("decide by tuples", found);
+        self.count("decide by tuples", known, found);
         let due = match &known.policy {
             None => 11,
             Some(policy) => decision(decide_by_tuples(policy, user, object, &listing, count)),
@@ -146,80 +158,13 @@ impl Trial<'_> {
     fn some_listing(&mut self, known: &Known) -> Vec<u16> {
         match &known.policy {
             Some(policy) if self.rng.chance(3, 4) => {
-                let action = self.some_action(known) % ACTIONS;
+                let action = self.some_action(known) % policy.actions();
                 known.tuples(policy, action).to_vec()
             }
             _ => (0..self.rng.below(20))
                 .map(|_| self.rng.below(1 << 16) as u16)
                 .collect(),
         }
-    }
-
-    pub(super) fn compiling(&mut self, known: &Known) -> Outcome {
-        let needed = match &known.policy {
-            Some(policy) => {
-                let labelling = known.labelling(policy);
-                [
-                    labelling.user_labels.len(),
-                    labelling.object_labels.len(),
-                    labelling.table.len(),
-                ]
-            }
-            None => [4, 4, 16],
-        };
-        // Mostly enough; else one or more of them may be short.
-        let lengths = match self.rng.chance(1, 2) {
-            true => needed.map(|needed| needed + self.rng.index(3)),
-            false => needed.map(|needed| length_for(&mut self.rng, needed)),
-        };
-        self.compile_into(known, lengths)?;
-        Ok(())
-    }
-
-    /// Compiles into buffers of these lengths; the answer and the buffers after it.
-    pub(super) fn compile_into(
-        &mut self,
-        known: &Known,
-        lengths: [usize; 3],
-    ) -> Result<(PackedCounts, [Lent<u8>; 3]), String> {
-        let [mut users, mut objects, mut table] =
-            lengths.map(|length| Lent::filled(&mut self.rng, length));
-        let found = self
-            .engine
-            .compile(&known.value, users.part(), objects.part(), table.part());
-        self.coverage.count_call("compile", found.refusal);
-        let what = || format!("compile into {lengths:?}: {}", known.shown());
-        let labelling = known.policy.as_ref().map(|policy| known.labelling(policy));
-        let fits = labelling.is_some_and(|labelling| {
-            users.len() >= labelling.user_labels.len()
-                && objects.len() >= labelling.object_labels.len()
-                && table.len() >= labelling.table.len()
-        });
-        match labelling {
-            Some(labelling) if fits => {
-                let due = PackedCounts {
-                    refusal: 0,
-                    users: labelling.user_count as u32,
-                    objects: labelling.object_count as u32,
-                };
-                self.count_result("compile", known, |_| true);
-                same(&what, &found, &due)?;
-                users.starts_with(&what, &labelling.user_labels)?;
-                objects.starts_with(&what, &labelling.object_labels)?;
-                table.starts_with(&what, &labelling.table)?;
-            }
-            _ => {
-                let due = PackedCounts {
-                    refusal: if labelling.is_some() { 20 } else { 11 },
-                    ..PackedCounts::default()
-                };
-                same(&what, &found, &due)?;
-                users.unchanged(&what)?;
-                objects.unchanged(&what)?;
-                table.unchanged(&what)?;
-            }
-        }
-        Ok((found, [users, objects, table]))
     }
 
     /// Two user sets; now and then a senior alone and with its juniors, which only
@@ -247,10 +192,24 @@ impl Trial<'_> {
         (one, other)
     }
 
+    /// Counts a telling apart that would be another without pairs, with dominance by places
+    /// alone, or without the actions above 7.
+    fn count_told(&mut self, known: &Known, one: u32, other: u32, apart: bool) {
+        if apart && known.alike_without_pairs(one, other) {
+            self.coverage.count_cause(Cause::Pairs, "apart");
+        }
+        if known.told_by_seniority(one, other) {
+            self.coverage.count_cause(Cause::Seniority, "apart");
+        }
+        if apart && known.alike_without_above_7(one, other) {
+            self.coverage.count_cause(Cause::Above7, "apart");
+        }
+    }
+
     pub(super) fn telling_apart(&mut self, known: &Known) -> Outcome {
         let (one, other) = self.two_user_sets(known);
         let found = self.engine.apart(&known.value, one, other);
-        self.coverage.count_call("apart", found.answer);
+        self.count("apart", known, found.answer);
         let what = || format!("apart {one} {other}: {}", known.shown());
         let due = match &known.policy {
             None => 11,
@@ -260,11 +219,8 @@ impl Trial<'_> {
                 Ok(Some(_)) => APART,
             },
         };
-        if due == APART && known.alike_without_pairs(one, other) {
-            self.coverage.count_by_pairs("apart");
-        }
-        if (due == ALIKE || due == APART) && known.told_by_seniority(one, other) {
-            self.coverage.count_by_seniority("apart");
+        if due == ALIKE || due == APART {
+            self.count_told(known, one, other, due == APART);
         }
         same(&what, &found.answer, &due)?;
         match &known.policy {
@@ -284,7 +240,7 @@ impl Trial<'_> {
 fn separates(policy: &Policy, one: u32, other: u32, found: Separation, what: What) -> Outcome {
     let Separation { action, object, .. } = found;
     let formulas = Formulas::of(policy);
-    let true_witness = action < ACTIONS
+    let true_witness = action < policy.actions()
         && object < policy.object_sets()
         && formulas.grants(action, one, object) != formulas.grants(action, other, object);
     match true_witness {

@@ -3,16 +3,40 @@
 use std::collections::BTreeMap;
 use std::fmt::{self, Display};
 
-/// How often each answer was given, of reading and of each kind of call; how often
-/// a kind of call gave what pairs alone grant, how often it got 11 for a conflict
-/// alone, and how often seniority alone decided a dominance in it.
+/// How often something came up in each kind of call.
+type Kinds = BTreeMap<&'static str, u64>;
+
+/// What decided a call alone: without it the answer would have been another.
+#[derive(Debug, Clone, Copy, PartialEq, Eq, PartialOrd, Ord)]
+pub enum Cause {
+    /// What is granted is granted by pairs.
+    Pairs,
+    /// A board got 11 for a conflict.
+    Conflicts,
+    /// A senior in a dominance.
+    Seniority,
+    /// What is granted, or told apart, is an action that form 1 lacks.
+    Above7,
+    /// 11 for the widths that the call is made for.
+    Widths,
+}
+
+const CAUSES: [(Cause, &str); 5] = [
+    (Cause::Pairs, "granted by pairs"),
+    (Cause::Conflicts, "11 by conflicts"),
+    (Cause::Seniority, "d by seniority"),
+    (Cause::Above7, "action above 7"),
+    (Cause::Widths, "11 by widths"),
+];
+
+/// How often each answer was given, of reading and of each kind of call; how many of
+/// the calls had a good policy of each form, and how often one cause decided alone.
 #[derive(Debug, Default, Clone, PartialEq, Eq)]
 pub struct Coverage {
     texts: BTreeMap<u32, u64>,
     calls: BTreeMap<&'static str, BTreeMap<u32, u64>>,
-    by_pairs: BTreeMap<&'static str, u64>,
-    by_conflicts: BTreeMap<&'static str, u64>,
-    by_seniority: BTreeMap<&'static str, u64>,
+    forms: BTreeMap<u32, Kinds>,
+    causes: BTreeMap<Cause, Kinds>,
 }
 
 impl Coverage {
@@ -25,19 +49,14 @@ impl Coverage {
         *answers.entry(answer).or_default() += 1;
     }
 
-    /// Counts a call that would answer otherwise without the policy's pairs.
-    pub(super) fn count_by_pairs(&mut self, kind: &'static str) {
-        *self.by_pairs.entry(kind).or_default() += 1;
+    /// Counts a call, or a text that was accepted, with a good policy of a form.
+    pub(super) fn count_form(&mut self, kind: &'static str, form: u32) {
+        *self.forms.entry(form).or_default().entry(kind).or_default() += 1;
     }
 
-    /// Counts a call on a board that check 11 would not refuse without the policy's conflicts.
-    pub(super) fn count_by_conflicts(&mut self, kind: &'static str) {
-        *self.by_conflicts.entry(kind).or_default() += 1;
-    }
-
-    /// Counts a call that would answer otherwise if dominance went by places alone.
-    pub(super) fn count_by_seniority(&mut self, kind: &'static str) {
-        *self.by_seniority.entry(kind).or_default() += 1;
+    pub(super) fn count_cause(&mut self, cause: Cause, kind: &'static str) {
+        let kinds = self.causes.entry(cause).or_default();
+        *kinds.entry(kind).or_default() += 1;
     }
 
     /// How many calls there were, readings not among them.
@@ -61,20 +80,19 @@ impl Coverage {
             .map_or(Vec::new(), |answers| answers.keys().copied().collect())
     }
 
-    /// The kinds of calls that gave what pairs alone grant.
-    pub fn by_pairs(&self) -> Vec<&'static str> {
-        self.by_pairs.keys().copied().collect()
+    /// The kinds of calls that had a good policy of a form.
+    pub fn on_form(&self, form: u32) -> Vec<&'static str> {
+        kinds(self.forms.get(&form))
     }
 
-    /// The kinds of calls that got 11 for a conflict alone.
-    pub fn by_conflicts(&self) -> Vec<&'static str> {
-        self.by_conflicts.keys().copied().collect()
+    /// The kinds of calls that a cause decided alone.
+    pub fn by(&self, cause: Cause) -> Vec<&'static str> {
+        kinds(self.causes.get(&cause))
     }
+}
 
-    /// The kinds of calls in which seniority alone decided a dominance.
-    pub fn by_seniority(&self) -> Vec<&'static str> {
-        self.by_seniority.keys().copied().collect()
-    }
+fn kinds(counts: Option<&Kinds>) -> Vec<&'static str> {
+    counts.map_or(Vec::new(), |counts| counts.keys().copied().collect())
 }
 
 impl Display for Coverage {
@@ -89,10 +107,16 @@ impl Display for Coverage {
         for (kind, answers) in &self.calls {
             write_counts(f, kind, answers)?;
         }
-        writeln!(f, "by one kind of line alone")?;
-        write_counts(f, "granted by pairs", &self.by_pairs)?;
-        write_counts(f, "11 by conflicts", &self.by_conflicts)?;
-        write_counts(f, "d by seniority", &self.by_seniority)
+        writeln!(f, "with a good policy")?;
+        for (form, kinds) in &self.forms {
+            write_counts(f, &format!("of form {form}"), kinds)?;
+        }
+        writeln!(f, "by one thing alone")?;
+        for (cause, name) in CAUSES {
+            let none = Kinds::new();
+            write_counts(f, name, self.causes.get(&cause).unwrap_or(&none))?;
+        }
+        Ok(())
     }
 }
 

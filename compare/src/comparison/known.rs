@@ -1,27 +1,28 @@
 //! A policy value, and what the second implementation knows of it.
 
-use crate::boundary::PackedPolicy;
+use crate::boundary::{PolicyValue, MOST_ACTIONS};
 use crate::value::yielded;
+use reference::form::{Form, FORMS};
 use reference::formula::{is_senior, Formulas};
 use reference::labels::{apart, compile, Labelling};
-use reference::policy::{first_value, Policy, Rule, Word, ACTIONS};
+use reference::policy::{first_value, Policy, Rule, Word};
 use reference::spelled::spelled_out;
 use reference::text::write;
 use reference::tuples::{tuples, Stored};
 use std::cell::OnceCell;
 
 pub struct Known {
-    pub value: PackedPolicy,
+    pub value: PolicyValue,
     /// None where no text yields the value.
     pub policy: Option<Policy>,
     labelling: OnceCell<Labelling>,
-    tuples: [OnceCell<Vec<Stored>>; ACTIONS as usize],
+    tuples: [OnceCell<Vec<Stored>>; MOST_ACTIONS],
     by_places: OnceCell<Policy>,
 }
 
 impl Known {
     /// Finds out by itself whether the value is one that reading yields.
-    pub fn of(value: PackedPolicy) -> Self {
+    pub fn of(value: PolicyValue) -> Self {
         let policy = yielded(&value);
         Known {
             value,
@@ -30,6 +31,11 @@ impl Known {
             tuples: Default::default(),
             by_places: OnceCell::new(),
         }
+    }
+
+    /// The form of the policy; where there is none, any will do.
+    pub fn form(&self) -> Form {
+        self.policy.as_ref().map_or(FORMS[1], |policy| policy.form)
     }
 
     /// The text of the value, or the value where it has none.
@@ -74,6 +80,12 @@ impl Known {
             .collect()
     }
 
+    pub fn grants(&self, action: u32, user: u32, object: u32) -> bool {
+        self.policy
+            .as_ref()
+            .is_some_and(|policy| Formulas::of(policy).grants(action, user, object))
+    }
+
     /// Whether an action is granted at two sets by a pair and not by its formula.
     pub fn by_pair_alone(&self, action: u32, user: u32, object: u32) -> bool {
         self.policy.as_ref().is_some_and(|policy| {
@@ -92,12 +104,22 @@ impl Known {
 
     /// Whether two user sets are alike by the formulas.
     pub fn alike_without_pairs(&self, one: u32, other: u32) -> bool {
-        self.policy.as_ref().is_some_and(|policy| {
-            let formulas = Policy {
-                pairs: Vec::new(),
-                ..policy.clone()
-            };
-            apart(&formulas, one, other) == Ok(None)
+        self.alike_when(one, other, |policy| policy.pairs.clear())
+    }
+
+    /// Whether two user sets are alike by the actions that form 1 has.
+    pub fn alike_without_above_7(&self, one: u32, other: u32) -> bool {
+        self.alike_when(one, other, |policy| {
+            policy.rules.retain(|rule| !is_above_7(rule.action));
+            policy.pairs.retain(|pair| !is_above_7(pair.action));
+        })
+    }
+
+    /// Whether two user sets are alike when the policy is changed.
+    fn alike_when(&self, one: u32, other: u32, change: impl Fn(&mut Policy)) -> bool {
+        self.policy.clone().is_some_and(|mut policy| {
+            change(&mut policy);
+            apart(&policy, one, other) == Ok(None)
         })
     }
 
@@ -141,6 +163,11 @@ impl Known {
             alike(policy) != alike(by_places)
         })
     }
+}
+
+/// Whether form 1 lacks an action.
+pub fn is_above_7(action: u32) -> bool {
+    action >= FORMS[0].actions
 }
 
 /// The sets of each senior and junior in the user attribute of a word that asks for

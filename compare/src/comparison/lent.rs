@@ -1,8 +1,8 @@
 //! Buffers to lend, with all that surrounds them.
 
 use super::{same, Outcome, What};
+use crate::widths::Element;
 use reference::cases::Rng;
-use std::fmt::Debug;
 
 /// So many places before and after the lent part must stay too.
 const MARGIN: usize = 8;
@@ -13,13 +13,14 @@ pub struct Lent<T> {
     before: Vec<T>,
 }
 
-impl<T: Copy + PartialEq + Debug + From<u8>> Lent<T> {
+impl<T: Element> Lent<T> {
     pub fn filled(rng: &mut Rng, length: usize) -> Self {
         let first = rng.below(256);
         let step = 1 + 2 * rng.below(128);
-        let byte = |place: usize| (first + step * place as u32 % 256) as u8;
+        let byte = |place: usize| (first + step * place as u32 % 256) % 256;
+        // The byte in each half of a wider number.
         let whole: Vec<T> = (0..length + 2 * MARGIN)
-            .map(|place| T::from(byte(place)))
+            .map(|place| T::cut(byte(place) * 257))
             .collect();
         let before = whole.clone();
         Lent { whole, before }

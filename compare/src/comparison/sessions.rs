@@ -1,38 +1,19 @@
 //! Session calls: in lists from a fresh board, and one by one on any board.
 
+use super::buffers::{some_buffers, Buffers};
+use super::coverage::Cause;
 use super::known::Known;
 use super::{same, Outcome, Trial};
-use crate::boundary::{
-    Board, PackedStep, Session, DENIED, DONE, GRANTED, MOST_LABELS, OBJECT_NUMBERS, SESSIONS,
-};
+use crate::boundary::{Board, Session, Step, DENIED, DONE, GRANTED, OBJECT_NUMBERS, SESSIONS};
 use crate::damage::{board, damaged_board, odd};
-use crate::engine::{Engine, Labels};
+use crate::engine::Engine;
 use crate::value::sessions;
+use crate::widths::{at_widths, Labels, Widths};
 use reference::cases::{calls, Rng};
+use reference::form::{self, WIDTHS};
 use reference::formula::reach;
 use reference::machine::{step, Answer, Call, Sessions};
-use reference::policy::{Policy, ACTIONS};
-
-/// What a request is lent.
-struct Buffers {
-    nu: u32,
-    no: u32,
-    users: Vec<u8>,
-    objects: Vec<u8>,
-    table: Vec<u8>,
-}
-
-impl Buffers {
-    fn labels(&self) -> Labels<'_> {
-        Labels {
-            nu: self.nu,
-            no: self.no,
-            users: &self.users,
-            objects: &self.objects,
-            table: &self.table,
-        }
-    }
-}
+use reference::policy::Policy;
 
 /// A list of calls on its way: the board, and the machine's map beside it.
 struct Course {
@@ -40,23 +21,24 @@ struct Course {
     map: Sessions,
 }
 
-fn kind(call: &Call) -> &'static str {
+fn kind<W: Widths>(call: &Call) -> &'static str {
     match call {
         Call::Open { .. } => "open",
         Call::Add { .. } => "add",
         Call::Drop { .. } => "drop",
         Call::Close { .. } => "close",
-        Call::Request { .. } => "request",
+        Call::Request { .. } => W::REQUEST,
     }
 }
 
-fn by_engine(
+/// A call as the engine answers it; a request is made for the widths of what it is lent.
+fn by_engine<W: Widths>(
     engine: &dyn Engine,
     board: &Board,
     known: &Known,
-    labels: &Labels,
+    labels: &Labels<W>,
     call: &Call,
-) -> PackedStep {
+) -> Step {
     let policy = &known.value;
     match *call {
         Call::Open { user, session, set } => engine.open(board, policy, user, session, set),
@@ -67,7 +49,7 @@ fn by_engine(
             session,
             action,
             object,
-        } => engine.request(board, policy, labels, session, action, object),
+        } => W::request(engine, board, policy, labels, session, action, object),
     }
 }
 
@@ -81,18 +63,29 @@ fn number(answer: Answer) -> u32 {
     }
 }
 
+/// The widths that a policy's form has not.
+fn others(policy: &Policy) -> impl Iterator<Item = form::Widths> {
+    let own = policy.form.widths;
+    WIDTHS.into_iter().filter(move |&bits| bits != own)
+}
+
 impl Trial<'_> {
     /// A list of calls from a fresh board, with the compiled buffers, beside the plain machine.
     pub(super) fn list_of_calls(&mut self, known: &Known, count: u32) -> Outcome {
         let policy = known.policy.as_ref().expect("an accepted text");
-        let buffers = self.compiled(known, policy)?;
-        let labels = buffers.labels();
         // A long list now and then.
         let count = if self.rng.chance(1, 32) {
             8 * count
         } else {
             count
         };
+        at_widths!(policy.form.widths, W => self.list_for::<W>(known, policy, count))
+    }
+
+    /// A list of calls, made for these widths, which are those of the policy's form.
+    fn list_for<W: Widths>(&mut self, known: &Known, policy: &Policy, count: u32) -> Outcome {
+        let buffers = self.compiled::<W>(known, policy)?;
+        let (labels, before) = (buffers.labels(), buffers.clone());
         let board = self.engine.fresh();
         self.coverage.count_call("fresh", 0);
         same(&|| "a fresh board".to_string(), &board, &Board::default())?;
@@ -104,26 +97,31 @@ impl Trial<'_> {
         for call in self.requests_by_dominance(known, policy, &course.map) {
             self.next_call(known, policy, &labels, &mut course, call)?;
         }
-        Ok(())
+        let what = || format!("the buffers after a list: {}", known.shown());
+        same(&what, &buffers, &before)
     }
 
-    /// The next call of a list, beside the plain machine.
-    fn next_call(
+    /// The next call of a list, beside the plain machine. A request is now and then made
+    /// for other widths too.
+    fn next_call<W: Widths>(
         &mut self,
         known: &Known,
         policy: &Policy,
-        labels: &Labels,
+        labels: &Labels<W>,
         course: &mut Course,
         call: Call,
     ) -> Outcome {
         let Course { board, map } = course;
+        if matches!(call, Call::Request { .. }) && self.rng.chance(1, 8) {
+            self.request_for_others(known, policy, board, &call)?;
+        }
         let found = by_engine(self.engine, board, known, labels, &call);
-        self.coverage.count_call(kind(&call), found.answer);
+        self.count(kind::<W>(&call), known, found.answer);
         let (after, answer) = step(policy, map, &call);
         let what = || format!("{call:?} on {map:?}: {}", known.shown());
         same(&what, &found.answer, &number(answer))?;
         if let Some(decided) = decided_on(policy, map, &call, answer) {
-            self.count_decision("request", known, decided);
+            self.count_decision(W::REQUEST, known, decided);
         }
         same(&what, &sessions(&found.board), &after)?;
         same(
@@ -133,6 +131,30 @@ impl Trial<'_> {
         )?;
         *board = found.board;
         *map = after;
+        Ok(())
+    }
+
+    /// A request on a good board, made for each of the widths that the policy's form has not:
+    /// it gets 11, whatever else is wrong with it, and leaves the board.
+    fn request_for_others(
+        &mut self,
+        known: &Known,
+        policy: &Policy,
+        board: &Board,
+        call: &Call,
+    ) -> Outcome {
+        for bits in others(policy) {
+            at_widths!(bits, W => {
+                let buffers = Buffers::<W>::cut(known.labelling(policy));
+                let before = buffers.clone();
+                let found = by_engine(self.engine, board, known, &buffers.labels(), call);
+                self.count(W::REQUEST, known, found.answer);
+                self.coverage.count_cause(Cause::Widths, W::REQUEST);
+                let what = || format!("{call:?} made for {bits:?}: {}", known.shown());
+                same(&what, &found, &Step { answer: 11, board: *board })?;
+                same(&what, &buffers, &before)?;
+            });
+        }
         Ok(())
     }
 
@@ -156,11 +178,23 @@ impl Trial<'_> {
             action: rng.pick(&actions),
             object: rng.pick(&objects),
         };
-        (0..4).map(request).collect()
+        let mut requests: Vec<Call> = (0..16).map(request).collect();
+        // Those first that a senior does decide.
+        requests.sort_by_key(|call| {
+            let asked = decided_on(policy, map, call, Answer::Denied);
+            !asked.is_some_and(|(action, held, object)| known.by_seniority(action, held, object))
+        });
+        requests.truncate(4);
+        requests
     }
 
-    /// The buffers that compiling fills, longer than they need to be.
-    fn compiled(&mut self, known: &Known, policy: &Policy) -> Result<Buffers, String> {
+    /// The buffers that compiling fills, longer than they need to be. Now and then the calls
+    /// for other widths are tried too.
+    fn compiled<W: Widths>(
+        &mut self,
+        known: &Known,
+        policy: &Policy,
+    ) -> Result<Buffers<W>, String> {
         let labelling = known.labelling(policy);
         let lengths = [
             labelling.user_labels.len(),
@@ -168,32 +202,46 @@ impl Trial<'_> {
             labelling.table.len(),
         ];
         let lengths = lengths.map(|length| length + self.rng.index(3));
-        let (counts, [users, objects, table]) = self.compile_into(known, lengths)?;
+        if self.rng.chance(1, 4) {
+            for bits in others(policy) {
+                at_widths!(bits, V => { self.compile_into::<V>(known, lengths)?; });
+            }
+        }
+        let (counts, compiled) = self.compile_into::<W>(known, lengths)?;
         Ok(Buffers {
             nu: counts.users,
             no: counts.objects,
-            users: users.after().to_vec(),
-            objects: objects.after().to_vec(),
-            table: table.after().to_vec(),
+            users: compiled.users.after().to_vec(),
+            objects: compiled.objects.after().to_vec(),
+            table: compiled.table.after().to_vec(),
         })
     }
 
     /// One call on any board with any buffers.
     pub(super) fn session_call(&mut self, known: &Known) -> Outcome {
+        at_widths!(self.some_widths(known), W => self.session_call_for::<W>(known))
+    }
+
+    fn session_call_for<W: Widths>(&mut self, known: &Known) -> Outcome {
         let none = Policy::default();
         let policy = known.policy.as_ref().unwrap_or(&none);
         let mut board = board(&mut self.rng, policy);
         if self.rng.chance(1, 4) {
             board = damaged_board(&mut self.rng, policy, &board);
         }
-        let buffers = self.some_buffers(known);
+        let buffers = some_buffers::<W>(&mut self.rng, known);
+        let before = buffers.clone();
         let call = call_on(&mut self.rng, known, policy, &board);
         let found = by_engine(self.engine, &board, known, &buffers.labels(), &call);
-        self.coverage.count_call(kind(&call), found.answer);
-        let what = || format!("{call:?} on {:?}: {}", sessions(&board), known.shown());
+        self.count(kind::<W>(&call), known, found.answer);
         let map = sessions(&board);
-        if !self.sound(known, &map, &call) {
-            let due = PackedStep { answer: 11, board };
+        let what = || {
+            let (kind, policy) = (kind::<W>(&call), known.shown());
+            format!("{kind}: {call:?} on {map:?}: {policy}")
+        };
+        same(&what, &buffers, &before)?;
+        if !self.sound::<W>(known, &map, &call) {
+            let due = Step { answer: 11, board };
             return same(&what, &found, &due);
         }
         let (after, answer) = step(policy, &map, &call);
@@ -207,8 +255,9 @@ impl Trial<'_> {
         )
     }
 
-    /// Check 11, on a value and on the sessions of a board that a call is handed.
-    fn sound(&mut self, known: &Known, map: &Sessions, call: &Call) -> bool {
+    /// Check 11, on a value, on the sessions of a board and on the widths that a request is
+    /// made for.
+    fn sound<W: Widths>(&mut self, known: &Known, map: &Sessions, call: &Call) -> bool {
         let Some(policy) = &known.policy else {
             return false;
         };
@@ -217,43 +266,15 @@ impl Trial<'_> {
             assigned.is_some_and(|assigned| held & !reach(policy, assigned) == 0)
         });
         let may_be_held = map.values().all(|&(_, held)| policy.may_hold(held));
-        if in_reach && !may_be_held {
-            self.coverage.count_by_conflicts(kind(call));
+        let is_request = matches!(call, Call::Request { .. });
+        let own_widths = !is_request || policy.form.check(W::bits()).is_ok();
+        if in_reach && !may_be_held && own_widths {
+            self.coverage.count_cause(Cause::Conflicts, kind::<W>(call));
         }
-        in_reach && may_be_held
-    }
-
-    /// Compiled buffers, mostly with something wrong about them.
-    fn some_buffers(&mut self, known: &Known) -> Buffers {
-        let mut buffers = match &known.policy {
-            Some(policy) => {
-                let labelling = known.labelling(policy);
-                Buffers {
-                    nu: labelling.user_count as u32,
-                    no: labelling.object_count as u32,
-                    users: labelling.user_labels.clone(),
-                    objects: labelling.object_labels.clone(),
-                    table: labelling.table.clone(),
-                }
-            }
-            None => Buffers {
-                nu: 1,
-                no: 1,
-                users: vec![0; MOST_LABELS],
-                objects: vec![0; MOST_LABELS],
-                table: vec![0; 1],
-            },
-        };
-        let rng = &mut self.rng;
-        for _ in 0..rng.below(3) {
-            match rng.below(4) {
-                0 => buffers.nu = other_count(rng, buffers.nu),
-                1 => buffers.no = other_count(rng, buffers.no),
-                2 => shorten(rng, &mut buffers),
-                _ => overwrite(rng, &mut buffers),
-            }
+        if in_reach && may_be_held && !own_widths {
+            self.coverage.count_cause(Cause::Widths, kind::<W>(call));
         }
-        buffers
+        in_reach && may_be_held && own_widths
     }
 }
 
@@ -278,74 +299,17 @@ fn decided_on(
     }
 }
 
-/// Another NU or NO: near the right one or far off.
-fn other_count(rng: &mut Rng, count: u32) -> u32 {
-    match rng.below(6) {
-        0 => count + 1,
-        1 => count.saturating_sub(1),
-        2 => 0,
-        3 => u32::MAX,
-        _ => odd(rng),
-    }
-}
-
-fn any_of<'a>(rng: &mut Rng, buffers: &'a mut Buffers) -> &'a mut Vec<u8> {
-    match rng.below(3) {
-        0 => &mut buffers.users,
-        1 => &mut buffers.objects,
-        _ => &mut buffers.table,
-    }
-}
-
-/// One buffer gets short by one, empty or of any length below its own.
-fn shorten(rng: &mut Rng, buffers: &mut Buffers) {
-    let how = rng.below(3);
-    let any = rng.below(1 << 14) as usize;
-    let buffer = any_of(rng, buffers);
-    let length = match how {
-        0 => buffer.len().saturating_sub(1),
-        1 => 0,
-        _ => any % (buffer.len() + 1),
-    };
-    buffer.truncate(length);
-}
-
-/// One buffer gets other bytes, from its start or all over.
-fn overwrite(rng: &mut Rng, buffers: &mut Buffers) {
-    let most = rng.pick(&[2, 256]);
-    let filled = {
-        let length = any_of(rng, buffers).len();
-        (0..length).map(|_| rng.below(most) as u8).collect()
-    };
-    *any_of(rng, buffers) = filled;
-}
-
 /// The machine's answer, but a request that is not refused goes by the buffers that it is lent.
-fn by_buffers(
+fn by_buffers<W: Widths>(
     policy: &Policy,
     map: &Sessions,
-    buffers: &Buffers,
+    buffers: &Buffers<W>,
     call: &Call,
     answer: Answer,
 ) -> u32 {
     match decided_on(policy, map, call, answer) {
-        Some((action, held, object)) => looked_up(buffers, held, object, action),
+        Some((action, held, object)) => buffers.looked_up(held, object, action),
         None => number(answer),
-    }
-}
-
-/// Document 01's sentence on request: one byte of each buffer, 20 where any of the three places is past its end.
-fn looked_up(buffers: &Buffers, held: u32, object: u32, action: u32) -> u32 {
-    let byte = |buffer: &[u8], place: u64| buffer.get(place as usize).map(|&b| u64::from(b));
-    let looked = || {
-        let user_label = byte(&buffers.users, u64::from(held))?;
-        let object_label = byte(&buffers.objects, u64::from(object))?;
-        let place = user_label * u64::from(buffers.no) + object_label;
-        byte(&buffers.table, place)
-    };
-    match looked() {
-        None => 20,
-        Some(entry) => (entry >> action & 1) as u32,
     }
 }
 
@@ -414,9 +378,10 @@ fn request_on(rng: &mut Rng, known: &Known, policy: &Policy, session: u32) -> Ca
     };
     let actions = known.actions();
     let action = match rng.below(12) {
+        0 if rng.chance(1, 2) => policy.actions(),
         0 => odd(rng),
-        1..=3 => rng.below(ACTIONS),
-        _ if actions.is_empty() => rng.below(ACTIONS),
+        1..=3 => rng.below(policy.actions()),
+        _ if actions.is_empty() => rng.below(policy.actions()),
         _ => rng.pick(&actions),
     };
     Call::Request {

@@ -3,26 +3,29 @@
 use super::known::Known;
 use super::lent::{length_for, Lent};
 use super::{same, Outcome, Trial};
-use crate::boundary::{Counted, PackedReading, TEXT_BYTES};
-use crate::value::packed;
+use crate::boundary::{Counted, Reading, TEXT_BYTES};
+use crate::value::value_of;
 use reference::text::{read, write};
 
 impl Trial<'_> {
     /// The text's policy value, or the blank value that stands beside a refusal.
     pub(super) fn reading(&mut self, text: &[u8]) -> Result<Known, String> {
         let due = match read(text) {
-            Ok(policy) => PackedReading {
-                policy: packed(&policy),
-                ..PackedReading::default()
+            Ok(policy) => Reading {
+                policy: value_of(&policy),
+                ..Reading::default()
             },
-            Err(refused) => PackedReading {
+            Err(refused) => Reading {
                 refusal: refused.refusal,
                 line: refused.line,
-                ..PackedReading::default()
+                ..Reading::default()
             },
         };
         let found = self.engine.read(text);
         self.coverage.count_text(found.refusal);
+        if due.refusal == 0 {
+            self.coverage.count_form("read", due.policy.form);
+        }
         let what = || format!("read {:?}", String::from_utf8_lossy(text));
         same(&what, &found, &due)?;
         Ok(Known::of(found.policy))
@@ -30,7 +33,7 @@ impl Trial<'_> {
 
     pub(super) fn validity(&mut self, known: &Known) -> Outcome {
         let found = self.engine.valid(&known.value);
-        self.coverage.count_call("valid", u32::from(found));
+        self.count("valid", known, u32::from(found));
         let what = || format!("valid {}", known.shown());
         same(&what, &found, &known.policy.is_some())
     }
@@ -58,7 +61,7 @@ impl Trial<'_> {
     fn write_into(&mut self, known: &Known, length: usize) -> Outcome {
         let mut buffer = Lent::filled(&mut self.rng, length);
         let found = self.engine.write(&known.value, buffer.part());
-        self.coverage.count_call("write", found.refusal);
+        self.count("write", known, found.refusal);
         let (refusal, text) = match &known.policy {
             None => (11, Vec::new()),
             Some(policy) => match write(policy) {

@@ -2,9 +2,9 @@
 
 use super::checks::valid;
 use super::formula::with_juniors;
-use super::policy::{Policy, Refusal, ACTIONS};
+use super::policy::{Policy, Refusal};
 use crate::boundary::{Board, Register, Session, SESSIONS};
-use crate::engine::Labels;
+use crate::widths::{Labels, Widths};
 
 fn set_of(register: &Register, number: u32) -> Option<u32> {
     let entries = &register.entries[..register.count];
@@ -139,16 +139,19 @@ fn belongs(entry: &Session, user: u32) -> Result<(), Refusal> {
 }
 
 /// Whether the labels of the held set and the object's set grant the action.
-pub fn request(
+pub fn request<W: Widths>(
     board: &Board,
     policy: &Policy,
-    labels: &Labels,
+    labels: &Labels<W>,
     session: u32,
     action: u32,
     object: u32,
 ) -> Result<bool, Refusal> {
     fits(policy, board)?;
-    if action >= ACTIONS {
+    if !policy.is_stored_in::<W>() {
+        return Err(Refusal::InvalidState);
+    }
+    if action >= policy.actions() {
         return Err(Refusal::UnknownAction);
     }
     if session as usize >= SESSIONS {
@@ -159,14 +162,14 @@ pub fn request(
     if !entry.is_open() {
         return Err(Refusal::SessionNotOpen);
     }
-    let byte = looked_up(labels, entry.held, object).ok_or(Refusal::BufferTooShort)?;
-    Ok(byte >> action & 1 == 1)
+    let entry = looked_up(labels, entry.held, object).ok_or(Refusal::BufferTooShort)?;
+    Ok(entry >> action & 1 == 1)
 }
 
-/// The table's byte at the labels of two sets, where all three places are there.
-fn looked_up(labels: &Labels, held: u32, object: u32) -> Option<u8> {
-    let user_label = *labels.users.get(held as usize)?;
-    let object_label = *labels.objects.get(object as usize)?;
-    let place = usize::from(user_label) * labels.no as usize + usize::from(object_label);
-    labels.table.get(place).copied()
+/// The table's entry at the labels of two sets, where all three places are there.
+fn looked_up<W: Widths>(labels: &Labels<W>, held: u32, object: u32) -> Option<u32> {
+    let user_label: u32 = (*labels.users.get(held as usize)?).into();
+    let object_label: u32 = (*labels.objects.get(object as usize)?).into();
+    let place = user_label as usize * labels.no as usize + object_label as usize;
+    labels.table.get(place).map(|&entry| entry.into())
 }

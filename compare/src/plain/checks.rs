@@ -1,8 +1,6 @@
 //! Checks 6 to 9 on what a line says, and check 11 on a policy value.
 
-use super::policy::{
-    Policy, Refusal, Rule, Rules, Word, ACTIONS, OBJECTS, TOGETHER, USERS, VALUES,
-};
+use super::policy::{Form, Policy, Refusal, Rule, Rules, Word, OBJECTS, TOGETHER, USERS, VALUES};
 use crate::boundary::{Conflict, Conflicts, Direct, Entry, Pair, Pairs, Register, SideValue};
 
 /// The sums and counts of one side that checks look at.
@@ -28,6 +26,25 @@ impl<'a> Shape<'a> {
     }
 }
 
+/// What rules and pairs name: actions, and the values of both sides.
+#[derive(Clone, Copy)]
+pub struct Shapes<'a> {
+    pub actions: u32,
+    pub user: Shape<'a>,
+    pub object: Shape<'a>,
+}
+
+impl<'a> Shapes<'a> {
+    /// Of a policy whose form and whose counts of attributes are good.
+    pub fn of(policy: &'a Policy) -> Self {
+        Shapes {
+            actions: policy.actions(),
+            user: Shape::of(&policy.user),
+            object: Shape::of(&policy.object),
+        }
+    }
+}
+
 /// A width is 1 to 7, and with it the sum is at most 7.
 pub fn width_fits(sum: u32, width: u32) -> bool {
     let most = VALUES as u32;
@@ -46,7 +63,7 @@ pub fn line_fits(widths: &[u32], line: Direct) -> bool {
     false
 }
 
-fn word_in_range(user: Shape, object: Shape, word: Word) -> bool {
+fn word_in_range(Shapes { user, object, .. }: Shapes, word: Word) -> bool {
     match word {
         Word::User(value) => u32::from(value) < user.values,
         Word::Object(value) => u32::from(value) < object.values,
@@ -57,7 +74,7 @@ fn word_in_range(user: Shape, object: Shape, word: Word) -> bool {
     }
 }
 
-fn widths_equal(user: Shape, object: Shape, word: Word) -> bool {
+fn widths_equal(Shapes { user, object, .. }: Shapes, word: Word) -> bool {
     match word {
         Word::Within(i, j) | Word::Same(i, j) => {
             user.widths[usize::from(i)] == object.widths[usize::from(j)]
@@ -82,20 +99,15 @@ fn balanced(words: &[Word]) -> bool {
 }
 
 /// Checks 6 to 9 of a rule, after the rule before it.
-pub fn rule_fits(
-    user: Shape,
-    object: Shape,
-    before: Option<u32>,
-    rule: &Rule,
-) -> Result<(), Refusal> {
+pub fn rule_fits(shapes: Shapes, before: Option<u32>, rule: &Rule) -> Result<(), Refusal> {
     let words = rule.words();
-    if rule.action >= ACTIONS || !words.iter().all(|&word| word_in_range(user, object, word)) {
+    if rule.action >= shapes.actions || !words.iter().all(|&word| word_in_range(shapes, word)) {
         return Err(Refusal::OutOfRange);
     }
     if before.is_some_and(|before| rule.action <= before) {
         return Err(Refusal::NotRising);
     }
-    if !words.iter().all(|&word| widths_equal(user, object, word)) {
+    if !words.iter().all(|&word| widths_equal(shapes, word)) {
         return Err(Refusal::UnequalWidths);
     }
     if !balanced(words) {
@@ -110,21 +122,24 @@ pub fn conflict_fits(user: Shape, conflict: Conflict) -> bool {
 }
 
 /// An action, a user value and an object value that there are.
-pub fn pair_fits(user: Shape, object: Shape, pair: Pair) -> bool {
-    pair.action < ACTIONS && pair.user < user.values && pair.object < object.values
+pub fn pair_fits(shapes: Shapes, pair: Pair) -> bool {
+    pair.action < shapes.actions
+        && pair.user < shapes.user.values
+        && pair.object < shapes.object.values
 }
 
 /// Check 11: whether reading some accepted text yields this value.
 pub fn valid(policy: &Policy) -> bool {
-    if policy.form != 1 || !side_valid(&policy.user) || !side_valid(&policy.object) {
+    let form = Form::numbered(policy.form);
+    if form.is_none() || !side_valid(&policy.user) || !side_valid(&policy.object) {
         return false;
     }
-    let (user, object) = (Shape::of(&policy.user), Shape::of(&policy.object));
-    register_valid(&policy.users, USERS, user.sets())
-        && register_valid(&policy.objects, OBJECTS, object.sets())
-        && conflicts_valid(&policy.conflicts, user)
-        && rules_valid(&policy.rules, user, object)
-        && pairs_valid(&policy.pairs, user, object)
+    let shapes = Shapes::of(policy);
+    register_valid(&policy.users, USERS, shapes.user.sets())
+        && register_valid(&policy.objects, OBJECTS, shapes.object.sets())
+        && conflicts_valid(&policy.conflicts, shapes.user)
+        && rules_valid(&policy.rules, shapes)
+        && pairs_valid(&policy.pairs, shapes)
 }
 
 fn side_valid(side: &SideValue) -> bool {
@@ -186,18 +201,30 @@ fn conflicts_valid(conflicts: &Conflicts, user: Shape) -> bool {
     })
 }
 
-fn rules_valid(rules: &Rules, user: Shape, object: Shape) -> bool {
+fn rules_valid(rules: &Rules, shapes: Shapes) -> bool {
     let Some((entries, rest)) = rules.entries.split_at_checked(rules.count) else {
         return false;
     };
     let mut before = None;
     for rule in entries {
-        if !words_blank_behind(rule) || rule_fits(user, object, before, rule).is_err() {
+        if !words_blank_behind(rule) || rule_fits(shapes, before, rule).is_err() {
             return false;
         }
         before = Some(rule.action);
     }
-    rest.iter().all(|&rule| rule == Rule::default())
+    rest.iter().all(is_blank)
+}
+
+fn is_blank(rule: &Rule) -> bool {
+    rule.action == 0 && rule.count == 0 && all_blank(&rule.words)
+}
+
+/// Whether words are all the blank one. All are looked at, so that the compiler can take
+/// several at once.
+fn all_blank(words: &[Word]) -> bool {
+    words
+        .iter()
+        .fold(true, |blank, &word| blank & (word == Word::True))
 }
 
 /// Whether a pair rises above the one before it.
@@ -205,16 +232,16 @@ pub fn pairs_rise(before: Pair, pair: Pair) -> bool {
     before < pair
 }
 
-fn pairs_valid(pairs: &Pairs, user: Shape, object: Shape) -> bool {
+fn pairs_valid(pairs: &Pairs, shapes: Shapes) -> bool {
     list_valid(&pairs.entries, pairs.count, pairs_rise, |pair| {
-        pair_fits(user, object, pair)
+        pair_fits(shapes, pair)
     })
 }
 
 /// One to 32 words, and the blank word behind them.
 fn words_blank_behind(rule: &Rule) -> bool {
     match rule.words.split_at_checked(rule.count) {
-        Some((words, rest)) => !words.is_empty() && rest.iter().all(|&word| word == Word::True),
+        Some((words, rest)) => !words.is_empty() && all_blank(rest),
         None => false,
     }
 }

@@ -2,7 +2,7 @@
 
 use super::checks::{valid, Shape};
 use super::pairs::{meets, pairs_of};
-use super::policy::{Policy, Refusal, Word, ACTIONS};
+use super::policy::{Policy, Refusal, Word};
 use crate::boundary::{SideValue, WIDTH_PLACES, WORD_PLACES};
 
 /// A set with all juniors of its values. Lines rise, so the last comes first.
@@ -56,6 +56,7 @@ impl Places {
         Places(places)
     }
 
+    #[inline]
     fn held(&self, attribute: u8, set: u32) -> u32 {
         let (start, mask) = self.0[usize::from(attribute)];
         set >> start & mask
@@ -77,6 +78,7 @@ impl Evaluator {
     }
 
     /// The truth of a balanced formula at a pair of sets.
+    #[inline]
     pub fn truth(&self, words: &[Word], user: Held, object: Held) -> bool {
         let mut stack = [false; WORD_PLACES + 1];
         let mut top = 0;
@@ -100,6 +102,7 @@ impl Evaluator {
         stack[top]
     }
 
+    #[inline]
     fn pushes(&self, word: Word, user: Held, object: Held) -> bool {
         match word {
             Word::True => true,
@@ -132,7 +135,7 @@ pub fn decide(policy: &Policy, action: u32, user: u32, object: u32) -> Result<bo
     if !valid(policy) {
         return Err(Refusal::InvalidState);
     }
-    if action >= ACTIONS {
+    if action >= policy.actions() {
         return Err(Refusal::UnknownAction);
     }
     if lacking(policy, user, object) {

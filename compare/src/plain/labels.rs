@@ -3,11 +3,12 @@
 use super::checks::{valid, Shape};
 use super::formula::{Evaluator, Held};
 use super::pairs::Rows;
-use super::policy::{Policy, Refusal, SETS};
+use super::policy::{Policy, Refusal, WideEntry, SETS};
 use super::tuples::object_sets;
+use crate::widths::{Element, Widths};
 
-/// A byte for each user set and object set, bit a for action a.
-type Grid = [[u8; SETS]; SETS];
+/// An entry for each user set and object set, bit a for action a.
+type Grid<E> = [[E; SETS]; SETS];
 
 /// NU and NO.
 #[derive(Debug, Clone, Copy, PartialEq, Eq)]
@@ -17,25 +18,25 @@ pub struct Counts {
 }
 
 /// The label of each row, and each label's lowest row.
-struct Classes {
-    labels: [u8; SETS],
+struct Classes<L> {
+    labels: [L; SETS],
     leaders: [usize; SETS],
     count: usize,
 }
 
 /// Fills the three buffers.
-pub fn compile(
+pub fn compile<W: Widths>(
     policy: &Policy,
-    users: &mut [u8],
-    objects: &mut [u8],
-    table: &mut [u8],
+    users: &mut [W::Label],
+    objects: &mut [W::Label],
+    table: &mut [W::Entry],
 ) -> Result<Counts, Refusal> {
-    if !valid(policy) {
+    if !valid(policy) || !policy.is_stored_in::<W>() {
         return Err(Refusal::InvalidState);
     }
     let rows = Shape::of(&policy.user).sets() as usize;
     let columns = Shape::of(&policy.object).sets() as usize;
-    let mut grid = [[0; SETS]; SETS];
+    let mut grid = [[W::Entry::default(); SETS]; SETS];
     fill(&mut grid, policy);
     let user = classify(&grid, rows, columns);
     let object = classify(&turned(&grid, rows, columns), columns, rows);
@@ -56,10 +57,10 @@ pub fn compile(
     })
 }
 
-fn fill(grid: &mut Grid, policy: &Policy) {
+fn fill<E: Element>(grid: &mut Grid<E>, policy: &Policy) {
     let evaluator = Evaluator::of(policy);
     let objects = object_sets(policy);
-    let rows = Rows::of(policy, policy.pairs(), &objects);
+    let rows = Rows::<E>::of(policy, policy.pairs(), &objects);
     for (set, row) in (0..Shape::of(&policy.user).sets()).zip(grid) {
         let user = Held::by_user(policy, set);
         let paired = rows.granted(user);
@@ -70,18 +71,18 @@ fn fill(grid: &mut Grid, policy: &Policy) {
 }
 
 /// Bit a is set exactly when the formula of action a is true.
-fn entry_of(policy: &Policy, evaluator: &Evaluator, user: Held, object: Held) -> u8 {
+fn entry_of<E: Element>(policy: &Policy, evaluator: &Evaluator, user: Held, object: Held) -> E {
     let mut entry = 0;
     for rule in policy.rules() {
         if evaluator.truth(rule.words(), user, object) {
             entry |= 1 << rule.action;
         }
     }
-    entry
+    E::cut(entry)
 }
 
-fn turned(grid: &Grid, rows: usize, columns: usize) -> Grid {
-    let mut turned = [[0; SETS]; SETS];
+fn turned<E: Element>(grid: &Grid<E>, rows: usize, columns: usize) -> Grid<E> {
+    let mut turned = [[E::default(); SETS]; SETS];
     for (i, row) in grid[..rows].iter().enumerate() {
         for (j, &entry) in row[..columns].iter().enumerate() {
             turned[j][i] = entry;
@@ -91,9 +92,9 @@ fn turned(grid: &Grid, rows: usize, columns: usize) -> Grid {
 }
 
 /// Equal rows share a label; labels count in order of their lowest row.
-fn classify(grid: &Grid, rows: usize, columns: usize) -> Classes {
+fn classify<L: Element, E: Element>(grid: &Grid<E>, rows: usize, columns: usize) -> Classes<L> {
     let mut classes = Classes {
-        labels: [0; SETS],
+        labels: [L::default(); SETS],
         leaders: [0; SETS],
         count: 0,
     };
@@ -107,7 +108,7 @@ fn classify(grid: &Grid, rows: usize, columns: usize) -> Classes {
             classes.leaders[label] = i;
             classes.count += 1;
         }
-        classes.labels[i] = label as u8;
+        classes.labels[i] = L::cut(label as u32);
     }
     classes
 }
@@ -123,12 +124,14 @@ pub fn apart(policy: &Policy, one: u32, other: u32) -> Result<Option<(u32, u32)>
     }
     let evaluator = Evaluator::of(policy);
     let objects = object_sets(policy);
-    let rows = Rows::of(policy, policy.pairs(), &objects);
+    let rows = Rows::<WideEntry>::of(policy, policy.pairs(), &objects);
     let users = [one, other].map(|set| Held::by_user(policy, set));
     let granted = users.map(|user| rows.granted(user));
     for (k, &object) in objects.iter().enumerate() {
-        let [one, other] =
-            [0, 1].map(|i| granted[i][k] | entry_of(policy, &evaluator, users[i], object));
+        let [one, other] = [0, 1].map(|i| {
+            let entry: WideEntry = entry_of(policy, &evaluator, users[i], object);
+            granted[i][k] | entry
+        });
         let unlike = one ^ other;
         if unlike != 0 {
             return Ok(Some((unlike.trailing_zeros(), object.set)));

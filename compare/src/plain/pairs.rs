@@ -4,6 +4,7 @@ use super::checks::Shape;
 use super::formula::Held;
 use super::policy::{Policy, SETS, VALUES};
 use crate::boundary::Pair;
+use crate::widths::Element;
 
 /// The pairs of an action. Pairs rise by their action first, so these stand together.
 pub fn pairs_of(policy: &Policy, action: u32) -> &[Pair] {
@@ -18,17 +19,17 @@ pub fn meets(pair: &Pair, user: Held, object: Held) -> bool {
     user.closed >> pair.user & object.closed >> pair.object & 1 == 1
 }
 
-/// A byte for each object set, bit a for action a.
-pub type Row = [u8; SETS];
+/// An entry for each object set, bit a for action a.
+pub type Row<E> = [E; SETS];
 
 /// Pairs, and for each object value the object sets that hold it or a junior of it.
-pub struct Rows<'a> {
+pub struct Rows<'a, E> {
     pairs: &'a [Pair],
-    /// All bits of a byte are set where the object set does. None where there is no pair.
-    holders: Vec<Row>,
+    /// All bits of an entry are set where the object set does. None where there is no pair.
+    holders: Vec<Row<E>>,
 }
 
-impl<'a> Rows<'a> {
+impl<'a, E: Element> Rows<'a, E> {
     /// Of some pairs of a valid policy and of all its object sets.
     pub fn of(policy: &Policy, pairs: &'a [Pair], objects: &[Held]) -> Self {
         let mut holders = Vec::new();
@@ -40,15 +41,15 @@ impl<'a> Rows<'a> {
     }
 
     /// The actions that pairs grant to a user set, at each object set.
-    pub fn granted(&self, user: Held) -> Row {
-        let mut actions = [0; VALUES];
+    pub fn granted(&self, user: Held) -> Row<E> {
+        let mut actions = [E::default(); VALUES];
         for pair in self.pairs {
-            let held = (user.closed >> pair.user & 1) as u8;
-            actions[pair.object as usize] |= held << pair.action;
+            let held = user.closed >> pair.user & 1;
+            actions[pair.object as usize] |= E::cut(held << pair.action);
         }
-        let mut row = [0; SETS];
+        let mut row = [E::default(); SETS];
         for (holder, actions) in self.holders.iter().zip(actions) {
-            for (entry, holds) in row.iter_mut().zip(holder) {
+            for (entry, &holds) in row.iter_mut().zip(holder) {
                 *entry |= holds & actions;
             }
         }
@@ -56,11 +57,11 @@ impl<'a> Rows<'a> {
     }
 }
 
-fn holding(value: u32, objects: &[Held]) -> Row {
-    let mut row = [0; SETS];
+fn holding<E: Element>(value: u32, objects: &[Held]) -> Row<E> {
+    let mut row = [E::default(); SETS];
     for (holds, object) in row.iter_mut().zip(objects) {
         if object.closed >> value & 1 == 1 {
-            *holds = u8::MAX;
+            *holds = E::FULL;
         }
     }
     row

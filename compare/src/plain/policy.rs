@@ -3,6 +3,7 @@
 use crate::boundary::{
     self, Conflict, Conflicts, Pair, Pairs, Register, SideValue, RULE_PLACES, WORD_PLACES,
 };
+use crate::widths::{Element, Widths};
 
 /// The most bytes of a text.
 pub const TEXT_BYTES: usize = boundary::TEXT_BYTES;
@@ -10,11 +11,34 @@ pub const TEXT_BYTES: usize = boundary::TEXT_BYTES;
 pub const VALUES: usize = boundary::MOST_VALUES;
 /// The most sets of a side.
 pub const SETS: usize = 1 << VALUES;
-pub const ACTIONS: u32 = boundary::MOST_ACTIONS as u32;
 pub const USERS: u32 = 32;
 pub const OBJECTS: u32 = boundary::OBJECT_NUMBERS as u32;
 /// The most values that a conflict lets a session hold.
 pub const TOGETHER: u32 = boundary::MOST_TOGETHER as u32;
+
+/// What goes by a form: its actions, and the bits of a label and of a table's entry.
+#[derive(Clone, Copy)]
+pub struct Form {
+    pub actions: u32,
+    pub bits: (u32, u32),
+}
+
+impl Form {
+    pub fn numbered(number: u32) -> Option<Self> {
+        let (actions, bits) = match number {
+            1 => (boundary::FORM_1_ACTIONS, (8, 8)),
+            2 => (boundary::FORM_2_ACTIONS, (8, 16)),
+            _ => return None,
+        };
+        Some(Form {
+            actions: actions as u32,
+            bits,
+        })
+    }
+}
+
+/// A table's entry that is wide enough for the actions of every form.
+pub type WideEntry = u16;
 
 #[derive(Debug, Clone, Copy, Default, PartialEq, Eq)]
 pub enum Word {
@@ -56,6 +80,17 @@ pub struct Policy {
 }
 
 impl Policy {
+    /// How many actions there are.
+    pub fn actions(&self) -> u32 {
+        Form::numbered(self.form).map_or(0, |form| form.actions)
+    }
+
+    /// Whether the policy's form stores labels and entries in these widths.
+    pub fn is_stored_in<W: Widths>(&self) -> bool {
+        let bits = (W::Label::BITS, W::Entry::BITS);
+        Form::numbered(self.form).is_some_and(|form| form.bits == bits)
+    }
+
     /// The conflicts in use; only of a policy that check 11 accepts.
     pub fn conflicts(&self) -> &[Conflict] {
         &self.conflicts.entries[..self.conflicts.count]

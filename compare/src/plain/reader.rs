@@ -1,9 +1,10 @@
 //! Reading a policy text.
 
 use super::checks::{
-    above, conflict_fits, line_fits, pair_fits, pairs_rise, rule_fits, sets_rise, width_fits, Shape,
+    above, conflict_fits, line_fits, pair_fits, pairs_rise, rule_fits, sets_rise, width_fits,
+    Shape, Shapes,
 };
-use super::policy::{Policy, Refusal, Rule, Word, OBJECTS, TEXT_BYTES, USERS};
+use super::policy::{Form, Policy, Refusal, Rule, Word, OBJECTS, TEXT_BYTES, USERS};
 use crate::boundary::{
     Conflict, Conflicts, Direct, Entry, Pair, Pairs, Register, SideValue, WORD_PLACES,
 };
@@ -72,9 +73,7 @@ fn read_line(policy: &mut Policy, before: Option<Kind>, rest: &mut &[u8]) -> Res
     match kind {
         Kind::Policy => {
             let [form] = numbers(fields)?;
-            if form != 1 {
-                return Err(Refusal::OutOfRange);
-            }
+            Form::numbered(form).ok_or(Refusal::OutOfRange)?;
             policy.form = form;
         }
         Kind::Uattr => add_width(&mut policy.user, numbers(fields)?)?,
@@ -262,8 +261,7 @@ fn add_rule<'a>(
         *word = word_of(field).ok_or(malformed)?;
     }
     let before = policy.rules().last().map(|rule| rule.action);
-    let (user, object) = (Shape::of(&policy.user), Shape::of(&policy.object));
-    rule_fits(user, object, before, &rule)?;
+    rule_fits(Shapes::of(policy), before, &rule)?;
     policy.rules.entries[policy.rules.count] = rule;
     policy.rules.count += 1;
     Ok(())
@@ -275,7 +273,7 @@ fn add_pair(policy: &mut Policy, [action, user, object]: [u32; 3]) -> Result<(),
         user,
         object,
     };
-    if !pair_fits(Shape::of(&policy.user), Shape::of(&policy.object), pair) {
+    if !pair_fits(Shapes::of(policy), pair) {
         return Err(Refusal::OutOfRange);
     }
     let Pairs { count, entries } = &mut policy.pairs;

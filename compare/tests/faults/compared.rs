@@ -3,26 +3,27 @@
 use super::seen::changed;
 use super::Fault::*;
 use super::Faulty;
-use helvemoik_compare::boundary::{PackedCounts, PackedPolicy, SideValue, MOST_ACTIONS};
+use helvemoik_compare::boundary::{Counts, PolicyValue, SideValue};
 use helvemoik_compare::engine::Engine;
 use helvemoik_compare::plain::formula::{with_seniors, Evaluator, Held};
 use helvemoik_compare::plain::policy::{Policy, Word};
-use helvemoik_compare::plain::{unpacked, Plain};
-use helvemoik_compare::value::packed_word;
+use helvemoik_compare::plain::{policy_of, Plain};
+use helvemoik_compare::value::word_number;
+use helvemoik_compare::widths::{Element, Widths};
 use reference::policy;
 
 impl Faulty {
     /// A policy value with each comparison that an engine with this fault misjudges as the
     /// truth value that it takes it for at two sets.
-    pub fn compared(&self, policy: &PackedPolicy, user: u32, object: u32) -> PackedPolicy {
+    pub fn compared(&self, policy: &PolicyValue, user: u32, object: u32) -> PolicyValue {
         changed(policy, |policy| {
-            let judged = unpacked(policy);
+            let judged = policy_of(policy);
             let evaluator = Evaluator::of(&judged);
             let [user, object] = self.looked_at(&judged, user, object);
             for (rule, from) in policy.rules.entries.iter_mut().zip(judged.rules()) {
                 for (number, &word) in rule.words.iter_mut().zip(from.words()) {
                     if self.misjudges(word) {
-                        *number = packed_word(match evaluator.truth(&[word], user, object) {
+                        *number = word_number(match evaluator.truth(&[word], user, object) {
                             true => &policy::Word::True,
                             false => &policy::Word::False,
                         });
@@ -32,28 +33,30 @@ impl Faulty {
         })
     }
 
-    /// Fills the table of a compiled policy as an engine with this fault judges the lowest
-    /// sets of the labels. Where it misjudges nothing, the table stays.
-    pub fn fill(
-        &self,
-        policy: &PackedPolicy,
-        counts: PackedCounts,
-        users: &[u8],
-        objects: &[u8],
-        table: &mut [u8],
-    ) {
-        let judged = unpacked(policy);
+    /// Whether an engine with this fault misjudges something in a valid policy.
+    pub fn misjudges_some(&self, policy: &PolicyValue) -> bool {
+        let judged = policy_of(policy);
         let mut words = judged.rules().iter().flat_map(|rule| rule.words());
-        if !words.any(|&word| self.misjudges(word)) {
-            return;
-        }
+        words.any(|&word| self.misjudges(word))
+    }
+
+    /// Fills the table of a compiled policy as an engine with this fault judges the lowest
+    /// sets of the labels.
+    pub fn fill<W: Widths>(
+        &self,
+        policy: &PolicyValue,
+        counts: Counts,
+        users: &[W::Label],
+        objects: &[W::Label],
+        table: &mut [W::Entry],
+    ) {
         let mut entries = table.iter_mut();
         for user in (0..counts.users).map(|label| lowest(users, label)) {
             let objects = (0..counts.objects).map(|label| lowest(objects, label));
             for (object, entry) in objects.zip(&mut entries) {
                 let judged = self.compared(policy, user, object);
                 let granted = |action| Plain.decide(&judged, action, user, object) << action;
-                *entry = (0..MOST_ACTIONS as u32).map(granted).sum::<u32>() as u8;
+                *entry = W::Entry::cut((0..W::Entry::BITS).map(granted).sum());
             }
         }
     }
@@ -84,8 +87,8 @@ impl Faulty {
 }
 
 /// The lowest set of a label that is in use.
-fn lowest(labels: &[u8], label: u32) -> u32 {
-    let place = labels.iter().position(|&l| u32::from(l) == label);
+fn lowest<L: Element>(labels: &[L], label: u32) -> u32 {
+    let place = labels.iter().position(|&l| l == L::cut(label));
     place.expect("a label in use") as u32
 }
 

@@ -22,17 +22,17 @@ impl Faulty {
         &self,
         which: Move,
         board: &Board,
-        policy: &PackedPolicy,
+        policy: &PolicyValue,
         user: u32,
         session: u32,
         set: u32,
-    ) -> PackedStep {
+    ) -> Step {
         let (takes_over, call): (_, fn(&_, &_, &_, _, _, _) -> _) = match which {
             Move::Open => (OpenTakesABoardOver, <Plain as Engine>::open),
             Move::Add => (AddTakesABoardOver, <Plain as Engine>::add),
             Move::Drop => (DropTakesABoardOver, <Plain as Engine>::drop),
         };
-        let call = |policy: &PackedPolicy| call(&Plain, board, policy, user, session, set);
+        let call = |policy: &PolicyValue| call(&Plain, board, policy, user, session, set);
         let due = self.on_board(takes_over, board, policy, call);
         let judged = match self.0 {
             Tests23Before19 => vec![DONE, 19, 23],
@@ -48,11 +48,11 @@ impl Faulty {
         };
         let free = call(&without_conflicts(policy));
         match self.refuses(which, board, policy, user, before, set) {
-            true if self.0 == KeepsWhat23Refuses => PackedStep {
+            true if self.0 == KeepsWhat23Refuses => Step {
                 answer: 23,
                 board: free.board,
             },
-            true => PackedStep {
+            true => Step {
                 answer: 23,
                 board: *board,
             },
@@ -65,7 +65,7 @@ impl Faulty {
         &self,
         which: Move,
         board: &Board,
-        policy: &PackedPolicy,
+        policy: &PolicyValue,
         user: u32,
         before: u32,
         set: u32,
@@ -108,11 +108,11 @@ impl Faulty {
         &self,
         takes_over: Fault,
         board: &Board,
-        policy: &PackedPolicy,
-        call: impl Fn(&PackedPolicy) -> PackedStep,
-    ) -> PackedStep {
+        policy: &PolicyValue,
+        call: impl Fn(&PolicyValue) -> Step,
+    ) -> Step {
         let due = call(policy);
-        let bad = PackedStep {
+        let bad = Step {
             answer: 11,
             board: *board,
         };
@@ -139,7 +139,7 @@ fn counted(conflict: &Conflict, held: u32) -> u32 {
 }
 
 /// Whether an entry of a board is over a conflict of a valid policy, by what it is taken to hold.
-fn over_somewhere(policy: &PackedPolicy, board: &Board, held: impl Fn(&Session) -> u32) -> bool {
+fn over_somewhere(policy: &PolicyValue, board: &Board, held: impl Fn(&Session) -> u32) -> bool {
     let over = |conflict: &Conflict| {
         let mut entries = board.sessions.iter();
         entries.any(|entry| counted(conflict, held(entry)) > conflict.most)
@@ -157,7 +157,7 @@ fn held_by(board: &Board, user: u32) -> u32 {
         .fold(0, |held, entry| held | entry.held)
 }
 
-fn assigned(policy: &PackedPolicy, user: u32) -> u32 {
+fn assigned(policy: &PolicyValue, user: u32) -> u32 {
     let mut users = policy.users.entries[..policy.users.count].iter();
     users
         .find(|entry| entry.number == user)

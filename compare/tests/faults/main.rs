@@ -2,14 +2,17 @@
 
 mod compared;
 mod held;
+mod read;
 mod seen;
+mod widths;
 
 use held::Move;
 use helvemoik_compare::boundary::*;
 use helvemoik_compare::comparison::{compare, Plan};
-use helvemoik_compare::engine::{Engine, Labels};
+use helvemoik_compare::engine::Engine;
 use helvemoik_compare::plain::Plain;
-use seen::{all_of, by_places, without_conflicts, without_pairs};
+use helvemoik_compare::widths::{Labels, Widths8x16, Widths8x8};
+use seen::{all_of, by_places, of_form_1, without_above_7, without_conflicts, without_pairs};
 
 /// The faults, and a list of them all.
 macro_rules! faults {
@@ -105,6 +108,31 @@ faults! {
     DominatesByOneLine,
     DominatesByObjectSeniority,
     SameBySeniority,
+    ReadsAction8InForm1,
+    ReadsAction16InForm2,
+    ReadsForm2AsForm1,
+    TakesAction8InForm1,
+    TakesAction16InForm2,
+    TakesNumbersOfNoWord,
+    WritesForm1,
+    DecidesAction8InForm1,
+    DecidesAction16InForm2,
+    ListsAction8InForm1,
+    TellsApartByEightActions,
+    LabelsByEightActions,
+    CutsEntries,
+    SwapsTheBytesOfEntries,
+    CompilesForm2InBytes,
+    CompilesForm1InWideEntries,
+    Tests20BeforeWidths,
+    WrongWidthTouchesABuffer,
+    RequestsAction8InForm1,
+    AnswersForm2ByBytes,
+    AnswersForm1ByWideEntries,
+    Tests12BeforeWidths,
+    LooksUpAtHalfThePlace,
+    LooksAtALowByte,
+    WrongWidthTidiesTheBoard,
 }
 
 use Fault::*;
@@ -112,31 +140,16 @@ use Fault::*;
 /// Plain Rust with one fault.
 struct Faulty(Fault);
 
-/// How many lines of a kind stand before a line.
-fn lines_before(text: &[u8], kind: &[u8], line: usize) -> usize {
-    let lines = text.split(|&byte| byte == b'\n').take(line);
-    lines.filter(|line| line.starts_with(kind)).count()
-}
-
 impl Engine for Faulty {
-    fn read(&self, text: &[u8]) -> PackedReading {
-        let mut reading = Plain.read(text);
-        let full =
-            |kind, most| reading.refusal == 7 && lines_before(text, kind, reading.line) == most;
-        match self.0 {
-            LineOffByOne if reading.refusal == 8 => reading.line += 1,
-            PolicyBesideARefusal if reading.refusal == 10 => reading.policy.form = 1,
-            Tests21Before7 if full(b"pair,", MOST_PAIRS) => reading.refusal = 21,
-            Tests22Before7 if full(b"conflict,", MOST_CONFLICTS) => reading.refusal = 22,
-            _ => {}
-        }
-        reading
+    fn read(&self, text: &[u8]) -> Reading {
+        self.reading(text)
     }
 
-    fn write(&self, policy: &PackedPolicy, buffer: &mut [u8]) -> Counted {
+    fn write(&self, policy: &PolicyValue, buffer: &mut [u8]) -> Counted {
         let seen = match self.0 {
             WritesNoPairs => without_pairs(policy),
             WritesNoConflicts => without_conflicts(policy),
+            WritesForm1 => of_form_1(policy),
             _ => self.seen(policy),
         };
         let written = Plain.write(&seen, buffer);
@@ -156,23 +169,25 @@ impl Engine for Faulty {
         written
     }
 
-    fn valid(&self, policy: &PackedPolicy) -> bool {
+    fn valid(&self, policy: &PolicyValue) -> bool {
         Plain.valid(&self.seen(policy))
     }
 
-    fn decide(&self, policy: &PackedPolicy, action: u32, user: u32, object: u32) -> u32 {
+    fn decide(&self, policy: &PolicyValue, action: u32, user: u32, object: u32) -> u32 {
         let seen = match self.0 {
             DecidesWithoutPairs => without_pairs(policy),
             DecidesByPlaces => by_places(policy),
             _ => self.compared(policy, user, object),
         };
-        match Plain.decide(&seen, action, user, object) {
-            19 if self.0 == DecidesAnySet => DENIED,
-            answer => answer,
+        match (self.0, Plain.decide(&seen, action, user, object)) {
+            (DecidesAnySet, 19) => DENIED,
+            (DecidesAction8InForm1, 12) if (policy.form, action) == (1, 8) => DENIED,
+            (DecidesAction16InForm2, 12) if (policy.form, action) == (2, 16) => DENIED,
+            (_, answer) => answer,
         }
     }
 
-    fn list(&self, policy: &PackedPolicy, action: u32, buffer: &mut [u16]) -> Counted {
+    fn list(&self, policy: &PolicyValue, action: u32, buffer: &mut [u16]) -> Counted {
         let seen = match self.0 {
             ListsWithoutPairs => without_pairs(policy),
             ListsThePairsOfAll => all_of(policy, action),
@@ -180,15 +195,19 @@ impl Engine for Faulty {
             _ => *policy,
         };
         let listed = Plain.list(&seen, action, buffer);
-        if self.0 == ListsThoughTooShort && listed.refusal == 20 {
-            buffer.fill(0);
+        match (self.0, listed.refusal) {
+            (ListsThoughTooShort, 20) => buffer.fill(0),
+            (ListsAction8InForm1, 12) if (policy.form, action) == (1, 8) => {
+                return Counted::default()
+            }
+            _ => {}
         }
         listed
     }
 
     fn decide_by_tuples(
         &self,
-        policy: &PackedPolicy,
+        policy: &PolicyValue,
         user: u32,
         object: u32,
         listing: &[u16],
@@ -201,33 +220,31 @@ impl Engine for Faulty {
         Plain.decide_by_tuples(policy, user, object, listing, count)
     }
 
-    fn compile(
+    fn compile_8_8(
         &self,
-        policy: &PackedPolicy,
+        policy: &PolicyValue,
         users: &mut [u8],
         objects: &mut [u8],
         table: &mut [u8],
-    ) -> PackedCounts {
-        let before = table.to_vec();
-        let seen = match self.0 {
-            CompilesWithoutPairs => without_pairs(policy),
-            CompilesByPlaces => by_places(policy),
-            _ => *policy,
-        };
-        let mut counts = Plain.compile(&seen, users, objects, table);
-        match self.0 {
-            LabelPerSet if counts.refusal == 0 => counts.users += 1,
-            LeavesTheTable => table.copy_from_slice(&before),
-            _ if counts.refusal == 0 => self.fill(policy, counts, users, objects, table),
-            _ => {}
-        }
-        counts
+    ) -> Counts {
+        self.compile::<Widths8x8>(policy, users, objects, table)
     }
 
-    fn apart(&self, policy: &PackedPolicy, one: u32, other: u32) -> Separation {
+    fn compile_8_16(
+        &self,
+        policy: &PolicyValue,
+        users: &mut [u8],
+        objects: &mut [u8],
+        table: &mut [u16],
+    ) -> Counts {
+        self.compile::<Widths8x16>(policy, users, objects, table)
+    }
+
+    fn apart(&self, policy: &PolicyValue, one: u32, other: u32) -> Separation {
         let seen = match self.0 {
             TellsApartWithoutPairs => without_pairs(policy),
             TellsApartByPlaces => by_places(policy),
+            TellsApartByEightActions => without_above_7(policy),
             _ => *policy,
         };
         let mut found = Plain.apart(&seen, one, other);
@@ -245,14 +262,7 @@ impl Engine for Faulty {
         board
     }
 
-    fn open(
-        &self,
-        board: &Board,
-        policy: &PackedPolicy,
-        user: u32,
-        session: u32,
-        set: u32,
-    ) -> PackedStep {
+    fn open(&self, board: &Board, policy: &PolicyValue, user: u32, session: u32, set: u32) -> Step {
         let mut step = self.taking(Move::Open, board, policy, user, session, set);
         match self.0 {
             OpensForAll if step.answer == 19 => {
@@ -268,14 +278,7 @@ impl Engine for Faulty {
         step
     }
 
-    fn add(
-        &self,
-        board: &Board,
-        policy: &PackedPolicy,
-        user: u32,
-        session: u32,
-        set: u32,
-    ) -> PackedStep {
+    fn add(&self, board: &Board, policy: &PolicyValue, user: u32, session: u32, set: u32) -> Step {
         let mut step = self.taking(Move::Add, board, policy, user, session, set);
         match self.0 {
             AddForgets => step.board = *board,
@@ -288,14 +291,7 @@ impl Engine for Faulty {
         step
     }
 
-    fn drop(
-        &self,
-        board: &Board,
-        policy: &PackedPolicy,
-        user: u32,
-        session: u32,
-        set: u32,
-    ) -> PackedStep {
+    fn drop(&self, board: &Board, policy: &PolicyValue, user: u32, session: u32, set: u32) -> Step {
         let mut step = self.taking(Move::Drop, board, policy, user, session, set);
         if self.0 == DropDropsAll && step.answer == DONE {
             step.board.sessions[session as usize].held = 0;
@@ -303,14 +299,14 @@ impl Engine for Faulty {
         step
     }
 
-    fn close(&self, board: &Board, policy: &PackedPolicy, user: u32, session: u32) -> PackedStep {
+    fn close(&self, board: &Board, policy: &PolicyValue, user: u32, session: u32) -> Step {
         let mut step = self.on_board(CloseTakesABoardOver, board, policy, |policy| {
             Plain.close(board, policy, user, session)
         });
         match self.0 {
             CloseKeeps => step.board = *board,
             OnlyOneIsOpen if step.answer == DONE && board.sessions[session as usize].live != 1 => {
-                step = PackedStep {
+                step = Step {
                     answer: 17,
                     board: *board,
                 };
@@ -320,29 +316,28 @@ impl Engine for Faulty {
         step
     }
 
-    fn request(
+    fn request_8_8(
         &self,
         board: &Board,
-        policy: &PackedPolicy,
-        labels: &Labels,
+        policy: &PolicyValue,
+        labels: &Labels<Widths8x8>,
         session: u32,
         action: u32,
         object: u32,
-    ) -> PackedStep {
-        let mut step = self.on_board(RequestTakesABoardOver, board, policy, |policy| {
-            Plain.request(board, policy, labels, session, action, object)
-        });
-        match self.0 {
-            RequestHeedsNu if step.answer <= GRANTED && labels.nu == 0 => step.answer = 20,
-            RequestSkipsCheck20 if step.answer == 20 => step.answer = DENIED,
-            RequestTidiesTheBoard => {
-                for entry in &mut step.board.sessions {
-                    entry.live = u32::from(entry.is_open());
-                }
-            }
-            _ => {}
-        }
-        step
+    ) -> Step {
+        self.request(board, policy, labels, [session, action, object])
+    }
+
+    fn request_8_16(
+        &self,
+        board: &Board,
+        policy: &PolicyValue,
+        labels: &Labels<Widths8x16>,
+        session: u32,
+        action: u32,
+        object: u32,
+    ) -> Step {
+        self.request(board, policy, labels, [session, action, object])
     }
 }
 
