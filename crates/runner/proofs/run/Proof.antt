@@ -1,11 +1,14 @@
 -- `runner::run` meets its contract: before place i the board and the answers are those of the first i items.
-use Prim.Native.Nat.{_-_, _≤_}
+use Prim.Native.Nat.{ℕ, _-_, _≤_}
 use mathlib.Core.Path.{_≡_, refl}
+use mathlib.Core.List.{List}
 use native.Mathlib.Omega.{arith}
 use lib.ListN.{length}
 use borrow.Author.Needs.{needs}
+use Rattle.policy.specs.declared.limits.Widths.{Widths}
 use Rattle.labels.specs.Compile.{lent}
 use Rattle.labels.specs.Inner.Table.{tableIn}
+use Rattle.labels.specs.declared.Counts.{Counts}
 use Rattle.board.specs.Board.{Labels, labelsOf, outOf, boardStep}
 use Rattle.runner.specs.Calls.{itemOf, itemsIn}
 use Rattle.runner.proofs.Outcome.{run-refused, run-answered}
@@ -13,23 +16,23 @@ use Rattle.runner.proofs.Weaving.{Reached, reached-none, reached-long, 
 use Rattle.runner.proofs.run.Statement.{statement}
 use Rattle.runner.proofs.run.Tie as tie
 
+-- what the calls are lent
+abbrev lentTo : Counts → Widths → List ℕ → List ℕ → List ℕ → List ℕ → Labels
+lentTo n w us os bs ws = labelsOf n (lent w us os (tableIn (w .entry) bs ws))
+
 abbrev Inv-loop : tie.InvT-loop
 Inv-loop policy counts widths users objects bytes wide calls answers₀ n board₀ i₀ answers board i =
     (n ≡ length (itemsIn calls)) × (n ≤ length answers₀)
-    × Reached (boardStep policy (labelsOf counts (lent widths users objects (tableIn (widths .entry) bytes wide)))) (itemsIn calls) board₀ answers₀ i board answers
+    × Reached (boardStep policy (lentTo counts widths users objects bytes wide)) (itemsIn calls) board₀ answers₀ i board answers
 
 abbrev μ-loop : tie.MeasureT-loop
 μ-loop policy counts widths users objects bytes wide calls answers₀ n board₀ i₀ answers board i = n - i
-
--- what the calls are lent
-abbrev lentTo : tie.Args → Labels
-lentTo a = labelsOf (a .counts) (lent (a .widths) (a .users .now) (a .objects .now) (tableIn (a .widths .entry) (a .bytes .now) (a .wide .now)))
 
 -- the answers keep their length
 long : (c : tie.At-loop Inv-loop μ-loop) → length (c .loop .answers) ≡ length (c .before .before .before .before .before .before .before .before .before .before .args .answers .now)
 long c =
     let a = c .before .before .before .before .before .before .before .before .before .before .args in
-    reached-long (boardStep (a .policy) (lentTo a)) (itemsIn (a .calls .now))
+    reached-long (boardStep (a .policy) (lentTo (a .counts) (a .widths) (a .users .now) (a .objects .now) (a .bytes .now) (a .wide .now))) (itemsIn (a .calls .now))
     (c .before .before .fresh .result) (a .answers .now) (c .loop .i) (c .loop .board) (c .loop .answers) (c .loop .inv .2) (rw (← c .loop .inv .0) (c .loop .inv .1))
 
 count-of-requires : tie.Need-count-of-requires Inv-loop μ-loop
@@ -42,7 +45,7 @@ returns : tie.Need-returns Inv-loop μ-loop
 returns c =
     let a = c .before .before .before .before .before .before .before .before .before .args in
     let n = c .before .before .count-of .ensures (a .calls .now) refl in
-    run-refused (a .policy) (lentTo a) (a .calls .now) (a .answers .now)
+    run-refused (a .policy) (lentTo (a .counts) (a .widths) (a .users .now) (a .objects .now) (a .bytes .now) (a .wide .now)) (a .calls .now) (a .answers .now)
     (c .before .fresh .result) (c .before .fresh .ensures) (omega arith)
 
 loop-holds : tie.Need-loop-holds Inv-loop μ-loop
@@ -50,7 +53,7 @@ loop-holds c =
     let a = c .before .before .before .before .before .before .before .before .before .args in (
       c .before .before .count-of .ensures (a .calls .now) refl,
       omega arith,
-      reached-none (boardStep (a .policy) (lentTo a)) (itemsIn (a .calls .now))
+      reached-none (boardStep (a .policy) (lentTo (a .counts) (a .widths) (a .users .now) (a .objects .now) (a .bytes .now) (a .wide .now))) (itemsIn (a .calls .now))
           (c .before .fresh .result) (a .answers .now),
     )
 
@@ -78,7 +81,7 @@ loop-again c =
     let a = l .before .before .before .before .before .before .before .before .before .before .args in (
       l .loop .inv .0,
       l .loop .inv .1,
-      reached-more (boardStep (a .policy) (lentTo a)) (itemsIn (a .calls .now))
+      reached-more (boardStep (a .policy) (lentTo (a .counts) (a .widths) (a .users .now) (a .objects .now) (a .bytes .now) (a .wide .now))) (itemsIn (a .calls .now))
           (l .before .before .fresh .result) (a .answers .now) (l .loop .i) (l .loop .board) (l .loop .answers) (l .loop .inv .2)
           (rw (← l .loop .inv .0) (c .before .before .before .before .loop-test .taken)) (rw (← l .loop .inv .0) (l .loop .inv .1))
           (itemOf (c .before .before .before .item-at .result)) (c .before .before .before .item-at .ensures)
@@ -93,7 +96,7 @@ returns-2 : tie.Need-returns-2 Inv-loop μ-loop
 returns-2 c =
     let l = c .before in
     let a = l .before .before .before .before .before .before .before .before .before .before .args in
-    run-answered (a .policy) (lentTo a) (a .calls .now) (a .answers .now) (l .loop .board)
+    run-answered (a .policy) (lentTo (a .counts) (a .widths) (a .users .now) (a .objects .now) (a .bytes .now) (a .wide .now)) (a .calls .now) (a .answers .now) (l .loop .board)
     (rw (← l .loop .inv .0) (l .loop .inv .1)) (l .before .before .fresh .result) (l .before .before .fresh .ensures) (l .loop .i) (l .loop .answers)
     (l .loop .inv .2) (rw (← l .loop .inv .0) (c .loop-test .left)) _ (l .loop .inv .0)
 
