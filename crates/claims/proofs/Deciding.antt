@@ -23,8 +23,7 @@ use Rattle.policy.specs.Policy.{Policy, sets, formulaIn}
 use Rattle.policy.specs.Read.{Accepted, readText}
 use Rattle.policy.specs.Value.{valueOf}
 use Rattle.policy.specs.Answers.{granted, denied, decided}
-use Rattle.policy.proofs.Values.{policy-value}
-use Rattle.policy.proofs.Valid.{yielded-valid}
+use Rattle.policy.proofs.Valid.{yielded-policy, yielded-valid}
 use Rattle.words.specs.declared.Holding.the-variants.{User}
 use Rattle.formula.specs.Truth.{Sets, at, holds, truth, formulaTrue, pairHolds, pairTrue, grants}
 use Rattle.formula.specs.Decide.{decide}
@@ -111,7 +110,7 @@ module _ (t : List ℕ) (p : Policy) (e : readText t ≡ Accepted p) where
       → decide (valueOf p) a s ≡ decided (grants p a s)
   unfolding decide firstBroken
   by-policy a ha s hu ho =
-      rw (policy-value p, yielded-valid t p e, lt-leb (actions (p .form)) a ha, lt-leb (sets (p .user)) (s .user) hu, lt-leb (sets (p .object)) (s .object) ho)
+      rw (yielded-policy t p e, yielded-valid t p e, lt-leb (actions (p .form)) a ha, lt-leb (sets (p .user)) (s .user) hu, lt-leb (sets (p .object)) (s .object) ho)
 
   pub decides : (a : ℕ) (s : Sets) → a < actions (p .form) → OfSides p s → Decides p a s
   decides a s ha h =
@@ -124,7 +123,7 @@ module _ (t : List ℕ) (p : Policy) (e : readText t ≡ Accepted p) where
       → decideByTuples (valueOf p) s listing n ≡ decided (any (eqb (stored p s)) (take n listing))
   unfolding decideByTuples firstBroken
   by-listing s h listing n l =
-      rw (policy-value p, yielded-valid t p e, lt-leb (sets (p .user)) (s .user) (h .0), lt-leb (sets (p .object)) (s .object) (h .1), le-ltb (length listing) n l)
+      rw (yielded-policy t p e, yielded-valid t p e, lt-leb (sets (p .user)) (s .user) (h .0), lt-leb (sets (p .object)) (s .object) (h .1), le-ltb (length listing) n l)
 
   pub equal-sets : (s : Sets) → OfSides p s → EqualSets p s
   equal-sets s h =

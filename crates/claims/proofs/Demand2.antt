@@ -18,10 +18,9 @@ use Rattle.policy.specs.Text.{textOf}
 use Rattle.policy.specs.Value.{valueOf, policyOf}
 use Rattle.policy.specs.Write.{write, writeBuffer}
 use Rattle.policy.specs.Answers.{refused}
-use Rattle.policy.proofs.Values.{policy-value}
 use Rattle.policy.proofs.Parts.{parts, whole}
 use Rattle.policy.proofs.RoundTrip.{read-sound, read-text, sound-read}
-use Rattle.policy.proofs.Valid.{yielded-valid, valid-iff, valid-stored}
+use Rattle.policy.proofs.Valid.{yielded-policy, yielded-valid, valid-iff, valid-stored}
 use Rattle.labels.specs.Compile.{likeUsers}
 use Rattle.labels.specs.Apart.{Separates, apartRefusal, Tells}
 use Rattle.labels.specs.declared.Apartness.{Apartness}
@@ -86,15 +85,15 @@ allowed t p e calls =
 
 -- ---- alike as Apart tells it
 
-told : (p : Policy) (u w : ℕ) (r : Apartness) → apartRefusal (valueOf p) u w ≡ none → Tells (valueOf p) u w r → Told p u w r
-told p u w Alike n x =
+told : (p : Policy) → policyOf (valueOf p) ≡ p → (u w : ℕ) (r : Apartness) → apartRefusal (valueOf p) u w ≡ none → Tells (valueOf p) u w r → Told p u w r
+told p back u w Alike n x =
     record {
-      alike = (λ e. likeUsers-iff p u w .0 (rw (policy-value p) at (x .1)), λ h. refl);
+      alike = (λ e. likeUsers-iff p u w .0 (rw back at (x .1)), λ h. refl);
       apart = λ y e. absurd (let z : _≡_ {A = ℕ} 0 1 = cc in omega arith);
       never-refused = λ y e. let z : _≡_ {A = ℕ} 0 1 = cc in omega arith;
     }
-told p u w (Apart y) n x =
-    let s : Separates p u w (y .action) (y .object) = rw (policy-value p) at (x .1) in
+told p back u w (Apart y) n x =
+    let s : Separates p u w (y .action) (y .object) = rw back at (x .1) in
     record {
       alike = (
         (λ e. absurd (let z : _≡_ {A = ℕ} 0 1 = cc in omega arith)),
@@ -103,7 +102,7 @@ told p u w (Apart y) n x =
       apart = λ z e. let q : y ≡ z = cc in rw (← q) s;
       never-refused = λ z e. let q : _≡_ {A = ℕ} 0 1 = cc in omega arith;
     }
-told p u w (Refused y) n x = let z : _≡_ {A = ℕ} 0 1 = cc in absurd (omega arith)
+told p back u w (Refused y) n x = let z : _≡_ {A = ℕ} 0 1 = cc in absurd (omega arith)
 
 -- ---- texts
 
@@ -112,7 +111,7 @@ module _ (t : List ℕ) (p : Policy) (e : readText t ≡ Accepted p) (buffer : L
   unfolding write writeBuffer firstBroken
   written-back =
       let h = le-ltb (length buffer) (length t) room in
-      record { count = rw (policy-value p, yielded-valid t p e, read-text t p e, h); bytes = rw (policy-value p, yielded-valid t p e, read-text t p e, h) }
+      record { count = rw (yielded-policy t p e, yielded-valid t p e, read-text t p e, h); bytes = rw (yielded-policy t p e, yielded-valid t p e, read-text t p e, h) }
 
 pub write-read : WriteClaim
 unfolding write writeBuffer firstBroken over
@@ -131,6 +130,7 @@ write-read v e buffer room =
 pub demand2 : Claim
 demand2 t p e =
     let ok = yielded-valid t p e in
+    let back = yielded-policy t p e in
     record {
       decides = decides t p e;
       dominates = dominates p (parts p (whole p (read-sound t p e) .lists));
@@ -140,10 +140,10 @@ demand2 t p e =
             users = λ u w hu hw. userLabel-iff p u w;
             objects = λ o q ho hq. objectLabel-iff p o q;
             told = λ u w hu hw r.
-                told p u w r (not-refused (valueOf p) u w ok (rw (policy-value p) hu) (rw (policy-value p) hw));
+                told p back u w r (not-refused (valueOf p) u w ok (rw back hu) (rw back hw));
           };
       allowed = allowed t p e;
-      said = record { passes = ok; says = policy-value p };
+      said = record { passes = ok; says = back };
       written-back = written-back t p e;
     }
 

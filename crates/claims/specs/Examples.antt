@@ -20,6 +20,7 @@ use Rattle.policy.specs.Answers.{Reply, done, granted, denied, refused}
 use Rattle.formula.specs.Truth.{at}
 use Rattle.formula.specs.Decide.{decide}
 use Rattle.tuples.specs.Tuples.{tuples, decideByTuples}
+use Rattle.policy.specs.Limits.{storedWidths}
 use Rattle.labels.specs.Compile.{lent, NU, NO, userResult, objectResult, tableResult}
 use Rattle.report.specs.Report.{report}
 use Rattle.board.specs.Machine.{Call, opens, adds, drops, closes, requests, entry, run, machine, policyIn}

@@ -35,10 +35,12 @@ enum-told : tie.Need-enum-told
 enum-told c = search needs
 
 returns : tie.Need-returns
-returns c = ?
+returns c =
+    let u = c .before .before in absurd (not-refused (gives-counts _ (u .before .pre)) (rw (c .enum-told .given .1) at (u .used .ensures)))
 
 returns-2 : tie.Need-returns-2
-returns-2 c = ?
+returns-2 c =
+    let u = c .before .before .before in counts-are _ (u .before .pre) (u .used .result) _ (u .used .ensures) (c .before .used2 .given .1)
 
 pub count-labels-spec : {M : Type 1} → statement M
 count-labels-spec = tie.close (tie.spec used-requires enum-known-used enum-told returns returns-2)
