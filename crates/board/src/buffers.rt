@@ -142,7 +142,15 @@ pub fn answer(
 {
     match asked {
         Asked::Of(held, object) => look_up(
-            counts, widths, users, objects, bytes, wide, action, held, object,
+            counts,
+            widths,
+            users,
+            objects,
+            bytes,
+            wide,
+            action,
+            held,
+            object,
         ),
         Asked::Refused(why) => Answer::Refused(why),
     }

@@ -80,13 +80,7 @@ pub extern "C" fn helvemoik_decide_by_tuples(
 ) -> u32
     ensures { λ r. ⌜ r ≡ replyNumber (decideByTuples policy (at user object) (now (listing .entry)) count) ⌝ }
 {
-    answer::decision(tuples::decide(
-        policy,
-        user,
-        object,
-        listing,
-        count,
-    ))
+    answer::decision(tuples::decide(policy, user, object, listing, count))
 }
 
 // Fills the three buffers with labels and table, both in bytes.
@@ -209,7 +203,15 @@ pub extern "C" fn helvemoik_request_8_8(
         objects: no,
     };
     answer::step(board::request_8_8(
-        board, policy, counts, users, objects, table, session, action, object,
+        board,
+        policy,
+        counts,
+        users,
+        objects,
+        table,
+        session,
+        action,
+        object,
     ))
 }
 
@@ -234,6 +236,14 @@ pub extern "C" fn helvemoik_request_8_16(
         objects: no,
     };
     answer::step(board::request_8_16(
-        board, policy, counts, users, objects, table, session, action, object,
+        board,
+        policy,
+        counts,
+        users,
+        objects,
+        table,
+        session,
+        action,
+        object,
     ))
 }

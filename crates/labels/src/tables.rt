@@ -12,7 +12,11 @@ const BYTE: u32 = 8;
 pub fn length(entry: u32, bytes: &[u8], wide: &[u16]) -> usize
     ensures { λ r. ⌜ r ≡ length (tableIn entry (now (bytes .entry)) (now (wide .entry))) ⌝ }
 {
-    if entry == BYTE { bytes.len() } else { wide.len() }
+    if entry == BYTE {
+        bytes.len()
+    } else {
+        wide.len()
+    }
 }
 
 // Stores an entry at a place.

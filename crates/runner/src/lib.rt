@@ -50,7 +50,15 @@ fn answer(
 {
     match item {
         Item::Is(call) => tables::take(
-            board, policy, counts, widths, users, objects, bytes, wide, call,
+            board,
+            policy,
+            counts,
+            widths,
+            users,
+            objects,
+            bytes,
+            wide,
+            call,
         ),
         Item::NoCall => Step {
             answer: Answer::Refused(Refusal::MalformedField),
@@ -92,7 +100,15 @@ fn run(
     while i < n {
         let item = list::item_at(calls, i);
         let step = answer(
-            board, policy, counts, widths, users, objects, bytes, wide, item,
+            board,
+            policy,
+            counts,
+            widths,
+            users,
+            objects,
+            bytes,
+            wide,
+            item,
         );
         let given = step.answer;
         answers[i] = byte_of(given);
