@@ -1,6 +1,6 @@
 -- The worked examples of document 01 ("One text through the lister", "Edges", "Plausible and false") and examples of
--- document 02's pairs, conflicts and dominance as one table: what the definitions say, beside what the documents say,
--- both as text.
+-- document 02's pairs, conflicts, dominance and forms as one table: what the definitions say, beside what the documents
+-- say, both as text.
 use Prim.Native.Nat.{ℕ, _/_, _%_}
 use Prim.Native.String.{String}
 use mathlib.Core.Bool.{Bool}
@@ -12,15 +12,16 @@ use Rattle.basis.specs.Lists.{same}
 use Rattle.basis.specs.Numbers.{upTo}
 use Rattle.text.specs.Number.{decimal}
 use Rattle.text.specs.Parts.{join, comma, textOf as lines}
+use Rattle.policy.specs.Limits.{bits, storedWidths}
 use Rattle.policy.specs.Policy.{Policy, conflict, pair}
 use Rattle.policy.specs.Read.{Outcome, Accepted, Refused, readText}
 use Rattle.policy.specs.Text.{conflictLines, pairLines, lineText, textOf}
 use Rattle.policy.specs.Value.{valueOf}
 use Rattle.policy.specs.Answers.{Reply, done, granted, denied, refused}
+use Rattle.policy.specs.declared.limits.Widths.{Widths}
 use Rattle.formula.specs.Truth.{at}
 use Rattle.formula.specs.Decide.{decide}
 use Rattle.tuples.specs.Tuples.{tuples, decideByTuples}
-use Rattle.policy.specs.Limits.{storedWidths}
 use Rattle.labels.specs.Compile.{lent, NU, NO, userResult, objectResult, tableResult}
 use Rattle.report.specs.Report.{report}
 use Rattle.board.specs.Machine.{Call, opens, adds, drops, closes, requests, entry, run, machine, policyIn}
@@ -53,11 +54,12 @@ byMachine text calls = replies (machine (bytes text) calls .replies)
 abbrev pub policyIs : String → Policy
 policyIs text = policyIn (readText (bytes text))
 
-abbrev pub labelsFor : Policy → Labels
-labelsFor p = withCounts p (lent (storedWidths (p .form)) (userResult p) (objectResult p) (tableResult p))
+abbrev pub labelsFor : Widths → Policy → Labels
+labelsFor w p = withCounts p (lent w (userResult p) (objectResult p) (tableResult p))
 
 abbrev pub onBoardFrom : Board → String → List Call → List ℕ
-onBoardFrom b text calls = let p = policyIs text in replies (run (boardStep (valueOf p) (labelsFor p)) calls b .replies)
+onBoardFrom b text calls =
+    let p = policyIs text in replies (run (boardStep (valueOf p) (labelsFor (storedWidths (p .form)) p)) calls b .replies)
 
 abbrev pub onBoard : String → List Call → List ℕ
 onBoard text calls = onBoardFrom fresh text calls
@@ -267,12 +269,44 @@ dominanceExamples =
     ∷ reading "policy,1\nuattr,2\noattr,3\nusen,1,0\nrule,0,d00\nend\n" "refused,8,4"
     ∷ []
 
--- "Plausible and false", as answers that are not given: `d00` as it was before seniority counted in it; with a junior
--- in place of a senior; with the object side's seniority too; and `q00` with seniority
+-- a card of form 2: action 8 on what holds object value 0, 15 to who holds user value 0, 9 where both hold
+abbrev pub sixteen : String
+sixteen = "policy,2\nuattr,1\noattr,1\nuser,0,1\nobject,0,0\nobject,1,1\nrule,8,o0\nrule,15,u0\npair,9,0,0\nend\n"
+
+abbrev pub sixteenDay : List Call
+sixteenDay = opens 0 0 1 ∷ requests 0 15 0 ∷ requests 0 8 0 ∷ requests 0 8 1 ∷ requests 0 9 1 ∷ requests 0 16 0 ∷ []
+
+-- its requests made for a table of bytes
+abbrev pub byBytes : String → List Call → List ℕ
+byBytes text calls = let p = policyIs text in replies (run (boardStep (valueOf p) (labelsFor (bits 8 8) p)) calls fresh .replies)
+
+-- "A text beginning `policy,2` may have actions 0 to 15. Check 12 then applies above 15, and table entries are 16 bits
+-- wide. A `policy,1` text keeps .. its old limit"; "a call made for stored widths other than those of the policy's form
+-- answers 11"
+abbrev pub formExamples : List Example
+formExamples =
+    let p = policyIs sixteen in
+    reading "policy,1\nuattr,1\noattr,1\nrule,7,t\npair,7,0,0\nend\n" "accepted"
+    ∷ reading "policy,1\nuattr,1\noattr,1\nrule,8,t\nend\n" "refused,6,3"
+    ∷ reading "policy,1\nuattr,1\noattr,1\npair,8,0,0\nend\n" "refused,6,3"
+    ∷ reading "policy,2\nuattr,1\noattr,1\nrule,15,t\npair,15,0,0\nend\n" "accepted"
+    ∷ reading "policy,2\nuattr,1\noattr,1\nrule,16,t\nend\n" "refused,6,3"
+    ∷ reading "policy,2\nuattr,1\noattr,1\npair,16,0,0\nend\n" "refused,6,3"
+    ∷ example (textOf p) sixteen
+    ∷ example (numbers (NU p ∷ NO p ∷ [])) "2,2"
+    ∷ example (numbers (tableResult p)) "0,256,32768,33536"
+    ∷ example (byMachine sixteen sixteenDay) "done granted denied granted granted refused,12"
+    ∷ example (onBoard sixteen sixteenDay) "done granted denied granted granted refused,12"
+    ∷ example (byBytes sixteen sixteenDay) "done refused,11 refused,11 refused,11 refused,11 refused,11"
+    ∷ []
+
+-- "Plausible and false", as answers that are not given: entries cut to eight bits; `d00` as it was before seniority
+-- counted in it; with a junior in place of a senior; with the object side's seniority too; and `q00` with seniority
 abbrev pub falseAnswers : List Example
 falseAnswers =
     let p = policyIs clearances in
-    example (numbers (tuples p 0)) "0,4,5,8,10,12,13,14,15"
+    example (numbers (tableResult (policyIs sixteen))) "0,0,0,0"
+    ∷ example (numbers (tuples p 0)) "0,4,5,8,10,12,13,14,15"
     ∷ example (numbers (tuples p 0)) "0,4,5,6,7,8,10,12,13,14,15"
     ∷ example (numbers (tuples p 0)) "0,4,8,9,10,11,12,13,14,15"
     ∷ example (numbers (tuples p 1)) "0,5,11,15"
@@ -290,7 +324,7 @@ listerExamples =
     ∷ []
 
 abbrev pub table : List Example
-table = compiledExamples ++ (sessionExamples ++ (edgeExamples ++ (falseExamples ++ (pairExamples ++ (conflictExamples ++ (dominanceExamples ++ listerExamples))))))
+table = compiledExamples ++ (sessionExamples ++ (edgeExamples ++ (falseExamples ++ (pairExamples ++ (conflictExamples ++ (dominanceExamples ++ (formExamples ++ listerExamples)))))))
 
 abbrev pub holds : Example → Bool
 holds e = same eqb (e .found) (e .expected)

@@ -182,6 +182,16 @@ pub extern "C" fn helvemoik_close(
     answer::step(board::close(board, policy, user, session))
 }
 
+// NU and NO as they are handed in.
+fn counts_of(nu: u32, no: u32) -> Counts
+    ensures { λ r. ⌜ r ≡ record { users = nu; objects = «no» } ⌝ }
+{
+    Counts {
+        users: nu,
+        objects: no,
+    }
+}
+
 // Grants or denies an action on an object by labels and table in bytes.
 #[no_mangle]
 pub extern "C" fn helvemoik_request_8_8(
@@ -198,14 +208,10 @@ pub extern "C" fn helvemoik_request_8_8(
 ) -> CrossedStep
     ensures { λ r. ⌜ r ≡ crossedStep (boardStep policy (labelsOf (record { users = nu; objects = «no» }) (lent (bits 8 8) (now (users .entry)) (now (objects .entry)) (now (table .entry)))) (requests session action object) board) ⌝ }
 {
-    let counts = Counts {
-        users: nu,
-        objects: no,
-    };
     answer::step(board::request_8_8(
         board,
         policy,
-        counts,
+        counts_of(nu, no),
         users,
         objects,
         table,
@@ -231,14 +237,10 @@ pub extern "C" fn helvemoik_request_8_16(
 ) -> CrossedStep
     ensures { λ r. ⌜ r ≡ crossedStep (boardStep policy (labelsOf (record { users = nu; objects = «no» }) (lent (bits 8 16) (now (users .entry)) (now (objects .entry)) (now (table .entry)))) (requests session action object) board) ⌝ }
 {
-    let counts = Counts {
-        users: nu,
-        objects: no,
-    };
     answer::step(board::request_8_16(
         board,
         policy,
-        counts,
+        counts_of(nu, no),
         users,
         objects,
         table,

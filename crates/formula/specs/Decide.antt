@@ -20,7 +20,7 @@ replyOf Granted = granted
 replyOf Denied = denied
 replyOf (Refused r) = refused (numberOf r)
 
--- 12: "The action is above 7."
+-- 12: "The action is above 7", and of a `policy,2` text "above 15"
 abbrev pub noAction : Policy → ℕ → Bool
 noAction p a = leb (actions (p .form)) a
 

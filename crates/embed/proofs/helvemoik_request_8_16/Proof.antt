@@ -5,6 +5,9 @@ use borrow.Author.Needs.{needs}
 use Rattle.embed.proofs.helvemoik_request_8_16.Statement.{statement}
 use Rattle.embed.proofs.helvemoik_request_8_16.Tie as tie
 
+counts-of-requires : tie.Need-counts-of-requires
+counts-of-requires c κs = search needs
+
 request-8-16-requires : tie.Need-request-8-16-requires
 request-8-16-requires c κs = search needs
 
@@ -12,7 +15,7 @@ step-requires : tie.Need-step-requires
 step-requires c κs = search needs
 
 returns : tie.Need-returns
-returns c = c .step .ensures ∙ ap crossedStep (c .before .request-8-16 .ensures)
+returns c = c .step .ensures ∙ ap crossedStep (rw (c .before .before .counts-of .ensures) at (c .before .request-8-16 .ensures))
 
 pub helvemoik-request-8-16-spec : {M : Type 1} → statement M
-helvemoik-request-8-16-spec = tie.close (tie.spec request-8-16-requires step-requires returns)
+helvemoik-request-8-16-spec = tie.close (tie.spec counts-of-requires request-8-16-requires step-requires returns)
