@@ -16,7 +16,7 @@ use Rattle.formula.specs.Truth.{at, grants}
 use Rattle.labels.specs.Labels.{leader}
 use Rattle.labels.specs.Labelling.{Labelling, userLabels, objectLabels, GrantsAlike}
 use Rattle.labels.specs.Compile.{likeUsers, likeObjects, userLabel, objectLabel, NU, NO, counts, entryOf, entry, userResult, objectResult, tableResult, Buffers, compiled, filled}
-use Rattle.labels.proofs.Labels.{Equivalence, labelCount-le, label-below, label-different, leader-like, leader-is, different-same}
+use Rattle.labels.proofs.Labels.{Equivalence, label-below, label-different, leader-like, leader-is, different-same}
 use Rattle.labels.proofs.Labelling.{UsersSame, ObjectsSame, usersAlike-iff, objectsAlike-iff, users-equivalence, objects-equivalence, user-label-iff, object-label-iff, users-fewest, objects-fewest}
 
 module _ (p : Policy) where
@@ -47,14 +47,6 @@ module _ (p : Policy) where
   objectLabel-iff = object-label-iff (grants p) (actions (p .form)) (sets (p .user))
 
   -- ---- the counts
-
-  pub NU-le : NU p ≤ sets (p .user)
-  unfolding NU
-  NU-le = labelCount-le (likeUsers p) _
-
-  pub NO-le : NO p ≤ sets (p .object)
-  unfolding NO
-  NO-le = labelCount-le (likeObjects p) _
 
   pub userLabel-below : (u : ℕ) → u < sets (p .user) → userLabel p u < NU p
   unfolding NU

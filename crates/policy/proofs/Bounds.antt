@@ -14,22 +14,19 @@ use lib.ListN.{length}
 use borrow.Author.Tests.{leb-true, ltb-true, eqb-true, lt-ltb}
 use Rattle.basis.specs.Lists.{all, sum}
 use Rattle.basis.proofs.Bools.{and-left, and-right, or-cases}
-use Rattle.basis.proofs.Lists.{all-at, all-of}
+use Rattle.basis.proofs.Lists.{all-of}
 use Rattle.seniority.specs.Inner.{From, Ordered}
 use Rattle.seniority.specs.declared.Direct.{Direct}
-use Rattle.words.specs.declared.Word.{Word}
-use Rattle.words.specs.declared.Word.the-variants.{True, False, Holds, Compares, Not, And, Or}
-use Rattle.words.specs.declared.Holding.the-variants.{User as UserValue, Object as ObjectValue}
-use Rattle.words.specs.declared.Comparison.the-variants.{Dominates, Equals}
 use Rattle.words.specs.Inner.{inDigits}
 use Rattle.policy.specs.Limits.{values, actions, mostValues, userNumbers, objectNumbers, mostLines, mostTogether}
 use Rattle.policy.specs.Policy.{Side, Rule, Policy, total, sets, attributeOf}
-use Rattle.policy.specs.Checks.{SideSizes, sideSizes, sizes, widthFits, directFits, entryFits, conflictFits, pairFits, bothThere, wordFits}
+use Rattle.policy.specs.Checks.{SideSizes, sideSizes, sizes, widthFits, directFits, entryFits, conflictFits, pairFits}
 use Rattle.policy.specs.Value.{widthPlaces, entryPlaces, conflictPlaces, rulePlaces, pairPlaces, linePlaces}
 use Rattle.policy.specs.Inner.Sound.{widthsSound, listsSound, rising, lineAbove, numberAbove, actionAbove, pairHigher}
 use Rattle.policy.specs.declared.value.Entry.{Entry}
 use Rattle.policy.specs.declared.value.Conflict.{Conflict}
 use Rattle.policy.specs.declared.value.Pair.{Pair}
+use Rattle.policy.proofs.Digits.{words-digits}
 use Rattle.policy.proofs.Forms.{values-most, actions-most}
 use Rattle.policy.proofs.Rising.{head, rising-at, rising-few}
 use Rattle.policy.proofs.Parts.{lineFits, numberFits, SideParts, RuleParts, rule-parts, Parts, parts, ruleFits, pairWithin}
@@ -224,34 +221,13 @@ abbrev pub ruleDigits : Rule → Bool
 ruleDigits r = all inDigits (r .words)
 
 module _ (p : Policy) (t : Parts p) where
-  digit-user : (v : ℕ) → ltb v (total (p .user)) ≡ true → ltb v 10 ≡ true
-  digit-user v e = lt-ltb v 10 (omega (arith, total-few (p .form) (p .user) (t .user), ltb-true v (total (p .user)) e))
-
-  digit-object : (v : ℕ) → ltb v (total (p .object)) ≡ true → ltb v 10 ≡ true
-  digit-object v e = lt-ltb v 10 (omega (arith, total-few (p .form) (p .object) (t .object), ltb-true v (total (p .object)) e))
-
-  digits-both : (i j : ℕ) → bothThere (sizes p) i j ≡ true → (ltb i 10 && ltb j 10) ≡ true
-  digits-both i j e =
-      let u = attributes-few (values (p .form)) (p .user) (t .user) in
-      let o = attributes-few (values (p .form)) (p .object) (t .object) in
-      let a = ltb-true i (length (p .user .widths)) (and-left _ _ e) in
-      let b = ltb-true j (length (p .object .widths)) (and-right (ltb i (length (p .user .widths))) _ e) in
-      rw (digit-user i (lt-ltb i (total (p .user)) (omega arith)), digit-object j (lt-ltb j (total (p .object)) (omega arith)))
-
-  pub word-digits : (w : Word) → wordFits (sizes p) w ≡ true → inDigits w ≡ true
-  unfolding inDigits
-  word-digits True e = refl
-  word-digits False e = refl
-  word-digits (Holds (UserValue v)) e = digit-user v e
-  word-digits (Holds (ObjectValue v)) e = digit-object v e
-  word-digits (Compares (Dominates i j)) e = digits-both i j e
-  word-digits (Compares (Equals i j)) e = digits-both i j e
-  word-digits Not e = refl
-  word-digits And e = refl
-  word-digits Or e = refl
-
   pub rule-digits : (r : Rule) → RuleParts p r → ruleDigits r ≡ true
-  rule-digits r q = all-of inDigits (r .words) (λ w m. word-digits w (all-at (wordFits (sizes p)) (r .words) (q .fit) w m))
+  rule-digits r q =
+      let u = total-few (p .form) (p .user) (t .user) in
+      let o = total-few (p .form) (p .object) (t .object) in
+      words-digits (sizes p) u o
+      (le-trans (attributes-few (values (p .form)) (p .user) (t .user)) u) (le-trans (attributes-few (values (p .form)) (p .object) (t .object)) o)
+      (r .words) (q .fit)
 
   pub rules-digits : all ruleDigits (p .rules) ≡ true
   rules-digits =

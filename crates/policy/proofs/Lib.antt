@@ -1,6 +1,7 @@
 pub mod Accepted
 pub mod Attributes
 pub mod Bounds
+pub mod Digits
 pub mod Fields
 pub mod Forms
 pub mod Groups

@@ -14,7 +14,7 @@ use Rattle.policy.specs.Value.{valueOf, policyOf}
 use Rattle.policy.specs.Valid.{Yielded, sameValue, yields, valid}
 use Rattle.policy.specs.Inner.Sound.{sound}
 use Rattle.policy.specs.declared.value.PolicyValue.{PolicyValue}
-use Rattle.policy.proofs.Parts.{Parts, parts, Whole, whole}
+use Rattle.policy.proofs.Parts.{Whole, whole}
 use Rattle.policy.proofs.Same.{same-value}
 use Rattle.policy.proofs.Values.{policy-value, sound-value}
 use Rattle.policy.proofs.RoundTrip.{read-sound, read-text, sound-read}
@@ -52,9 +52,6 @@ valid-stored v e =
 -- so the bounds of a sound policy hold of a valid value's
 pub valid-whole : (v : PolicyValue) → valid v ≡ true → Whole (policyOf v)
 valid-whole v e = whole (policyOf v) (valid-stored v e .1)
-
-pub valid-parts : (v : PolicyValue) → valid v ≡ true → Parts (policyOf v)
-valid-parts v e = parts (policyOf v) (valid-whole v e .lists)
 
 -- the blank value, which stands beside a refused text, is none: it has no form
 pub blank-refused : valid (valueOf blank) ≡ false

@@ -1,5 +1,4 @@
 pub mod Blank
-pub mod Digits
 pub mod Rising
 pub mod Stored
 pub mod Turns

@@ -1,11 +1,7 @@
 -- `labels::buffers::counts` meets its contract: rows and columns are labelled.
-use Prim.Native.Nat.{_≤_}
 use denote.Ref.{now}
-use mathlib.Core.Path.{ap₂}
-use native.Mathlib.Nat.{le-trans}
 use native.Mathlib.Omega.{arith}
 use borrow.Author.Needs.{needs}
-use Rattle.policy.specs.Limits.{mostSets}
 use Rattle.labels.specs.Inner.Grid.{turnedView, likeRows, Labelled}
 use Rattle.labels.proofs.Grids.{turned-inside}
 use Rattle.labels.proofs.Storing.{counts-are}

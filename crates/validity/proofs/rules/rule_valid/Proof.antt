@@ -7,7 +7,7 @@ use borrow.Author.Needs.{needs}
 use Rattle.basis.proofs.Lists.{long}
 use Rattle.policy.specs.Value.{ruleOf}
 use Rattle.validity.specs.Inner.{ruleValid}
-use Rattle.validity.proofs.Digits.{sound-digits}
+use Rattle.policy.proofs.Digits.{sound-digits}
 use Rattle.validity.proofs.Stored.{rule-out, rule-stored}
 use Rattle.validity.proofs.rules.rule_valid.Statement.{statement}
 use Rattle.validity.proofs.rules.rule_valid.Tie as tie

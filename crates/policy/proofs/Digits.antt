@@ -1,7 +1,8 @@
--- The words of a sound rule are in digits, since a side has fewer than ten values and attributes.
+-- Words that fit sides of fewer than ten values and attributes are in digits.
 use Prim.Native.Nat.{ℕ, _≤_}
 use mathlib.Core.Path.{_≡_, refl}
 use mathlib.Core.Bool.{true, _&&_}
+use mathlib.Core.List.{List}
 use native.Mathlib.Omega.{arith}
 use borrow.Author.Tests.{lt-ltb, ltb-true}
 use lib.Dec.{leb, ltb}
@@ -41,9 +42,12 @@ module _ (s : Sizes) (u : s .user .values ≤ mostValues) (o : s .object .values
   word-digits And e = refl
   word-digits Or e = refl
 
+  pub words-digits : (ws : List Word) → all (wordFits s) ws ≡ true → all inDigits ws ≡ true
+  words-digits ws e = all-of inDigits ws (λ w m. word-digits w (all-at (wordFits s) ws e w m))
+
+  -- a rule's words
   pub sound-digits : (n : ℕ) (r : Rule) → ruleSound n s r ≡ true → all inDigits (r .words) ≡ true
   unfolding ruleSound
   sound-digits n r e =
       let e₁ = and-right (leb (length (r .words)) mostWords) _ e in
-      let fit = and-left (all (wordFits s) (r .words)) _ (and-right (ltb (r .action) n) _ e₁) in
-      all-of inDigits (r .words) (λ w m. word-digits w (all-at (wordFits s) (r .words) fit w m))
+      words-digits (r .words) (and-left (all (wordFits s) (r .words)) _ (and-right (ltb (r .action) n) _ e₁))
