@@ -11,11 +11,9 @@ use crate::asking::Asked;
 use labels::Counts;
 use labels::ObjectLabel;
 use labels::UserLabel;
+use policy::limits::BYTE;
 use policy::limits::Widths;
 use policy::refusal::Refusal;
-
-// The width of an entry that is a byte.
-const BYTE: u32 = 8;
 
 // The byte at a place of a buffer, where the place is in it.
 pub enum Byte {

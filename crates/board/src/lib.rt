@@ -19,8 +19,8 @@ mod steps;
 pub mod tables;
 
 use labels::Counts;
+use policy::limits;
 use policy::limits::SESSION_NUMBERS;
-use policy::limits::Widths;
 use policy::refusal;
 use policy::refusal::Refusal;
 use policy::value::PolicyValue;
@@ -192,7 +192,7 @@ pub fn request_8_8(
         board,
         policy,
         counts,
-        Widths { label: 8, entry: 8 },
+        limits::WIDTHS_8_8,
         users,
         objects,
         table,
@@ -222,10 +222,7 @@ pub fn request_8_16(
         board,
         policy,
         counts,
-        Widths {
-            label: 8,
-            entry: 16,
-        },
+        limits::WIDTHS_8_16,
         users,
         objects,
         &none,

@@ -94,14 +94,7 @@ pub fn compile_8_8(
     ensures { λ r. ⌜ Compiles policy (lent (bits 8 8) (now (users .entry)) (now (objects .entry)) (now (table .entry))) r (lent (bits 8 8) (now (users .exit)) (now (objects .exit)) (now (table .exit))) ⌝ }
 {
     let mut none = [0u16; 0];
-    compile(
-        policy,
-        Widths { label: 8, entry: 8 },
-        users,
-        objects,
-        table,
-        &mut none,
-    )
+    compile(policy, limits::WIDTHS_8_8, users, objects, table, &mut none)
 }
 
 // The same with labels in bytes and a table of 16-bit entries.
@@ -116,10 +109,7 @@ pub fn compile_8_16(
     let mut none = [0u8; 0];
     compile(
         policy,
-        Widths {
-            label: 8,
-            entry: 16,
-        },
+        limits::WIDTHS_8_16,
         users,
         objects,
         &mut none,

@@ -4,9 +4,7 @@ ghost use Prim.Native.Nat.{_^_, _<_};
 ghost use mathlib.Core.Path.{_≡_};
 ghost use lib.ListN.{length, set};
 ghost use Rattle.labels.specs.Inner.Table.{tableIn};
-
-// The width of an entry that is a byte.
-const BYTE: u32 = 8;
+use policy::limits::BYTE;
 
 // How many entries the table that is lent has.
 pub fn length(entry: u32, bytes: &[u8], wide: &[u16]) -> usize

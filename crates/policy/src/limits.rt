@@ -53,6 +53,17 @@ pub struct Widths {
     pub entry: u32,
 }
 
+// The stored widths that calls are made for.
+pub const WIDTHS_8_8: Widths = Widths { label: 8, entry: 8 };
+
+pub const WIDTHS_8_16: Widths = Widths {
+    label: 8,
+    entry: 16,
+};
+
+// The width of what is stored in a byte.
+pub const BYTE: u32 = 8;
+
 pub fn is_form(form: u32) -> bool
     ensures { λ r. ⌜ r ≡ limits.isForm form ⌝ }
 {
@@ -84,12 +95,9 @@ fn stored_widths(form: u32) -> Widths
     ensures { λ r. ⌜ r ≡ limits.storedWidths form ⌝ }
 {
     if form == FORM_1 {
-        Widths { label: 8, entry: 8 }
+        WIDTHS_8_8
     } else {
-        Widths {
-            label: 8,
-            entry: 16,
-        }
+        WIDTHS_8_16
     }
 }
 

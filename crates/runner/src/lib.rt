@@ -17,6 +17,7 @@ use board::Board;
 use board::Step;
 use board::tables;
 use labels::Counts;
+use policy::limits;
 use policy::limits::Widths;
 use policy::refusal::Refusal;
 use policy::value::PolicyValue;
@@ -138,7 +139,7 @@ pub fn run_8_8(
     run(
         policy,
         counts,
-        Widths { label: 8, entry: 8 },
+        limits::WIDTHS_8_8,
         users,
         objects,
         table,
@@ -164,10 +165,7 @@ pub fn run_8_16(
     run(
         policy,
         counts,
-        Widths {
-            label: 8,
-            entry: 16,
-        },
+        limits::WIDTHS_8_16,
         users,
         objects,
         &none,
