@@ -1,10 +1,16 @@
 // Lent buffers: blank before a call, and compared after it.
 use crate::cursor;
 
-// What stands in a buffer of bytes before a call.
+// What stands in a buffer of bytes before a call, and in one of 16-bit entries: no tuple is so large.
 pub const BLANK: u8 = 170;
 
+pub const BLANK_ENTRY: u16 = 65535;
+
 fn wide(x: u8) -> u32 {
+    x as u32
+}
+
+pub fn wide_entry(x: u16) -> u32 {
     x as u32
 }
 
@@ -30,6 +36,18 @@ pub fn unlike(due: &[u32], buffer: &[u8]) -> usize {
     let mut i = 0;
     while i < buffer.len() {
         if wide(buffer[i]) != cursor::at(due, i, BLANK as u32) {
+            return i + 1;
+        }
+        i += 1;
+    }
+    if i < due.len() { i + 1 } else { 0 }
+}
+
+// The same for entries of 16 bits.
+pub fn unlike_entries(due: &[u32], buffer: &[u16]) -> usize {
+    let mut i = 0;
+    while i < buffer.len() {
+        if wide_entry(buffer[i]) != cursor::at(due, i, BLANK_ENTRY as u32) {
             return i + 1;
         }
         i += 1;

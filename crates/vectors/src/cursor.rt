@@ -1,7 +1,7 @@
 // A line of a case file: a tag, a mark where the line is wrong on purpose, and numbers that each stand behind a comma.
 ghost use Prim.Native.Nat.{_<_};
 
-// The most numbers of a line: a table's bytes, and those before them.
+// The most numbers of a line: a table's entries, and those before them.
 pub const NUMBERS: usize = 16400;
 
 const LARGEST: u64 = 4294967295;
@@ -77,6 +77,14 @@ pub fn bytes(buffer: &[u8], from: usize, to: usize) -> &[u8] {
         return buffer;
     }
     &buffer[from..to]
+}
+
+// The first entries of 16 bits; all where there are not so many.
+pub fn entries(buffer: &[u16], to: usize) -> &[u16] {
+    if buffer.len() < to {
+        return buffer;
+    }
+    &buffer[..to]
 }
 
 // The number at a place; a blank behind the last.

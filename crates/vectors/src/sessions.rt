@@ -1,10 +1,12 @@
 // Sessions: lists of calls on a fresh board, their answers, and the sessions that the board holds after them.
 use crate::buffers;
 use crate::buffers::BLANK;
+use crate::buffers::BLANK_ENTRY;
 use crate::cursor;
 use crate::cursor::NUMBERS;
 use crate::found;
 use crate::found::Found;
+use crate::labelling;
 use crate::labelling::PAIRS;
 use crate::labelling::SETS;
 use crate::texts::policy_of;
@@ -90,38 +92,60 @@ fn compared(ran: Ran, answers: &[u8; CALLS], a: &[u32; NUMBERS], from: usize, n:
     }
 }
 
-// Runs the calls with parts of these buffers.
+// Runs the calls for a width of entries. The table is lent in two buffers, and the one of this width is looked at.
 fn run(
+    is_wide: bool,
     a: &[u32; NUMBERS],
-    n: usize,
     text: &[u8],
     users: &[u8],
     objects: &[u8],
-    table: &[u8],
-) -> Found {
+    bytes: &[u8],
+    wide: &[u16],
+    calls: &[u32],
+    answers: &mut [u8],
+) -> Ran {
     let counts = Counts {
         users: a[2],
         objects: a[3],
     };
+    let us = cursor::bytes(users, 0, cursor::size(a[4]));
+    let os = cursor::bytes(objects, 0, cursor::size(a[5]));
+    let entries = cursor::size(a[6]);
+    if is_wide {
+        let table = cursor::entries(wide, entries);
+        return runner::run_8_16(policy_of(text), counts, us, os, table, calls, answers);
+    }
+    let table = cursor::bytes(bytes, 0, entries);
+    runner::run_8_8(policy_of(text), counts, us, os, table, calls, answers)
+}
+
+// `S` or `Z`: a list of calls, with parts of the compiler's buffers.
+pub fn played(tag: u8, a: &[u32; NUMBERS], n: usize, text: &[u8]) -> Found {
+    let mut users = [BLANK; SETS];
+    let mut objects = [BLANK; SETS];
+    let mut bytes = [BLANK; PAIRS];
+    let mut wide = [BLANK_ENTRY; PAIRS];
+    let is_wide = labelling::is_wide(tag);
+    labelling::compile(
+        is_wide,
+        text,
+        &mut users,
+        &mut objects,
+        &mut bytes,
+        &mut wide,
+    );
     let to = 8 + 4 * cursor::size(a[7]);
     let mut answers = [BLANK; CALLS];
-    let ran = runner::run(
-        policy_of(text),
-        counts,
-        cursor::bytes(users, 0, cursor::size(a[4])),
-        cursor::bytes(objects, 0, cursor::size(a[5])),
-        cursor::bytes(table, 0, cursor::size(a[6])),
+    let ran = run(
+        is_wide,
+        a,
+        text,
+        &users,
+        &objects,
+        &bytes,
+        &wide,
         cursor::part(a, 8, to),
         &mut answers,
     );
     compared(ran, &answers, a, to, n)
-}
-
-// `S`: a list of calls, with the compiler's buffers.
-pub fn played(a: &[u32; NUMBERS], n: usize, text: &[u8]) -> Found {
-    let mut users = [BLANK; SETS];
-    let mut objects = [BLANK; SETS];
-    let mut table = [BLANK; PAIRS];
-    labels::compile(policy_of(text), &mut users, &mut objects, &mut table);
-    run(a, n, text, &users, &objects, &table)
 }
