@@ -79,14 +79,6 @@ pub fn bytes(buffer: &[u8], from: usize, to: usize) -> &[u8] {
     &buffer[from..to]
 }
 
-// The first entries of 16 bits; all where there are not so many.
-pub fn entries(buffer: &[u16], to: usize) -> &[u16] {
-    if buffer.len() < to {
-        return buffer;
-    }
-    &buffer[..to]
-}
-
 // The number at a place; a blank behind the last.
 pub fn at(numbers: &[u32], i: usize, blank: u32) -> u32 {
     if i < numbers.len() { numbers[i] } else { blank }

@@ -39,27 +39,19 @@ fn counted(compiled: Compiled, tag: u8, place: usize) -> Found {
     }
 }
 
-// Whether a line's calls are made for a table of 16-bit entries, not of bytes.
-pub fn is_wide(tag: u8) -> bool {
-    match tag {
-        b'U' | b'O' | b'G' | b'Z' => true,
-        _ => false,
-    }
-}
-
-// Compiles for a width of entries. The table is lent in two buffers, and the one of this width is filled.
+// Compiles for a line's widths. The table is lent in two buffers, and the one of these widths is filled.
 pub fn compile(
-    is_wide: bool,
+    tag: u8,
     text: &[u8],
     users: &mut [u8],
     objects: &mut [u8],
     bytes: &mut [u8],
     wide: &mut [u16],
 ) -> Compiled {
-    if is_wide {
-        return labels::compile_8_16(policy_of(text), users, objects, wide);
+    match tag {
+        b'U' | b'O' | b'G' | b'Z' => labels::compile_8_16(policy_of(text), users, objects, wide),
+        _ => labels::compile_8_8(policy_of(text), users, objects, bytes),
     }
-    labels::compile_8_8(policy_of(text), users, objects, bytes)
 }
 
 // `u`, `o` or `g`, and `U`, `O` or `G` for 16-bit entries: compiles, and looks at the buffer of user labels, of object
@@ -71,7 +63,7 @@ pub fn compiled(tag: u8, a: &[u32; NUMBERS], n: usize, text: &[u8]) -> Found {
     let mut wide = [BLANK_ENTRY; PAIRS];
     let entries = cursor::size(a[4]);
     let compiled = compile(
-        is_wide(tag),
+        tag,
         text,
         buffers::first(&mut users, cursor::size(a[2])),
         buffers::first(&mut objects, cursor::size(a[3])),
