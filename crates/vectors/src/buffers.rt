@@ -15,19 +15,21 @@ pub fn wide_entry(x: u16) -> u32 {
 }
 
 // The first bytes of a buffer, to be lent; all where there are not so many.
-pub fn first(buffer: &mut [u8], n: usize) -> &mut [u8] {
-    if buffer.len() < n {
+pub fn first(buffer: &mut [u8], n: u32) -> &mut [u8] {
+    let end = n as usize;
+    if buffer.len() < end {
         return buffer;
     }
-    &mut buffer[..n]
+    &mut buffer[..end]
 }
 
 // The same for entries of 16 bits.
-pub fn first_entries(buffer: &mut [u16], n: usize) -> &mut [u16] {
-    if buffer.len() < n {
+pub fn first_entries(buffer: &mut [u16], n: u32) -> &mut [u16] {
+    let end = n as usize;
+    if buffer.len() < end {
         return buffer;
     }
-    &mut buffer[..n]
+    &mut buffer[..end]
 }
 
 // The first place, from 1, at which a buffer is not these numbers with blanks behind them; 0 where there is none.

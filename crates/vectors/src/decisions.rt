@@ -98,7 +98,7 @@ pub fn listed(a: &[u32; NUMBERS], n: usize, text: &[u8]) -> Found {
     let listing = tuples::list(
         policy_of(text),
         a[2],
-        buffers::first_entries(&mut buffer, cursor::size(a[3])),
+        buffers::first_entries(&mut buffer, a[3]),
     );
     let place = unlike_runs(cursor::part(a, 4, n), &buffer);
     match listing {

@@ -61,20 +61,20 @@ pub fn compiled(tag: u8, a: &[u32; NUMBERS], n: usize, text: &[u8]) -> Found {
     let mut objects = [BLANK; SETS];
     let mut bytes = [BLANK; PAIRS];
     let mut wide = [BLANK_ENTRY; PAIRS];
-    let entries = cursor::size(a[4]);
     let compiled = compile(
         tag,
         text,
-        buffers::first(&mut users, cursor::size(a[2])),
-        buffers::first(&mut objects, cursor::size(a[3])),
-        buffers::first(&mut bytes, entries),
-        buffers::first_entries(&mut wide, entries),
+        buffers::first(&mut users, a[2]),
+        buffers::first(&mut objects, a[3]),
+        buffers::first(&mut bytes, a[4]),
+        buffers::first_entries(&mut wide, a[4]),
     );
     let due = cursor::part(a, 5, n);
-    match tag {
-        b'u' | b'U' => counted(compiled, tag, buffers::unlike(due, &users)),
-        b'o' | b'O' => counted(compiled, tag, buffers::unlike(due, &objects)),
-        b'g' => counted(compiled, tag, buffers::unlike(due, &bytes)),
-        _ => counted(compiled, tag, buffers::unlike_entries(due, &wide)),
-    }
+    let place = match tag {
+        b'u' | b'U' => buffers::unlike(due, &users),
+        b'o' | b'O' => buffers::unlike(due, &objects),
+        b'g' => buffers::unlike(due, &bytes),
+        _ => buffers::unlike_entries(due, &wide),
+    };
+    counted(compiled, tag, place)
 }

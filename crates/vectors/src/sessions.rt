@@ -98,14 +98,13 @@ fn run(
         users: a[2],
         objects: a[3],
     };
-    let us = buffers::first(users, cursor::size(a[4]));
-    let os = buffers::first(objects, cursor::size(a[5]));
-    let entries = cursor::size(a[6]);
+    let us = buffers::first(users, a[4]);
+    let os = buffers::first(objects, a[5]);
     if tag == b'Z' {
-        let table = buffers::first_entries(wide, entries);
+        let table = buffers::first_entries(wide, a[6]);
         return runner::run_8_16(policy_of(text), counts, us, os, table, calls, answers);
     }
-    let table = buffers::first(bytes, entries);
+    let table = buffers::first(bytes, a[6]);
     runner::run_8_8(policy_of(text), counts, us, os, table, calls, answers)
 }
 
