@@ -1,27 +1,35 @@
 // Lent buffers: blank before a call, and compared after it.
 use crate::cursor;
 
-// What stands in a buffer of bytes before a call.
+// What stands in a buffer of bytes before a call, and in one of 16-bit entries: no tuple is so large.
 pub const BLANK: u8 = 170;
+
+pub const BLANK_ENTRY: u16 = 65535;
 
 fn wide(x: u8) -> u32 {
     x as u32
 }
 
+pub fn wide_entry(x: u16) -> u32 {
+    x as u32
+}
+
 // The first bytes of a buffer, to be lent; all where there are not so many.
-pub fn first(buffer: &mut [u8], n: usize) -> &mut [u8] {
-    if buffer.len() < n {
+pub fn first(buffer: &mut [u8], n: u32) -> &mut [u8] {
+    let end = n as usize;
+    if buffer.len() < end {
         return buffer;
     }
-    &mut buffer[..n]
+    &mut buffer[..end]
 }
 
 // The same for entries of 16 bits.
-pub fn first_entries(buffer: &mut [u16], n: usize) -> &mut [u16] {
-    if buffer.len() < n {
+pub fn first_entries(buffer: &mut [u16], n: u32) -> &mut [u16] {
+    let end = n as usize;
+    if buffer.len() < end {
         return buffer;
     }
-    &mut buffer[..n]
+    &mut buffer[..end]
 }
 
 // The first place, from 1, at which a buffer is not these numbers with blanks behind them; 0 where there is none.
@@ -30,6 +38,18 @@ pub fn unlike(due: &[u32], buffer: &[u8]) -> usize {
     let mut i = 0;
     while i < buffer.len() {
         if wide(buffer[i]) != cursor::at(due, i, BLANK as u32) {
+            return i + 1;
+        }
+        i += 1;
+    }
+    if i < due.len() { i + 1 } else { 0 }
+}
+
+// The same for entries of 16 bits.
+pub fn unlike_entries(due: &[u32], buffer: &[u16]) -> usize {
+    let mut i = 0;
+    while i < buffer.len() {
+        if wide_entry(buffer[i]) != cursor::at(due, i, BLANK_ENTRY as u32) {
             return i + 1;
         }
         i += 1;

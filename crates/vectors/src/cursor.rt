@@ -1,7 +1,7 @@
 // A line of a case file: a tag, a mark where the line is wrong on purpose, and numbers that each stand behind a comma.
 ghost use Prim.Native.Nat.{_<_};
 
-// The most numbers of a line: a table's bytes, and those before them.
+// The most numbers of a line: a table's entries, and those before them.
 pub const NUMBERS: usize = 16400;
 
 const LARGEST: u64 = 4294967295;

@@ -1,5 +1,6 @@
 // Decisions: by the policy and by tuples; listings; Apart.
 use crate::buffers;
+use crate::buffers::BLANK_ENTRY;
 use crate::cursor;
 use crate::cursor::NUMBERS;
 use crate::found;
@@ -11,10 +12,8 @@ use policy::limits::MOST_TUPLES;
 use policy::refusal::number_of;
 use tuples::Listing;
 
-// The most tuples, and what stands in a listing's buffer before a call: no tuple is so large.
+// The most tuples.
 const PAIRS: usize = MOST_TUPLES;
-
-const BLANK: u16 = 65535;
 
 fn decide(text: &[u8], action: u32, user: u32, object: u32) -> u32 {
     found::of_decision(formula::decide(policy_of(text), action, user, object))
@@ -27,7 +26,7 @@ pub fn by_formula(a: &[u32; NUMBERS], text: &[u8]) -> Found {
 
 // `B`: by tuples, with the action's listing in a buffer of the most entries.
 pub fn by_tuples(a: &[u32; NUMBERS], text: &[u8]) -> Found {
-    let mut buffer = [BLANK; PAIRS];
+    let mut buffer = [BLANK_ENTRY; PAIRS];
     tuples::list(policy_of(text), a[2], &mut buffer);
     let count = cursor::size(a[5]);
     let decision = tuples::decide(policy_of(text), a[3], a[4], &buffer, count);
@@ -70,25 +69,21 @@ pub fn tells(a: &[u32; NUMBERS], text: &[u8]) -> Found {
     found::bare(told(text, witness, a[2], a[3]))
 }
 
-fn wide(x: u16) -> u32 {
-    x as u32
-}
-
 // The first place, from 1, at which a buffer is not these runs of tuples, each as its first and last, with blanks
 // behind them; 0 where there is none. Behind the runs both ends are blank. Runs that the buffer has no places for
 // differ behind its end.
 fn unlike_runs(runs: &[u32], buffer: &[u16; PAIRS]) -> usize {
     let mut k = 0;
-    let mut due = cursor::at(runs, 0, BLANK as u32);
+    let mut due = cursor::at(runs, 0, BLANK_ENTRY as u32);
     let mut i = 0;
     while i < PAIRS {
-        if wide(buffer[i]) != due {
+        if buffers::wide_entry(buffer[i]) != due {
             return i + 1;
         }
         let last = std::num::wrapping_add_usize(k, 1);
-        if due == cursor::at(runs, last, BLANK as u32) {
+        if due == cursor::at(runs, last, BLANK_ENTRY as u32) {
             k = std::num::wrapping_add_usize(k, 2);
-            due = cursor::at(runs, k, BLANK as u32);
+            due = cursor::at(runs, k, BLANK_ENTRY as u32);
         } else {
             due = std::num::wrapping_add_u32(due, 1);
         }
@@ -99,11 +94,11 @@ fn unlike_runs(runs: &[u32], buffer: &[u16; PAIRS]) -> usize {
 
 // `T`: a listing.
 pub fn listed(a: &[u32; NUMBERS], n: usize, text: &[u8]) -> Found {
-    let mut buffer = [BLANK; PAIRS];
+    let mut buffer = [BLANK_ENTRY; PAIRS];
     let listing = tuples::list(
         policy_of(text),
         a[2],
-        buffers::first_entries(&mut buffer, cursor::size(a[3])),
+        buffers::first_entries(&mut buffer, a[3]),
     );
     let place = unlike_runs(cursor::part(a, 4, n), &buffer);
     match listing {

@@ -4,8 +4,10 @@ use crate::found::Found;
 use libc::STDOUT_FILENO;
 use text::parts;
 
-// The kinds of comparisons, the calls of all lists, and the lines that are wrong on purpose.
+// The kinds of comparisons, lists of calls last; the calls of all lists; and the lines that are wrong on purpose.
 pub const KINDS: usize = 12;
+
+const LISTS: usize = 9;
 
 const CALLS: usize = 10;
 
@@ -18,12 +20,12 @@ fn kind(tag: u8) -> usize {
         b'Y' => 1,
         b'V' => 2,
         b'W' => 3,
-        b'u' | b'o' | b'g' => 4,
+        b'u' | b'o' | b'g' | b'U' | b'O' | b'G' => 4,
         b'T' => 5,
         b'F' => 6,
         b'B' => 7,
         b'P' | b'D' => 8,
-        _ => 9,
+        _ => LISTS,
     }
 }
 
@@ -39,8 +41,9 @@ pub fn count(counts: &mut [u32; KINDS], tag: u8, wrong: bool, n: u32) {
         add(counts, WRONG, 1);
         return;
     }
-    add(counts, kind(tag), 1);
-    if tag == b'S' {
+    let k = kind(tag);
+    add(counts, k, 1);
+    if k == LISTS {
         add(counts, CALLS, n);
     }
 }

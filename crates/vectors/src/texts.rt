@@ -44,10 +44,7 @@ pub fn checked(text: &[u8]) -> Found {
 // `W`: writing; so many bytes of the text stand in the buffer afterwards.
 pub fn written(a: &[u32; NUMBERS], text: &[u8]) -> Found {
     let mut buffer = [BLANK; TEXT_BYTES];
-    let written = writer::write(
-        policy_of(text),
-        buffers::first(&mut buffer, cursor::size(a[2])),
-    );
+    let written = writer::write(policy_of(text), buffers::first(&mut buffer, a[2]));
     let place = buffers::unlike_text(cursor::bytes(text, 0, cursor::size(a[3])), &buffer);
     match written {
         Written::Stored(length) => Found {

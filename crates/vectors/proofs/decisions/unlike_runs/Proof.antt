@@ -20,14 +20,14 @@ at-requires c κs = search needs
 loop-holds : tie.Need-loop-holds Inv-loop μ-loop
 loop-holds c = search needs
 
-mul-wide : tie.Need-mul-wide Inv-loop μ-loop
-mul-wide c = search needs
+mul-wide-entry : tie.Need-mul-wide-entry Inv-loop μ-loop
+mul-wide-entry c = search needs
 
-element-copy-out-wide : tie.Need-element-copy-out-wide Inv-loop μ-loop
-element-copy-out-wide c = search needs
+element-copy-out-wide-entry : tie.Need-element-copy-out-wide-entry Inv-loop μ-loop
+element-copy-out-wide-entry c = search needs
 
-wide-requires : tie.Need-wide-requires Inv-loop μ-loop
-wide-requires c κs = search needs
+wide-entry-requires : tie.Need-wide-entry-requires Inv-loop μ-loop
+wide-entry-requires c κs = search needs
 
 add-result : tie.Need-add-result Inv-loop μ-loop
 add-result c = search needs
@@ -83,9 +83,9 @@ unlike-runs-spec =
     cast-at
     at-requires
     loop-holds
-    mul-wide
-    element-copy-out-wide
-    wide-requires
+    mul-wide-entry
+    element-copy-out-wide-entry
+    wide-entry-requires
     add-result
     returns
     wrapping-add-usize-requires
