@@ -1,9 +1,12 @@
 // The grid: the rows of all user sets, one after the other.
 ghost use Prim.Native.Nat.{_<_};
 ghost use mathlib.Core.Path.{_≡_};
+ghost use mathlib.Core.Bool.{true};
 ghost use lib.ListN.{length};
 ghost use Rattle.policy.specs.Limits.{mostTuples};
 ghost use Rattle.policy.specs.Policy.{Policy};
+ghost use Rattle.policy.specs.Value.{policyOf};
+ghost use Rattle.policy.specs.Valid.{valid};
 ghost use Rattle.formula.specs.Inner.Lane.{AttributesOf};
 ghost use Rattle.labels.specs.Inner.Rows.{RowsOf};
 ghost use Rattle.labels.specs.Inner.Grid.{cell, turnedView, ViewOf, Inside, GridOf};
@@ -12,6 +15,7 @@ use crate::rows::Rows;
 use formula::attributes;
 use formula::attributes::Attributes;
 use policy::limits::MOST_TUPLES;
+use policy::value::PolicyValue;
 
 // A grid as seen from one side: its sets are the rows and those of the other side the columns. A row starts `down`
 // places after the one before, and in it a column lies `along` places after the one before.
@@ -52,7 +56,7 @@ pub fn turned(view: View) -> View
 }
 
 // Fills a grid, which the caller owns because it is large, with the entries of a policy.
-pub fn fill(grid: &mut [u16; MOST_TUPLES], from: Rows, view: View)
+fn fill(grid: &mut [u16; MOST_TUPLES], from: Rows, view: View)
     requires { ⌜ ((p : Policy) × RowsOf p from × ViewOf p view) × (length (now grid) ≡ mostTuples) ⌝ }
     ensures { λ _. ⌜ ((p : Policy) → RowsOf p from → ViewOf p view → GridOf p (now (grid .exit)) view) ⌝ }
 {
@@ -64,6 +68,19 @@ pub fn fill(grid: &mut [u16; MOST_TUPLES], from: Rows, view: View)
             grid[u * n + o] = row[o];
         }
     }
+}
+
+// Fills a grid with the entries of a valid policy, and gives its view from the user side.
+pub fn enter(grid: &mut [u16; MOST_TUPLES], policy: PolicyValue) -> View
+    requires { ⌜ (valid policy ≡ true) × (length (now grid) ≡ mostTuples) ⌝ }
+    ensures { λ r. ⌜ Inside r × GridOf (policyOf policy) (now (grid .exit)) r ⌝ }
+{
+    let from = rows::rows_of(policy);
+    let source = from.source;
+    let sides = source.sides;
+    let view = view_of(sides);
+    fill(grid, from, view);
+    view
 }
 
 // A set that is kept in a byte.

@@ -75,12 +75,8 @@ fn compile(
     if !limits::own_widths(policy.form, widths) {
         return Compiled::Refused(Refusal::InvalidState);
     }
-    let from = rows::rows_of(policy);
-    let source = from.source;
-    let sides = source.sides;
-    let view = grid::view_of(sides);
     let mut entries = [0u16; MOST_TUPLES];
-    grid::fill(&mut entries, from, view);
+    let view = grid::enter(&mut entries, policy);
     buffers::store(&entries, view, widths, users, objects, bytes, wide)
 }
 
@@ -124,12 +120,8 @@ pub fn used(policy: PolicyValue) -> Compiled
     if !validity::check(policy) {
         return Compiled::Refused(Refusal::InvalidState);
     }
-    let from = rows::rows_of(policy);
-    let source = from.source;
-    let sides = source.sides;
-    let view = grid::view_of(sides);
     let mut entries = [0u16; MOST_TUPLES];
-    grid::fill(&mut entries, from, view);
+    let view = grid::enter(&mut entries, policy);
     Compiled::Stored(buffers::counts(&entries, view))
 }
 

@@ -1,4 +1,4 @@
--- `labels::compile` meets its contract: check 11 gives what the grid asks, and the grid is stored.
+-- `labels::compile` meets its contract: where check 11 passes, the grid is stored.
 use Prim.Native.Nat.{ℕ}
 use mathlib.Core.Path.{_≡_, sym, _∙_}
 use mathlib.Core.Bool.{true}
@@ -8,9 +8,6 @@ use borrow.Author.Tests.{not-true, not-false}
 use Rattle.policy.specs.Limits.{mostTuples, ownWidths}
 use Rattle.policy.specs.Value.{policyOf}
 use Rattle.policy.specs.Valid.{valid}
-use Rattle.formula.proofs.Checked.{valid-fits}
-use Rattle.labels.specs.Inner.Grid.{ViewOf}
-use Rattle.labels.proofs.Grids.{view-inside}
 use Rattle.labels.proofs.Storing.{narrow, refused-value, refused-widths}
 use Rattle.labels.proofs.compile.Statement.{statement}
 use Rattle.labels.proofs.compile.Tie as tie
@@ -33,25 +30,13 @@ returns-2 c = refused-widths _ _ _ _ _ (sym (c .before .own-widths .ensures) ∙
 own : (c : tie.Else2) → let a = c .before .before .before .before .before .before .before .before .args in ownWidths (a .policy .form) (a .widths) ≡ true
 own c = sym (c .before .own-widths .ensures) ∙ not-false (c .before .own-widths .result) (c .if2 .left)
 
-rows-of-requires : tie.Need-rows-of-requires
-rows-of-requires c κs = valid-fits _ (ok (c .before .before))
-
-view-of-requires : tie.Need-view-of-requires
-view-of-requires c κs = search needs
-
-seen : (c : tie.After-view-of) → ViewOf (policyOf (c .before .before .before .before .before .before .before .before .before .before .before .before .args .policy)) (c .view-of .result)
-seen c = c .view-of .ensures _ (c .before .before .before .rows-of .ensures .source .sides)
-
-fill-requires : tie.Need-fill-requires
-fill-requires c κs = ((policyOf _, c .before .before .before .before .rows-of .ensures, seen (c .before)), length-replicate {A = ℕ} mostTuples 0)
+enter-requires : tie.Need-enter-requires
+enter-requires c κs = (ok (c .before .before .before), length-replicate {A = ℕ} mostTuples 0)
 
 store-requires : tie.Need-store-requires
 unfolding policyOf
 store-requires c κs =
-    let f = c .before .before .before .before .before in
-    let e = f .before .before .before .before .before .before in
-    let g = f .fill .ensures _ (f .before .before .before .before .before .rows-of .ensures) (seen (f .before .before)) in
-    (view-inside (seen (f .before .before)), narrow _ (own e) g)
+    let e = c .before .before .before .before .before in (e .enter .ensures .0, narrow _ (own (e .before .before)) (e .enter .ensures .1))
 
 same-length : tie.Need-same-length
 same-length c = search needs
@@ -67,9 +52,8 @@ same-length-4 c = search needs
 
 returns-3 : tie.Need-returns-3
 returns-3 c =
-    let f = c .before .before .before .before .before .before .before .before .before .before .before .before .before .before in
-    let e = f .before .before .before .before .before .before in
-    c .before .before .before .before .before .before .before .before .store .ensures _ (ok (e .before .before)) (own e) (f .fill .ensures _ (f .before .before .before .before .before .rows-of .ensures) (seen (f .before .before)))
+    let e = c .before .before .before .before .before .before .before .before .before .before .before .before .before .before in
+    c .before .before .before .before .before .before .before .before .store .ensures _ (ok (e .before .before .before .before)) (own (e .before .before)) (e .enter .ensures .1)
 
 pub compile-spec : {M : Type 1} → statement M
 compile-spec =
@@ -79,9 +63,7 @@ compile-spec =
     returns
     own-widths-requires
     returns-2
-    rows-of-requires
-    view-of-requires
-    fill-requires
+    enter-requires
     store-requires
     same-length
     same-length-2
