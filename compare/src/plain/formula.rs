@@ -56,7 +56,6 @@ impl Places {
         Places(places)
     }
 
-    #[inline]
     fn held(&self, attribute: u8, set: u32) -> u32 {
         let (start, mask) = self.0[usize::from(attribute)];
         set >> start & mask
@@ -78,7 +77,6 @@ impl Evaluator {
     }
 
     /// The truth of a balanced formula at a pair of sets.
-    #[inline]
     pub fn truth(&self, words: &[Word], user: Held, object: Held) -> bool {
         let mut stack = [false; WORD_PLACES + 1];
         let mut top = 0;
@@ -102,7 +100,6 @@ impl Evaluator {
         stack[top]
     }
 
-    #[inline]
     fn pushes(&self, word: Word, user: Held, object: Held) -> bool {
         match word {
             Word::True => true,

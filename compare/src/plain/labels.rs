@@ -65,20 +65,20 @@ fn fill<E: Element>(grid: &mut Grid<E>, policy: &Policy) {
         let user = Held::by_user(policy, set);
         let paired = rows.granted(user);
         for ((&object, entry), pairs) in objects.iter().zip(row).zip(paired) {
-            *entry = pairs | entry_of(policy, &evaluator, user, object);
+            *entry = pairs | E::cut(entry_of(policy, &evaluator, user, object));
         }
     }
 }
 
 /// Bit a is set exactly when the formula of action a is true.
-fn entry_of<E: Element>(policy: &Policy, evaluator: &Evaluator, user: Held, object: Held) -> E {
+fn entry_of(policy: &Policy, evaluator: &Evaluator, user: Held, object: Held) -> u32 {
     let mut entry = 0;
     for rule in policy.rules() {
         if evaluator.truth(rule.words(), user, object) {
             entry |= 1 << rule.action;
         }
     }
-    E::cut(entry)
+    entry
 }
 
 fn turned<E: Element>(grid: &Grid<E>, rows: usize, columns: usize) -> Grid<E> {
@@ -129,8 +129,7 @@ pub fn apart(policy: &Policy, one: u32, other: u32) -> Result<Option<(u32, u32)>
     let granted = users.map(|user| rows.granted(user));
     for (k, &object) in objects.iter().enumerate() {
         let [one, other] = [0, 1].map(|i| {
-            let entry: WideEntry = entry_of(policy, &evaluator, users[i], object);
-            granted[i][k] | entry
+            granted[i][k] | WideEntry::cut(entry_of(policy, &evaluator, users[i], object))
         });
         let unlike = one ^ other;
         if unlike != 0 {
