@@ -153,27 +153,18 @@ fn letter_of(n: u8) -> Word
     }
 }
 
-// The word of a number. Evaluating does this for every word, and those that most formulas have come first.
+// The word of a number. By tens, since evaluating does this for every word: the compiler then has one jump.
 pub fn of_number(n: u8) -> Word
     ensures { λ r. ⌜ r ≡ word.numbered n ⌝ }
 {
-    if n < 10 {
-        return letter_of(n);
+    let tens = n / 10;
+    match tens {
+        0 => letter_of(n),
+        1 => Word::Holds(Holding::User(n % 10)),
+        2 => Word::Holds(Holding::Object(n % 10)),
+        3..=4 => missing(),
+        5..=14 => Word::Compares(Comparison::Dominates(tens - 5, n % 10)),
+        15..=24 => Word::Compares(Comparison::Equals(tens - 15, n % 10)),
+        _ => missing(),
     }
-    if n < 20 {
-        return Word::Holds(Holding::User(n - 10));
-    }
-    if n < 30 {
-        return Word::Holds(Holding::Object(n - 20));
-    }
-    if n < 50 {
-        return missing();
-    }
-    if n < 150 {
-        return Word::Compares(Comparison::Dominates((n - 50) / 10, (n - 50) % 10));
-    }
-    if n < 250 {
-        return Word::Compares(Comparison::Equals((n - 150) / 10, (n - 150) % 10));
-    }
-    missing()
 }
