@@ -1,6 +1,7 @@
 pub mod Run
 pub mod OneEntry
 pub mod Refusals
+pub mod Kept
 pub mod Agreement
 pub mod OneRequest
 pub mod Valid

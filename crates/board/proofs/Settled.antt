@@ -4,12 +4,11 @@ use mathlib.Core.Path.{_≡_, refl, sym, ap, _∙_}
 use mathlib.Core.Bool.{Bool, true, false, not, cond}
 use mathlib.Core.List.{[], _∷_}
 use mathlib.Core.Option.{Option, none, some}
-use native.Mathlib.Omega.{arith}
 use borrow.Author.Tests.{not-true, not-false}
 use lib.Dec.{eqb}
 use lib.ListN.{getD, set}
 use Rattle.basis.specs.Choice.{given, there, firstBroken}
-use Rattle.basis.proofs.Choice.{unbroken}
+use Rattle.basis.proofs.Choice.{unbroken, unbroken-rest}
 use Rattle.sets.specs.Set.{union, minus}
 use Rattle.policy.specs.Limits.{sessionNumbers, ownWidths}
 use Rattle.policy.specs.Policy.{Policy, setOfNumber}
@@ -25,19 +24,14 @@ use Rattle.board.specs.Board.{closed, entryOf, entryAt, sessionFor, stor
 use Rattle.board.specs.Inner.{refusalOf, FoundAs, Reaches, Reachable, over, lower, invalid, settled}
 use Rattle.board.proofs.Refusals.{allowed, step-other, step-is, lower-bad, lower-good}
 use Rattle.board.proofs.Fitting.{fits-valid}
-use Rattle.board.proofs.Agreement.{near}
+use Rattle.board.proofs.Kept.{near}
 use Rattle.board.proofs.Judging.{judges-one, conflicts-within}
 use Rattle.board.proofs.Valid.{reachable, objects-within}
 
 -- what passes the checks passes the machine's
 lower-none : (v : PolicyValue) (c : Call) (b : Board) → lower v c b ≡ none → firstBroken (checks (policyOf v) c (entryAt b (sessionOf c))) ≡ none
-unfolding lower firstBroken
-lower-none v c b e = go (not (fits v b)) e
-  where
-    go : (t : Bool) → _≡_ {A = Option ℕ} (cond t (some 11) (firstBroken (checks (policyOf v) c (entryAt b (sessionOf c))))) none
-        → firstBroken (checks (policyOf v) c (entryAt b (sessionOf c))) ≡ none
-    go true f = let z : _≡_ {A = ℕ} 0 1 = cc in absurd (omega arith)
-    go false f = f
+unfolding lower
+lower-none v c b e = unbroken-rest _ _ e
 
 module _ (v : PolicyValue) (c : Call) (b : Board) (r : Option ℕ) (h : r ≡ lower v c b) where
   pub settled-near : r ≡ none → sessionOf c < sessionNumbers

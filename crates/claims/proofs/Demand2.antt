@@ -29,7 +29,7 @@ use Rattle.labels.proofs.Compiling.{likeUsers-iff, userLabel-iff, objectLabel-i
 use Rattle.labels.proofs.Separation.{apart-unlike}
 use Rattle.labels.proofs.Told.{not-refused}
 use Rattle.board.specs.Machine.{Call, Entry, Map, Out, sessionOf, checks, entryAfter, reply, step, put, empty, run, machine}
-use Rattle.board.proofs.Agreement.{fitting, fitting-parts, kept}
+use Rattle.board.proofs.Kept.{fitting, fitting-parts, kept}
 use Rattle.board.proofs.Judging.{few-each}
 use Rattle.claims.specs.Demand2.{Told, Allowed, WrittenBack, Claim, WriteClaim, CheckClaim}
 use Rattle.claims.proofs.Deciding.{decides, equal-sets}

@@ -1,4 +1,4 @@
--- The exported calls keep to demands 1 and 3, since the number of an answer says which it is.
+-- The exported calls keep to demands 1 and 3, since the number of an answer says which it is, and to request 6.
 use Prim.Native.Nat.{ℕ, _≤_}
 use mathlib.Core.Path.{_≡_, refl, ap, ap₂, _∙_}
 use mathlib.Core.Bool.{Bool, true, false}
@@ -29,13 +29,15 @@ use Rattle.board.specs.declared.Board.{Board}
 use Rattle.embed.specs.Answers.{counted, crossedCounts, separation}
 use Rattle.claims.specs.Demand1.{ApartResult, ApartRefuses}
 use Rattle.claims.specs.Demand3.{Enough, withCounts}
+use Rattle.claims.specs.Isolation.{names, callsWhere, boardAnswers}
 use Rattle.claims.specs.Reading.{Because}
-use Rattle.claims.specs.Exported.{OfReading, card, Read, Separated, Calls, Demand1, countsOf, handed, called, morning, replyIn, Demand3}
+use Rattle.claims.specs.Exported.{OfReading, card, Read, Separated, Calls, Demand1, countsOf, handed, called, morning, replyIn, Demand3, answersOf, Isolation, CardIsolation}
 use Rattle.claims.proofs.Answers.{met, met-all, through}
 use Rattle.claims.proofs.Reading.{because}
 use Rattle.claims.proofs.Demand1.{demand1}
 use Rattle.claims.proofs.Demand2.{check11}
 use Rattle.claims.proofs.Demand3.{demand3}
+use Rattle.claims.proofs.Isolation.{isolated-map, isolation}
 
 -- ---- reading
 
@@ -216,3 +218,14 @@ exported3 t a b h cs =
       answers = rw (answers-run q (handed q b) cs fresh, l, v, d .answers) (machine-told t cs);
       sessions = λ k. rw (board-run q (handed q b) cs fresh, l, v) (d .entries k);
     }
+
+-- ---- one session of it
+
+pub exported-isolation : Isolation
+exported-isolation p l s calls =
+    isolated-map replyNumber (boardAnswers p l) (answersOf p l) (λ cs. answers-run p l cs fresh) s calls (isolation p l s calls)
+
+pub card-isolation : CardIsolation
+card-isolation t a b h s calls =
+    let i = exported-isolation (card t .policy) (handed (card t .policy) b) s calls in
+    record { isolated = i; machine-alone = ap (map replyIn) (i .alone) ∙ exported3 t a b h (callsWhere (names s) calls) .answers }

@@ -5,6 +5,7 @@ pub mod Demand1
 pub mod Dominance
 pub mod Demand2
 pub mod Demand3
+pub mod Isolation
 pub mod Exported
 pub mod Examples
 pub mod OneRequest

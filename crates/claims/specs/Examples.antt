@@ -1,6 +1,6 @@
 -- The worked examples of document 01 ("One text through the lister", "Edges", "Plausible and false") and examples of
--- document 02's pairs, conflicts, dominance and forms as one table: what the definitions say, beside what the documents
--- say, both as text.
+-- document 02's pairs, conflicts, dominance, forms and isolation as one table: what the definitions say, beside what
+-- the documents say, both as text.
 use Prim.Native.Nat.{ℕ, _/_, _%_}
 use Prim.Native.String.{String}
 use mathlib.Core.Bool.{Bool}
@@ -28,6 +28,7 @@ use Rattle.board.specs.Machine.{Call, opens, adds, drops, closes, requests, ent
 use Rattle.board.specs.Board.{Labels, store, boardStep, fresh}
 use Rattle.board.specs.declared.Board.{Board}
 use Rattle.claims.specs.Demand3.{withCounts}
+use Rattle.claims.specs.Isolation.{names, callsWhere, answersWhere, boardAnswers}
 
 -- ---- what the definitions say, as text
 
@@ -300,12 +301,50 @@ formExamples =
     ∷ example (byBytes sixteen sixteenDay) "done refused,11 refused,11 refused,11 refused,11 refused,11"
     ∷ []
 
--- "Plausible and false", as answers that are not given: entries cut to eight bits; `d00` as it was before seniority
--- counted in it; with a junior in place of a senior; with the object side's seniority too; and `q00` with seniority
+-- the chief in session 0 and the deputy in session 1, which the chief tries to close; and the deputy's same calls with
+-- the chief in session 2, who holds nothing and goes
+abbrev pub together : List Call
+together =
+    opens 0 0 8
+    ∷ opens 1 1 3
+    ∷ requests 0 0 2
+    ∷ requests 1 0 0
+    ∷ adds 0 0 2
+    ∷ closes 0 1
+    ∷ requests 1 0 1
+    ∷ closes 0 0
+    ∷ requests 1 0 0
+    ∷ opens 1 32 3
+    ∷ []
+
+abbrev pub otherwise : List Call
+otherwise =
+    opens 1 1 3 ∷ opens 0 2 8 ∷ drops 0 2 8 ∷ requests 1 0 0 ∷ closes 0 1 ∷ closes 0 2 ∷ requests 1 0 1 ∷ requests 1 0 0 ∷ []
+
+-- of the board's answers to a list those to the calls naming a session
+abbrev pub naming : ℕ → String → List Call → List ℕ
+naming s text calls =
+    let p = policyIs text in replies (answersWhere (names s) calls (boardAnswers (valueOf p) (labelsFor (storedWidths (p .form)) p) calls))
+
+-- "the calls naming s get the same answers, refusals included": with others, with others again, alone; and a session
+-- number above 31
+abbrev pub isolationExamples : List Example
+isolationExamples =
+    example (naming 1 chief together) "done granted refused,18 denied granted"
+    ∷ example (naming 1 chief otherwise) "done granted refused,18 denied granted"
+    ∷ example (onBoard chief (callsWhere (names 1) together)) "done granted refused,18 denied granted"
+    ∷ example (naming 0 chief together) "done granted done done"
+    ∷ example (naming 32 chief together) "refused,13"
+    ∷ []
+
+-- "Plausible and false", as answers that are not given: a request decided by session 0's set; entries cut to eight bits;
+-- `d00` as it was before seniority counted in it; with a junior in place of a senior; with the object side's seniority
+-- too; and `q00` with seniority
 abbrev pub falseAnswers : List Example
 falseAnswers =
     let p = policyIs clearances in
-    example (numbers (tableResult (policyIs sixteen))) "0,0,0,0"
+    example (naming 1 chief together) "done granted refused,18 granted granted"
+    ∷ example (numbers (tableResult (policyIs sixteen))) "0,0,0,0"
     ∷ example (numbers (tuples p 0)) "0,4,5,8,10,12,13,14,15"
     ∷ example (numbers (tuples p 0)) "0,4,5,6,7,8,10,12,13,14,15"
     ∷ example (numbers (tuples p 0)) "0,4,8,9,10,11,12,13,14,15"
@@ -324,7 +363,7 @@ listerExamples =
     ∷ []
 
 abbrev pub table : List Example
-table = compiledExamples ++ (sessionExamples ++ (edgeExamples ++ (falseExamples ++ (pairExamples ++ (conflictExamples ++ (dominanceExamples ++ (formExamples ++ listerExamples)))))))
+table = compiledExamples ++ (sessionExamples ++ (edgeExamples ++ (falseExamples ++ (pairExamples ++ (conflictExamples ++ (dominanceExamples ++ (formExamples ++ (isolationExamples ++ listerExamples))))))))
 
 abbrev pub holds : Example → Bool
 holds e = same eqb (e .found) (e .expected)

@@ -1,5 +1,5 @@
--- Demands 1 and 3 for the exported calls, which a screen makes: on the definitions that their contracts name,
--- `crossedReading` to `crossedStep`.
+-- Demands 1 and 3 and request 6 for the exported calls, which a screen makes: on the definitions that their contracts
+-- name, `crossedReading` to `crossedStep`.
 use Prim.Native.Nat.{ℕ, _≤_}
 use mathlib.Core.Path.{_≡_}
 use mathlib.Core.Bool.{true, false, cond}
@@ -33,6 +33,7 @@ use Rattle.embed.specs.declared.crossed.Separation.{Separation}
 use Rattle.embed.specs.declared.crossed.CrossedStep.{CrossedStep}
 use Rattle.claims.specs.Answers.{Answers}
 use Rattle.claims.specs.Demand1.{refusalsOf}
+use Rattle.claims.specs.Isolation.{names, callsWhere, answersWhere, Isolated}
 
 -- ---- demand 1
 
@@ -143,3 +144,25 @@ abbrev pub Demand3 : Type 0
 Demand3 =
     (t : List ℕ) → card t .refusal ≡ 0 → (b : Buffers) → countsOf (card t .policy) b .refusal ≡ 0
     → (calls : List Call) → AsMachine t calls (morning (card t .policy) (handed (card t .policy) b) calls fresh)
+
+-- ---- request 6: another person's session is none of yours
+
+-- the answers of a morning "from a fresh board"
+abbrev pub answersOf : PolicyValue → Labels → List Call → List ℕ
+answersOf p l calls = morning p l calls fresh .answers
+
+-- whatever policy, buffers, NU and NO are handed in
+abbrev pub Isolation : Type 0
+Isolation = (p : PolicyValue) (l : Labels) (s : ℕ) (calls : List Call) → Isolated (answersOf p l) s calls
+
+-- with the policy of a card and its compiled buffers: then the calls naming s are also answered as the plain machine
+-- answers them alone
+pub record OnCard (t : List ℕ) (b : Buffers) (s : ℕ) (calls : List Call) : Type 0 where
+  pub isolated : Isolated (answersOf (card t .policy) (handed (card t .policy) b)) s calls
+  pub machine-alone : map replyIn (answersWhere (names s) calls (answersOf (card t .policy) (handed (card t .policy) b) calls))
+      ≡ machine t (callsWhere (names s) calls) .replies
+
+abbrev pub CardIsolation : Type 0
+CardIsolation =
+    (t : List ℕ) → card t .refusal ≡ 0 → (b : Buffers) → countsOf (card t .policy) b .refusal ≡ 0
+    → (s : ℕ) (calls : List Call) → OnCard t b s calls

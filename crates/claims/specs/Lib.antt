@@ -3,6 +3,7 @@ pub mod Reading
 pub mod Demand1
 pub mod Demand2
 pub mod Demand3
+pub mod Isolation
 pub mod Exported
 pub mod Examples
 pub mod Lister
