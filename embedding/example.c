@@ -1,7 +1,7 @@
 /*
  * A screen's day: the hall's card is read, its policy compiled, and a member of staff opens a session, works and
- * closes it. At noon the card gains a pair, and in the evening a conflict; the next morning there is another card, and
- * then one with more than eight actions.
+ * closes it; then there are two. At noon the card gains a pair, and in the evening a conflict; the next morning there
+ * is another card, and then one with more than eight actions.
  *
  * usage: example FILE, where FILE is a policy text such as examples/front-desk.txt.
  */
@@ -108,6 +108,40 @@ static void decide(uint32_t action, uint32_t user, uint32_t object) {
            word(helvemoik_decide(policy, action, user, object)));
 }
 
+/* What a moderator calls in session 5, and what another calls in session 6. */
+static void first_moderator(int turn) {
+    switch (turn) {
+    case 0: took("open 1 5 2", helvemoik_open(board, policy, 1, 5, 2)); break;
+    case 1: request("request", 5, 1, 1); break;
+    case 2: request("request", 5, 2, 1); break;
+    case 3: took("add 1 5 4", helvemoik_add(board, policy, 1, 5, 4)); break;
+    default: request("request", 5, 1, 1);
+    }
+}
+
+static void second_moderator(int turn) {
+    switch (turn) {
+    case 0: took("open 2 6 4", helvemoik_open(board, policy, 2, 6, 4)); break;
+    case 1: took("drop 2 6 4", helvemoik_drop(board, policy, 2, 6, 4)); break;
+    case 2: took("add 2 6 5", helvemoik_add(board, policy, 2, 6, 5)); break;
+    case 3: request("request", 6, 2, 1); break;
+    default: took("close 2 6", helvemoik_close(board, policy, 2, 6));
+    }
+}
+
+/* Two moderators use one screen, and then the first is alone: the calls naming session 5 get the same answers. */
+static void moderators(void) {
+    for (int number = 2; number > 0; number--) {
+        printf("moderators: %d\n", number);
+        board = helvemoik_fresh();
+        for (int turn = 0; turn < 5; turn++) {
+            if (number == 2)
+                second_moderator(turn);
+            first_moderator(turn);
+        }
+    }
+}
+
 /* `pair,3,1,0`: editors get action 3 on drafts. Another card is compiled anew and begins with a fresh board. */
 static void gain_pair(size_t length) {
     decide(3, 2, 1);
@@ -211,6 +245,7 @@ int main(int argc, char **argv) {
     request("request", 5, 0, 63);
     took("close 2 5", helvemoik_close(board, policy, 2, 5));
     request("request", 5, 0, 0);
+    moderators();
     gain_pair(length);
     gain_conflict(length);
     next_card();

@@ -298,7 +298,12 @@ struct helvemoik_counts helvemoik_compile_8_16(struct helvemoik_policy policy, u
 /* Whether some action and object set tell two user sets apart. Refusals 11, 19. */
 struct helvemoik_separation helvemoik_apart(struct helvemoik_policy policy, uint32_t one, uint32_t other);
 
-/* ---- session calls: each takes a board and gives the board after it */
+/*
+ * ---- session calls: each takes a board and gives the board after it
+ *
+ * Calls naming one session get the same answers whatever calls name others between them, from a fresh board under one
+ * policy and, for requests, with the same buffers, NU and NO.
+ */
 
 /* A board that holds no session. */
 struct helvemoik_board helvemoik_fresh(void);
