@@ -46,7 +46,8 @@ pub enum Answer {
 }
 
 impl Call {
-    fn session(&self) -> u32 {
+    /// The session that the call names, be there one of that number or not.
+    pub fn session(&self) -> u32 {
         match *self {
             Call::Open { session, .. }
             | Call::Add { session, .. }
