@@ -57,7 +57,8 @@ impl Call {
         }
     }
 
-    fn user(&self) -> Option<u32> {
+    /// The user that the call names; a request names none.
+    pub fn user(&self) -> Option<u32> {
         match *self {
             Call::Open { user, .. }
             | Call::Add { user, .. }

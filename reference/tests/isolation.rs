@@ -83,29 +83,18 @@ fn the_made_lists_have_much_to_tell() {
     assert!(10 * above > lists && 5 * above < lists, "{above}");
 }
 
-/// The users that calls name.
-fn users(calls: &[Call]) -> BTreeSet<u32> {
-    let user = |call: &Call| match *call {
-        Call::Open { user, .. }
-        | Call::Add { user, .. }
-        | Call::Drop { user, .. }
-        | Call::Close { user, .. } => Some(user),
-        Call::Request { .. } => None,
-    };
-    calls.iter().filter_map(user).collect()
-}
-
 /// Every kind of call is done in the session before, in the one behind, in the first and
 /// in the last, by users of the session.
 #[test]
 fn neighbours_do_everything_with_the_same_users() {
     let mut found = BTreeSet::new();
     for (policy, two) in made_lists() {
-        let own = users(&naming(two.session, &two.one));
+        let own = naming(two.session, &two.one);
+        let users: BTreeSet<u32> = own.iter().filter_map(Call::user).collect();
         let (answers, _) = run(&policy, &two.other);
         for (call, answer) in two.other.iter().zip(answers) {
-            let by_own_users = users(&[*call]).is_subset(&own);
-            if call.session() == two.session || !by_own_users || is_refused(&answer) {
+            let of_another = call.user().is_some_and(|user| !users.contains(&user));
+            if call.session() == two.session || of_another || is_refused(&answer) {
                 continue;
             }
             let kind = match call {

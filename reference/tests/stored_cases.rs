@@ -375,7 +375,9 @@ fn the_calls_naming_a_session_get_the_same_answers_in_all_lists_of_a_text() {
             let mut own = answered(list);
             own.retain(|(call, _)| session(call) == number);
             assert_eq!(own, alone);
-            assert!(own.len() < answered(list).len());
+            // Fewer than a reader of the files has room for.
+            let calls = answered(list).len();
+            assert!(own.len() < calls && calls < 64);
             assert_eq!(held(list, number), held(last, number));
         }
         sessions.insert(number);

@@ -1,6 +1,6 @@
 //! Two lists of calls in which those that name one session are the same.
 
-use super::calls::calls;
+use super::calls::{calls, calls_among};
 use super::rng::Rng;
 use crate::isolation::naming;
 use crate::machine::Call;
@@ -8,6 +8,9 @@ use crate::policy::Policy;
 
 /// Numbers past the last session, the first ones and those far off.
 const ABOVE_31: [u32; 7] = [32, 33, 63, 256, 40_000, 65_536, u32::MAX];
+
+/// Requests of the session that are put into the first list.
+const TELLING: u32 = 4;
 
 /// The calls that name the session are the same in both lists, in the same order.
 #[derive(Debug, Clone, PartialEq, Eq)]
@@ -17,20 +20,22 @@ pub struct TwoLists {
     pub other: Vec<Call>,
 }
 
-/// A list of so many calls with a session that some of them name, now and then one above
-/// 31; and a list in which other calls stand between those.
+/// A list of calls with a session that some of them name, now and then one above 31; and a
+/// list in which other calls stand between those. The first list begins with so many
+/// calls, at least two.
 pub fn two_lists(rng: &mut Rng, policy: &Policy, count: u32) -> TwoLists {
     let mut one = calls(rng, policy, count, u32::MAX);
-    let mut session = match one.is_empty() {
-        true => rng.below(32),
-        false => rng.pick(&one).session(),
-    };
+    // The first two open something, so that theirs are the sessions with most to tell.
+    let among = if rng.chance(2, 3) { 2 } else { one.len() };
+    let mut session = rng.pick(&one[..among]).session();
     if rng.chance(1, 8) {
         let above = rng.pick(&ABOVE_31);
         let own = one.iter_mut().filter(|call| call.session() == session);
         own.for_each(|call| *call = in_session(*call, above));
         session = above;
     }
+    let requests = telling(rng, policy, session);
+    let one = merged(rng, &one, &requests);
     let other = beside(rng, policy, session, &one);
     TwoLists {
         session,
@@ -39,39 +44,49 @@ pub fn two_lists(rng: &mut Rng, policy: &Policy, count: u32) -> TwoLists {
     }
 }
 
+/// Requests of a session for actions with a rule or a pair: by these it is told what the
+/// session holds.
+fn telling(rng: &mut Rng, policy: &Policy, session: u32) -> Vec<Call> {
+    let rules = policy.rules.iter().map(|rule| rule.action);
+    let pairs = policy.pairs.iter().map(|pair| pair.action);
+    let actions: Vec<u32> = rules.chain(pairs).collect();
+    if actions.is_empty() || policy.objects.is_empty() {
+        return Vec::new();
+    }
+    let request = |_| Call::Request {
+        session,
+        action: rng.pick(&actions),
+        object: rng.pick(&policy.objects).0,
+    };
+    (0..TELLING).map(request).collect()
+}
+
 /// The calls of a list that name a session, and between them others: some that the list
-/// has, the session's own in a neighbour, so that the same users are in both, and fresh
-/// ones, half of them in neighbours.
+/// has, the session's own in a neighbour, and fresh ones of the same users in it and
+/// another.
 fn beside(rng: &mut Rng, policy: &Policy, session: u32, list: &[Call]) -> Vec<Call> {
     let own = naming(session, list);
-    let neighbours = neighbours(session);
-    let twin = rng.pick(&neighbours);
+    let near = neighbours(session);
+    let near = [rng.pick(&near), rng.pick(&near)];
     let mut kept = list.to_vec();
     kept.retain(|call| call.session() != session && rng.chance(1, 2));
-    let mut shared: Vec<Call> = own.iter().map(|&call| in_session(call, twin)).collect();
+    let mut shared: Vec<Call> = own.iter().map(|&call| in_session(call, near[0])).collect();
     shared.retain(|_| rng.chance(7, 8));
-    let count = rng.below(list.len() as u32 + 1);
-    let mut fresh = calls(rng, policy, count, u32::MAX);
-    for call in &mut fresh {
-        if call.session() == session || rng.chance(1, 2) {
-            *call = in_session(*call, rng.pick(&neighbours));
-        }
-    }
+    let mut users: Vec<u32> = own.iter().filter_map(Call::user).collect();
+    users.retain(|&user| policy.assigned(user).is_some());
+    let count = rng.below(2 * list.len() as u32);
+    let mut fresh = calls_among(rng, policy, &users, &near, count, u32::MAX);
+    fresh.retain(|call| call.session() != session);
     let others = [kept, shared, fresh].into_iter();
     others.fold(own, |list, others| merged(rng, &list, &others))
 }
 
-/// Sessions that a wrong place may be taken for: before and behind, the first and the
-/// last, and those with the same low bits.
+/// Sessions that a wrong place may be taken for: before and behind, most often; the first
+/// and the last, and those with the same low bits.
 fn neighbours(session: u32) -> Vec<u32> {
-    let mut neighbours = vec![
-        session.wrapping_sub(1),
-        session.wrapping_add(1),
-        0,
-        31,
-        session % 32,
-        session.wrapping_add(32),
-    ];
+    let (before, behind) = (session.wrapping_sub(1), session.wrapping_add(1));
+    let low = [0, 31, session % 32, session.wrapping_add(32)];
+    let mut neighbours = [[before, behind, before, behind], low].concat();
     neighbours.retain(|&neighbour| neighbour != session);
     neighbours
 }
