@@ -13,7 +13,7 @@ use reference::text::read;
 use std::collections::BTreeSet;
 
 const CASES: u64 = 400;
-/// Calls in the first of two lists.
+/// Calls that the first of two lists is made from.
 const CALLS: u32 = 24;
 
 /// The accepted ones among the made cases, each with two lists.

@@ -21,8 +21,8 @@ pub struct TwoLists {
 }
 
 /// A list of calls with a session that some of them name, now and then one above 31; and a
-/// list in which other calls stand between those. The first list begins with so many
-/// calls, at least two.
+/// list in which other calls stand between those. The first is made from so many calls, at
+/// least two.
 pub fn two_lists(rng: &mut Rng, policy: &Policy, count: u32) -> TwoLists {
     let mut one = calls(rng, policy, count, u32::MAX);
     // The first two open something, so that theirs are the sessions with most to tell.

@@ -232,7 +232,7 @@ fn no_policy() -> (String, String) {
 
 /// Made cases of each form.
 const MADE: usize = 3;
-/// Calls in the first list of one.
+/// Calls that the first list of one is made from.
 const CALLS: u32 = 14;
 /// The most bytes of one.
 const SMALL: usize = 1_200;
