@@ -5,12 +5,13 @@ mod buffers;
 mod calls;
 mod compiling;
 mod coverage;
+mod isolation;
 mod known;
 mod lent;
 mod sessions;
 mod texts;
 
-pub use coverage::{Cause, Coverage};
+pub use coverage::{Cause, Coverage, Isolation, With};
 
 use crate::damage::damaged;
 use crate::engine::Engine;
@@ -69,6 +70,28 @@ pub fn compare(engine: &dyn Engine, plan: Plan) -> Result<Coverage, Difference> 
     Ok(coverage)
 }
 
+/// Of the cases of a plan isolation of sessions alone. No answer is compared with the
+/// second implementation's, only with the engine's own to other lists.
+pub fn compare_isolation(engine: &dyn Engine, plan: Plan) -> Result<Coverage, Difference> {
+    let mut coverage = Coverage::default();
+    for case in 0..plan.texts {
+        let mut trial = Trial {
+            engine,
+            rng: Rng::new(plan.seed, case),
+            coverage: &mut coverage,
+        };
+        let text = text(&mut trial.rng, case);
+        if !trial.has_two_lists() {
+            continue;
+        }
+        let known = Known::of(engine.read(&text).policy);
+        trial
+            .isolation(&known)
+            .map_err(|what| Difference { plan, case, what })?;
+    }
+    Ok(coverage)
+}
+
 /// One case of a plan: a text, and calls on its policy value.
 pub fn compare_case(
     engine: &dyn Engine,
@@ -102,6 +125,9 @@ impl Trial<'_> {
         let known = self.reading(&text)?;
         if known.policy.is_none() {
             return self.any_call(&known);
+        }
+        if self.has_two_lists() {
+            self.isolation(&known)?;
         }
         let start = self.coverage.calls();
         self.writing_back(&known, &text)?;

@@ -1,6 +1,6 @@
 //! The engine gives the answers that are due, and every answer comes up.
 
-use helvemoik_compare::comparison::{compare, Cause, Coverage, Plan};
+use helvemoik_compare::comparison::{compare, compare_isolation, Cause, Coverage, Plan, With};
 use helvemoik_compare::engine::{Archive, Engine};
 use helvemoik_compare::plain::Plain;
 
@@ -40,8 +40,9 @@ const BY_GRANTS: [&str; 7] = [
 /// Those that an action which form 1 lacks may decide.
 const BY_ACTIONS_ABOVE_7: [&str; 5] = ["apart", "compile_8_16", "decide", "list", "request_8_16"];
 
-/// The kinds of calls on a board, which check 11 may refuse for a conflict alone.
-const BY_CONFLICTS: [&str; 6] = [
+/// The kinds of calls on a board. Each names a session, and check 11 may refuse it for a
+/// conflict alone.
+const ON_A_BOARD: [&str; 6] = [
     "add",
     "close",
     "drop",
@@ -80,14 +81,29 @@ fn covered(engine: &dyn Engine, plan: Plan) -> Coverage {
     assert_eq!(coverage.on_form(1), ON_A_POLICY);
     assert_eq!(coverage.on_form(2), ON_A_POLICY);
     assert_eq!(coverage.by(Cause::Pairs), BY_GRANTS);
-    assert_eq!(coverage.by(Cause::Conflicts), BY_CONFLICTS);
+    assert_eq!(coverage.by(Cause::Conflicts), ON_A_BOARD);
     assert_eq!(coverage.by(Cause::Seniority), BY_GRANTS);
     assert_eq!(coverage.by(Cause::Above7), BY_ACTIONS_ABOVE_7);
     assert_eq!(coverage.by(Cause::Widths), BY_WIDTHS);
     for (kind, answers) in ANSWERS {
         assert_eq!(coverage.answers(kind), answers, "{kind}");
     }
+    isolated(&coverage);
     coverage
+}
+
+/// Every kind of call that names a session was compared in two lists, made with whatever
+/// they may be made with, and in many of them not every such call was refused.
+fn isolated(coverage: &Coverage) {
+    assert_eq!(coverage.isolated(), ON_A_BOARD);
+    for with in [With::Compiled, With::Buffers, With::Widths, With::Value] {
+        let found = coverage.isolation(with);
+        assert!(found.lists > 0 && found.calls > 3 * found.lists, "{with:?}");
+        // Every call with a value that no text yields gets 11.
+        let answered = 3 * found.answered > found.lists;
+        assert_eq!(answered, with != With::Value, "{with:?}");
+    }
+    assert!(coverage.isolation(With::Compiled).above_31 > 0);
 }
 
 #[test]
@@ -98,6 +114,21 @@ fn the_engine_answers_as_is_due() {
         calls: 30_000,
     };
     covered(&Archive, plan);
+}
+
+/// Another session's calls change no answer of the engine's.
+#[test]
+fn the_engine_keeps_sessions_apart() {
+    let plan = Plan {
+        seed: 4,
+        texts: 3_000,
+        calls: 0,
+    };
+    let coverage =
+        compare_isolation(&Archive, plan).unwrap_or_else(|difference| panic!("{difference}"));
+    println!("{coverage}");
+    isolated(&coverage);
+    assert!(coverage.isolation(With::Compiled).calls > plan.texts);
 }
 
 /// What is measured beside the engine does the same job.

@@ -442,9 +442,19 @@ fn call_line(
 ) -> Sessions {
     let count = rng.below(MOST_CALLS + 1);
     let calls = cases::calls(rng, policy, count, largest);
-    let (answers, sessions) = run(policy, &calls);
+    answered_list(out, policy, labelling, &calls)
+}
+
+/// These calls with what the compiler gives; the sessions that are open afterwards.
+pub(crate) fn answered_list(
+    out: &mut String,
+    policy: &Policy,
+    labelling: &Labelling,
+    calls: &[Call],
+) -> Sessions {
+    let (answers, sessions) = run(policy, calls);
     let answers: Vec<u32> = answers.into_iter().map(answer_number).collect();
-    list_line(out, &Lent::all(labelling), &calls, &answers, &sessions);
+    list_line(out, &Lent::all(labelling), calls, &answers, &sessions);
     sessions
 }
 
@@ -567,13 +577,14 @@ fn other_width_lines(
 mod tests {
     use super::*;
     use crate::labels::compile_for;
-    use crate::stored::{example_cases, forms};
+    use crate::machine::step_for;
+    use crate::stored::all_example_cases;
 
     /// The answers that stand in the examples by hand are those given here.
     #[test]
     fn the_examples_are_answered_so() {
         let mut compared = 0;
-        for (text, answers) in [example_cases(), forms::example_cases()].concat() {
+        for (text, answers) in all_example_cases() {
             let Ok(policy) = read(text.as_bytes()) else {
                 continue;
             };
@@ -659,11 +670,42 @@ mod tests {
         };
         let calls = asked[6..].chunks(4).take(asked[5] as usize);
         let calls: Vec<Call> = calls.map(call).collect();
-        let (answers, sessions) = run_for(policy, lent.widths, &calls);
-        let answers: Vec<u32> = answers.into_iter().map(answer_number).collect();
+        let mut sessions = Sessions::new();
+        let mut answers = Vec::new();
+        for call in &calls {
+            let (after, answer) = step_for(policy, lent.widths, &sessions, call);
+            answers.push(by_buffers(policy, &lent, &sessions, call, answer));
+            sessions = after;
+        }
         let mut line = String::new();
         list_line(&mut line, &lent, &calls, &answers, &sessions);
         line.trim_end().to_string()
+    }
+
+    /// The machine's answer, but that of a request which is not refused by what it is lent.
+    fn by_buffers(
+        policy: &Policy,
+        lent: &Lent,
+        sessions: &Sessions,
+        call: &Call,
+        answer: Answer,
+    ) -> u32 {
+        match (*call, answer) {
+            (
+                Call::Request {
+                    session,
+                    action,
+                    object,
+                },
+                Answer::Granted | Answer::Denied,
+            ) => {
+                let labelling = compile(policy);
+                let object_set = policy.object_set(object).expect("a registered object");
+                let places = places(&labelling, lent, sessions[&session].1, object_set);
+                looked_up(&labelling, lent, places, action)
+            }
+            _ => answer_number(answer),
+        }
     }
 
     fn call(numbers: &[u32]) -> Call {

@@ -11,10 +11,12 @@ mod forms;
 mod kind;
 mod pairs;
 mod rng;
+mod two_lists;
 mod valid;
 
 pub use calls::{action, calls, set};
 pub use rng::Rng;
+pub use two_lists::{two_lists, TwoLists};
 
 use conflicts::CONFLICTS;
 use damage::{damaged, DAMAGES};

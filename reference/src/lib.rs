@@ -11,6 +11,7 @@ pub mod case_file;
 pub mod cases;
 pub mod form;
 pub mod formula;
+pub mod isolation;
 pub mod labels;
 pub mod lister;
 pub mod machine;

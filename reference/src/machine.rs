@@ -46,7 +46,8 @@ pub enum Answer {
 }
 
 impl Call {
-    fn session(&self) -> u32 {
+    /// The session that the call names, be there one of that number or not.
+    pub fn session(&self) -> u32 {
         match *self {
             Call::Open { session, .. }
             | Call::Add { session, .. }
@@ -56,7 +57,8 @@ impl Call {
         }
     }
 
-    fn user(&self) -> Option<u32> {
+    /// The user that the call names; a request names none.
+    pub fn user(&self) -> Option<u32> {
         match *self {
             Call::Open { user, .. }
             | Call::Add { user, .. }

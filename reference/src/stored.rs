@@ -1,11 +1,13 @@
 //! The case files that are stored with the product: the requirement's examples
 //! with the requirement's answers, made cases from one seed without pairs and
 //! conflicts and with them, lines that are wrong on purpose, made cases about
-//! dominance, and the like about forms.
+//! dominance, the like about forms, and lists of calls in which those naming one session
+//! are the same.
 
 pub(crate) mod conflicts;
 mod dominance;
 pub(crate) mod forms;
+mod isolation;
 mod lists;
 mod pairs;
 
@@ -86,7 +88,8 @@ const EDGES: [(&str, &str, &str); 16] = [
 
 /// The files by their numbers: the examples, the made cases without pairs, those
 /// about pairs, the lines that are wrong on purpose, then the made cases about
-/// conflicts and those about dominance. What is about forms stands behind all these.
+/// conflicts and those about dominance. What is about forms stands behind all these,
+/// and last what is about isolation of sessions.
 pub fn files() -> Vec<Vec<u8>> {
     let mut files = vec![numbered(example_cases())];
     files.extend(without_pairs());
@@ -109,6 +112,13 @@ pub fn files() -> Vec<Vec<u8>> {
     }));
     files.push(about(of_both_forms, much_between_forms));
     files.push(of_both_forms(LARGE_OF_FORM_2).1);
+    files.push(
+        [
+            numbered(isolation::example_cases()),
+            isolation::made_cases(),
+        ]
+        .concat(),
+    );
     files
 }
 
@@ -250,6 +260,13 @@ pub(crate) fn example_cases() -> Vec<(String, String)> {
     cases
 }
 
+/// The cases with answers by hand, of all files.
+#[cfg(test)]
+pub(crate) fn all_example_cases() -> Vec<(String, String)> {
+    let others = [forms::example_cases(), isolation::example_cases()];
+    [example_cases(), others.concat()].concat()
+}
+
 /// For each number of values, the same on both sides: the greatest sets there
 /// are, and one too great on either side.
 fn greatest_sets() -> Vec<(String, String)> {
@@ -282,7 +299,7 @@ mod tests {
 
     #[test]
     fn the_examples_are_read_as_the_requirement_says() {
-        for (text, answers) in [example_cases(), forms::example_cases()].concat() {
+        for (text, answers) in all_example_cases() {
             let reading = match read(text.as_bytes()) {
                 Ok(_) => "Y".to_string(),
                 Err(refused) => format!("R,{},{}", refused.refusal, refused.line),

@@ -1,8 +1,9 @@
 //! The cards of `examples/`: what the lister writes for each, and the calls
 //! that are stored with their answers.
 
-use reference::card_calls::{call_file, Player};
+use reference::card_calls::{call_file, CallFile, CardCall, Player};
 use reference::lister::list;
+use reference::machine::Answer;
 use reference::text::read;
 use std::fs;
 use std::path::{Path, PathBuf};
@@ -57,6 +58,38 @@ fn the_calls_get_the_answers_beside_them() {
     }
 }
 
+/// The session that a call of a card names.
+fn session(call: &CardCall) -> Option<u32> {
+    match call {
+        CardCall::Session(call) => Some(call.session()),
+        _ => None,
+    }
+}
+
+/// Two moderators at one screen: the calls of the first one's session are the same beside
+/// the other's and alone, and have the same answers, with one of each sort among them.
+#[test]
+fn a_moderator_is_answered_the_same_beside_another_and_alone() {
+    let [both, alone] = ["two-moderators", "one-moderator"].map(|name| -> CallFile {
+        let path = top().join(format!("examples/{name}.calls"));
+        call_file(&fs::read_to_string(path).expect("a file of calls")).expect("calls")
+    });
+    assert_eq!(both.card, alone.card);
+    let first = session(&alone.calls[0].0).expect("a session");
+    let (own, others): (Vec<_>, Vec<_>) = both
+        .calls
+        .into_iter()
+        .partition(|(call, _)| session(call) == Some(first));
+    assert_eq!(own, alone.calls);
+    assert!(others
+        .iter()
+        .any(|(call, _)| session(call) == Some(first + 1)));
+    let found = |wanted: fn(&Answer) -> bool| own.iter().any(|(_, answer)| wanted(answer));
+    assert!(found(|answer| *answer == Answer::Granted));
+    assert!(found(|answer| *answer == Answer::Denied));
+    assert!(found(|answer| matches!(answer, Answer::Refused(_))));
+}
+
 #[test]
 fn every_card_outside_refused_is_accepted_and_has_calls() {
     for path in files("txt").iter().filter(|path| !refused(path)) {
@@ -80,11 +113,7 @@ fn every_refusal_has_a_file() {
         let file = call_file(&fs::read_to_string(path).expect("calls")).expect("calls");
         let last = file.calls.last().expect("a call").1;
         let number = number(path).expect("a number");
-        assert_eq!(
-            last,
-            reference::machine::Answer::Refused(number),
-            "{path:?}"
-        );
+        assert_eq!(last, Answer::Refused(number), "{path:?}");
         found.push(number);
     }
     found.sort();

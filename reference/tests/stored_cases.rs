@@ -20,6 +20,8 @@ const DOMINANCE: usize = 19;
 /// The examples of forms, the lines about them that are wrong on purpose, cases of form
 /// 2, what is between forms, and a large case of form 2.
 const FORMS: [usize; 5] = [20, 21, 22, 23, 24];
+/// The file about isolation of sessions.
+const ISOLATION: usize = 25;
 
 /// What `vectors` counts, by the tags of lines, in the order of its output.
 const COUNTED: [(&str, &str); 10] = [
@@ -240,7 +242,7 @@ fn texts_of_form_2_stand_behind_all_of_form_1() {
     };
     assert!((0..=DOMINANCE).all(|file| of_form_2(file).0 == 0));
     let found = FORMS.map(of_form_2);
-    assert_eq!(files().len(), FORMS[4] + 1);
+    assert_eq!(files().len(), ISOLATION + 1);
     // By hand and wrong on purpose both forms; then form 2, form 1, form 2.
     assert!(found[0].0 > 25 && found[0].1 > found[0].0 + 10, "{found:?}");
     assert_eq!(found[1], (2, 3));
@@ -330,6 +332,60 @@ fn calls_made_for_other_widths_get_11() {
         compiled.iter().chain(&asked).all(|&count| count > 20),
         "{compiled:?} {asked:?}"
     );
+}
+
+/// The session that a call in a list names.
+fn session(call: &[u32]) -> u32 {
+    match call[0] {
+        4 => call[1],
+        _ => call[2],
+    }
+}
+
+/// The calls in a list, each with its answer.
+fn answered(list: &[u32]) -> Vec<(&[u32], u32)> {
+    let calls = list[7] as usize;
+    let answers = &list[8 + 4 * calls..8 + 5 * calls];
+    let answered = list[8..].chunks(4).zip(answers);
+    answered.map(|(call, &answer)| (call, answer)).collect()
+}
+
+/// What a session holds after a list, if it is open: its user and set.
+fn held(list: &[u32], session: u32) -> Option<&[u32]> {
+    let entries = list[8 + 5 * list[7] as usize..].chunks(3);
+    let mut own = entries.filter(|entry| entry[0] == session);
+    own.next().map(|entry| &entry[1..])
+}
+
+/// The last list of a text has the calls naming one session alone. In each other list of
+/// the text these calls are the same, among others, and so are their answers.
+#[test]
+fn the_calls_naming_a_session_get_the_same_answers_in_all_lists_of_a_text() {
+    let (mut sessions, mut found) = (BTreeSet::new(), BTreeSet::new());
+    let cases = texts_with_lines(&files()[ISOLATION]);
+    assert!((10..=20).contains(&cases.len()));
+    for (_, lines) in cases {
+        let lists: Vec<_> = lines.iter().filter_map(|line| list_numbers(line)).collect();
+        let (last, others) = lists.split_last().expect("lists");
+        let alone = answered(last);
+        let number = session(alone[0].0);
+        assert!(alone.iter().all(|(call, _)| session(call) == number));
+        assert!(others.len() > 1 && others[0] != others[1]);
+        for list in others {
+            let mut own = answered(list);
+            own.retain(|(call, _)| session(call) == number);
+            assert_eq!(own, alone);
+            // Fewer than a reader of the files has room for.
+            let calls = answered(list).len();
+            assert!(own.len() < calls && calls < 64);
+            assert_eq!(held(list, number), held(last, number));
+        }
+        sessions.insert(number);
+        found.extend(alone.iter().map(|(_, answer)| *answer));
+    }
+    assert!([0, 31, 32, 33, 40_000].iter().all(|s| sessions.contains(s)));
+    let all = [0, 1, 2].into_iter().chain(11..=20).chain([23]);
+    assert!(found.iter().copied().eq(all), "{found:?}");
 }
 
 /// As long as the longest that were there before, which a reader of the files has room for.

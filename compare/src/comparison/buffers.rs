@@ -1,8 +1,9 @@
 //! What a request is lent, compiled and otherwise.
 
 use super::known::Known;
-use crate::boundary::MOST_LABELS;
+use crate::boundary::{PolicyValue, MOST_LABELS, MOST_TABLE};
 use crate::damage::odd;
+use crate::engine::Engine;
 use crate::widths::{Element, Labels, Widths};
 use reference::cases::Rng;
 use reference::labels::Labelling;
@@ -42,6 +43,18 @@ impl<W: Widths> Buffers<W> {
         }
     }
 
+    /// As an engine compiles a policy value, with room enough.
+    pub fn compiled(engine: &dyn Engine, policy: &PolicyValue) -> Self {
+        let mut buffers = Buffers {
+            table: vec![W::Entry::default(); MOST_TABLE],
+            ..Self::blank()
+        };
+        let (users, objects) = (&mut buffers.users, &mut buffers.objects);
+        let counts = W::compile(engine, policy, users, objects, &mut buffers.table);
+        (buffers.nu, buffers.no) = (counts.users, counts.objects);
+        buffers
+    }
+
     pub fn labels(&self) -> Labels<'_, W> {
         Labels {
             nu: self.nu,
@@ -51,6 +64,7 @@ impl<W: Widths> Buffers<W> {
             table: &self.table,
         }
     }
+
     /// Document 01's sentence on request: one number of each buffer, 20 where any of the
     /// three places is past its end.
     pub fn looked_up(&self, held: u32, object: u32, action: u32) -> u32 {

@@ -29,14 +29,48 @@ const CAUSES: [(Cause, &str); 5] = [
     (Cause::Widths, "11 by widths"),
 ];
 
+/// With what two lists were made in which the calls naming one session are the same.
+#[derive(Debug, Clone, Copy, PartialEq, Eq, PartialOrd, Ord)]
+pub enum With {
+    /// A text's policy value and its compiled buffers.
+    Compiled,
+    /// Other buffers.
+    Buffers,
+    /// Buffers of other widths than the form's.
+    Widths,
+    /// A value that no text yields.
+    Value,
+}
+
+const WITH: [(With, &str); 4] = [
+    (With::Compiled, "compiled buffers"),
+    (With::Buffers, "other buffers"),
+    (With::Widths, "other widths"),
+    (With::Value, "no text's value"),
+];
+
+/// How many times two such lists were compared, how often some call naming the session
+/// was not refused, how often the session's number was above 31, and how many such calls
+/// there were.
+#[derive(Debug, Default, Clone, Copy, PartialEq, Eq)]
+pub struct Isolation {
+    pub lists: u64,
+    pub answered: u64,
+    pub above_31: u64,
+    pub calls: u64,
+}
+
 /// How often each answer was given, of reading and of each kind of call; how many of
-/// the calls had a good policy of each form, and how often one cause decided alone.
+/// the calls had a good policy of each form, and how often one cause decided alone. What
+/// was compared of isolation of sessions is counted apart.
 #[derive(Debug, Default, Clone, PartialEq, Eq)]
 pub struct Coverage {
     texts: BTreeMap<u32, u64>,
     calls: BTreeMap<&'static str, BTreeMap<u32, u64>>,
     forms: BTreeMap<u32, Kinds>,
     causes: BTreeMap<Cause, Kinds>,
+    isolation: BTreeMap<With, Isolation>,
+    isolated: Kinds,
 }
 
 impl Coverage {
@@ -57,6 +91,20 @@ impl Coverage {
     pub(super) fn count_cause(&mut self, cause: Cause, kind: &'static str) {
         let kinds = self.causes.entry(cause).or_default();
         *kinds.entry(kind).or_default() += 1;
+    }
+
+    /// Counts what was compared of two lists.
+    pub(super) fn count_isolation(&mut self, with: With, compared: Isolation) {
+        let sum = self.isolation.entry(with).or_default();
+        sum.lists += compared.lists;
+        sum.answered += compared.answered;
+        sum.above_31 += compared.above_31;
+        sum.calls += compared.calls;
+    }
+
+    /// Counts a call that names the session of two lists.
+    pub(super) fn count_isolated(&mut self, kind: &'static str) {
+        *self.isolated.entry(kind).or_default() += 1;
     }
 
     /// How many calls there were, readings not among them.
@@ -89,6 +137,31 @@ impl Coverage {
     pub fn by(&self, cause: Cause) -> Vec<&'static str> {
         kinds(self.causes.get(&cause))
     }
+
+    /// What was compared of two lists made with something.
+    pub fn isolation(&self, with: With) -> Isolation {
+        self.isolation.get(&with).copied().unwrap_or_default()
+    }
+
+    /// The kinds of calls that named the session of two lists.
+    pub fn isolated(&self) -> Vec<&'static str> {
+        kinds(Some(&self.isolated))
+    }
+
+    fn write_isolation(&self, f: &mut fmt::Formatter<'_>) -> fmt::Result {
+        writeln!(f, "two lists with the same calls naming a session")?;
+        for (with, name) in WITH {
+            let found = self.isolation(with);
+            let counts = BTreeMap::from([
+                ("calls naming it", found.calls),
+                ("lists", found.lists),
+                ("not all refused", found.answered),
+                ("session above 31", found.above_31),
+            ]);
+            write_counts(f, name, &counts)?;
+        }
+        write_counts(f, "calls naming it", &self.isolated)
+    }
 }
 
 fn kinds(counts: Option<&Kinds>) -> Vec<&'static str> {
@@ -116,7 +189,7 @@ impl Display for Coverage {
             let none = Kinds::new();
             write_counts(f, name, self.causes.get(&cause).unwrap_or(&none))?;
         }
-        Ok(())
+        self.write_isolation(f)
     }
 }
 

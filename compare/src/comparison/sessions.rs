@@ -21,7 +21,7 @@ struct Course {
     map: Sessions,
 }
 
-fn kind<W: Widths>(call: &Call) -> &'static str {
+pub(super) fn kind<W: Widths>(call: &Call) -> &'static str {
     match call {
         Call::Open { .. } => "open",
         Call::Add { .. } => "add",
@@ -32,7 +32,7 @@ fn kind<W: Widths>(call: &Call) -> &'static str {
 }
 
 /// A call as the engine answers it; a request is made for the widths of what it is lent.
-fn by_engine<W: Widths>(
+pub(super) fn by_engine<W: Widths>(
     engine: &dyn Engine,
     board: &Board,
     known: &Known,

@@ -8,7 +8,7 @@ mod widths;
 
 use held::Move;
 use helvemoik_compare::boundary::*;
-use helvemoik_compare::comparison::{compare, Plan};
+use helvemoik_compare::comparison::{compare, compare_isolation, Plan};
 use helvemoik_compare::engine::Engine;
 use helvemoik_compare::plain::Plain;
 use helvemoik_compare::widths::{Labels, Widths8x16, Widths8x8};
@@ -133,6 +133,9 @@ faults! {
     LooksUpAtHalfThePlace,
     LooksAtALowByte,
     WrongWidthTidiesTheBoard,
+    AddReachesTheNext,
+    CloseClearsTwo,
+    RequestsBySession0,
 }
 
 use Fault::*;
@@ -286,6 +289,11 @@ impl Engine for Faulty {
                 let session = session as usize;
                 step.board.sessions[session].live = board.sessions[session].live;
             }
+            AddReachesTheNext if step.answer == DONE => {
+                for next in behind(&mut step.board, session).filter(|next| next.is_open()) {
+                    next.held |= set;
+                }
+            }
             _ => {}
         }
         step
@@ -310,6 +318,9 @@ impl Engine for Faulty {
                     answer: 17,
                     board: *board,
                 };
+            }
+            CloseClearsTwo if step.answer == DONE => {
+                behind(&mut step.board, session).for_each(|next| *next = Session::default());
             }
             _ => {}
         }
@@ -341,6 +352,11 @@ impl Engine for Faulty {
     }
 }
 
+/// The entry behind that of a session, if there is one.
+fn behind(board: &mut Board, session: u32) -> impl Iterator<Item = &mut Session> {
+    board.sessions.iter_mut().skip(session as usize + 1).take(1)
+}
+
 #[test]
 fn every_fault_is_found() {
     let plan = Plan {
@@ -352,5 +368,22 @@ fn every_fault_is_found() {
         let found = compare(&Faulty(fault), plan);
         let difference = found.expect_err(&format!("{fault:?} is not found"));
         println!("{fault:?}: case {}", difference.case);
+    }
+}
+
+/// An engine in which one session meddles with another is found by its own answers to two
+/// lists, with nothing to compare them with.
+#[test]
+fn sessions_that_are_not_isolated_are_found_by_two_lists() {
+    let plan = Plan {
+        seed: 5,
+        texts: 5_000,
+        calls: 0,
+    };
+    for fault in [AddReachesTheNext, CloseClearsTwo, RequestsBySession0] {
+        let found = compare_isolation(&Faulty(fault), plan);
+        let difference = found.expect_err(&format!("{fault:?} is not found"));
+        println!("{difference}");
+        assert!(difference.what.starts_with("calls naming session "));
     }
 }

@@ -138,6 +138,9 @@ impl Faulty {
             RequestsAction8InForm1 if step.answer == 12 && (policy.form, action) == (1, 8) => {
                 step.answer = DENIED
             }
+            RequestsBySession0 if step.answer <= GRANTED && board.sessions[0].is_open() => {
+                return W::request(&Plain, board, policy, labels, 0, action, object);
+            }
             _ if is_wrong::<W>(policy) && self.asks_other_forms::<W>() => {
                 let seen = in_form_of::<W>(policy);
                 return W::request(&Plain, board, &seen, labels, session, action, object);

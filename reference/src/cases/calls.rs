@@ -27,12 +27,24 @@ const ODD: [u32; 14] = [
 /// A list of calls by few users on few sessions, so that they meet. No number
 /// is above `largest`.
 pub fn calls(rng: &mut Rng, policy: &Policy, count: u32, largest: u32) -> Vec<Call> {
-    let objects: Vec<u32> = policy.objects.iter().map(|object| object.0).collect();
     let (people, sessions) = few(rng, policy);
+    calls_among(rng, policy, &people, &sessions, count, largest)
+}
+
+/// The same, mostly by these users on these sessions.
+pub(super) fn calls_among(
+    rng: &mut Rng,
+    policy: &Policy,
+    people: &[u32],
+    sessions: &[u32],
+    count: u32,
+    largest: u32,
+) -> Vec<Call> {
+    let objects: Vec<u32> = policy.objects.iter().map(|object| object.0).collect();
     (0..count)
         .map(|call| {
-            let user = number(rng, &people, 33, largest);
-            let session = number(rng, &sessions, 33, largest);
+            let user = number(rng, people, 33, largest);
+            let session = number(rng, sessions, 33, largest);
             let set = user_set(rng, policy, user, largest);
             // Open first, for the others to find something open.
             match if call < 2 { 0 } else { rng.below(12) } {
