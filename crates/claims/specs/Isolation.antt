@@ -31,7 +31,7 @@ answersWhere f [] xs = []
 answersWhere f (c ∷ cs) [] = []
 answersWhere f (c ∷ cs) (x ∷ xs) = cond (f c) (x ∷ answersWhere f cs xs) (answersWhere f cs xs)
 
--- what answers lists of calls keeps session s, in one list, from all other sessions
+-- in a list of calls session s is isolated from all others; `answers` is what answers such lists
 pub record Isolated {A : Type 0} (answers : List Call → List A) (s : ℕ) (calls : List Call) : Type 0 where
   -- the request's sentence, for this list and any other
   pub same : (others : List Call) → callsWhere (names s) calls ≡ callsWhere (names s) others
