@@ -1,6 +1,8 @@
 //! The plain machine of sessions, with refusals 12 to 19 and 23, and 11 for a request
 //! made for other widths than those of the policy's form.
 
+pub mod short;
+
 use crate::form::Widths;
 use crate::formula::{reach, Formulas};
 use crate::policy::{Policy, Refusal, Set};
@@ -190,28 +192,13 @@ pub fn run_for(policy: &Policy, widths: Widths, calls: &[Call]) -> (Vec<Answer>,
 
 #[cfg(test)]
 mod tests {
+    use super::short::{add, open, request};
     use super::*;
     use crate::form::{WIDTHS_8_16, WIDTHS_8_8};
     use crate::text::read;
 
     const TEXT: &[u8] = b"policy,1\nuattr,2\nuattr,1\noattr,1\nusen,1,0\nuser,0,2\nuser,5,4\n\
         object,3,1\nrule,0,u0,o0,a\nend\n";
-
-    fn open(user: u32, session: u32, set: Set) -> Call {
-        Call::Open { user, session, set }
-    }
-
-    fn add(user: u32, session: u32, set: Set) -> Call {
-        Call::Add { user, session, set }
-    }
-
-    fn request(session: u32, action: u32, object: u32) -> Call {
-        Call::Request {
-            session,
-            action,
-            object,
-        }
-    }
 
     fn last(calls: &[Call]) -> Answer {
         last_on(TEXT, calls)

@@ -7,6 +7,7 @@ use made::accepted;
 use reference::cases::{two_lists, TwoLists};
 use reference::form::WIDTHS;
 use reference::isolation::{answers_naming, naming};
+use reference::machine::short::{add, close, drop, open, request};
 use reference::machine::{run, run_for, Answer, Call};
 use reference::policy::Policy;
 use reference::text::read;
@@ -121,30 +122,6 @@ fn neighbours_do_everything_with_the_same_users() {
 /// for value 1.
 const TEXT: &[u8] = b"policy,1\nuattr,2\noattr,1\nusen,1,0\nuser,0,2\nuser,1,1\nobject,0,1\n\
     conflict,3,1\nrule,0,u1,o0,a\nend\n";
-
-fn open(user: u32, session: u32, set: u32) -> Call {
-    Call::Open { user, session, set }
-}
-
-fn add(user: u32, session: u32, set: u32) -> Call {
-    Call::Add { user, session, set }
-}
-
-fn drop(user: u32, session: u32, set: u32) -> Call {
-    Call::Drop { user, session, set }
-}
-
-fn close(user: u32, session: u32) -> Call {
-    Call::Close { user, session }
-}
-
-fn request(session: u32, action: u32, object: u32) -> Call {
-    Call::Request {
-        session,
-        action,
-        object,
-    }
-}
 
 /// A day in a session, and the answers by hand.
 fn day(session: u32) -> [(Call, Answer); 11] {
