@@ -371,8 +371,8 @@ fn every_fault_is_found() {
     }
 }
 
-/// An engine in which one session meddles with another is found by its own answers to two
-/// lists, with nothing to compare them with.
+/// An engine in which one session changes another's answers is found by its own answers to
+/// two lists, with nothing to compare them with.
 #[test]
 fn sessions_that_are_not_isolated_are_found_by_two_lists() {
     let plan = Plan {

@@ -1,5 +1,5 @@
--- What check 11 passes stays so: a call that is not refused leaves its session's entry fitting, and with it the board. On
--- such a board each call goes by one entry, whatever the policy value and the buffers.
+-- What check 11 passes stays so: a call that is not refused leaves its session's entry fitting, and with it the board.
+-- On such a board each call goes by one entry, whatever the policy value and the buffers.
 use Prim.Native.Nat.{ℕ, _<_}
 use mathlib.Core.Path.{_≡_, refl, ap, _∙_}
 use mathlib.Core.Bool.{Bool, true, false, cond, not, _||_, and-true}

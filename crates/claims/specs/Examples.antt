@@ -337,9 +337,9 @@ isolationExamples =
     ∷ example (naming 32 chief together) "refused,13"
     ∷ []
 
--- "Plausible and false", as answers that are not given: a request decided by session 0's set; entries cut to eight bits;
--- `d00` as it was before seniority counted in it; with a junior in place of a senior; with the object side's seniority
--- too; and `q00` with seniority
+-- "Plausible and false", as answers that are not given: a request decided by session 0's set; entries cut to eight
+-- bits; `d00` as it was before seniority counted in it; with a junior in place of a senior; with the object side's
+-- seniority too; and `q00` with seniority
 abbrev pub falseAnswers : List Example
 falseAnswers =
     let p = policyIs clearances in
