@@ -12,7 +12,11 @@ use Rattle.policy.specs.Limits.{isForm, values, actions, bits, storedWid
 
 pub values-most : (form : ℕ) → values form ≤ mostValues
 unfolding values
-values-most form = lit≤ tt
+values-most form = most (eqb form 3)
+  where
+    most : (b : Bool) → cond b 9 7 ≤ mostValues
+    most true = lit≤ tt
+    most false = lit≤ tt
 
 pub actions-most : (form : ℕ) → actions form ≤ mostActions
 unfolding actions
@@ -25,12 +29,16 @@ actions-most form = most (eqb form 1)
 -- an entry has a bit for each action
 pub actions-stored : (form : ℕ) → actions form ≤ storedWidths form .entry
 unfolding actions storedWidths
-actions-stored form = stored (eqb form 1)
+actions-stored form = stored (eqb form 1) (eqb form 3)
   where
-    stored : (b : Bool) → cond b 8 16 ≤ cond b (bits 8 8) (bits 8 16) .entry
-    stored true = lit≤ tt
-    stored false = lit≤ tt
+    stored : (b c : Bool) → cond b 8 16 ≤ cond b (bits 8 8) (cond c (bits 16 16) (bits 8 16)) .entry
+    stored true c = lit≤ tt
+    stored false true = lit≤ tt
+    stored false false = lit≤ tt
 
 pub form-few : (form : ℕ) → isForm form ≡ true → form < 10 ^ mostDigits
-form-few form e =
-    ⊎-elim (λ h. omega (arith, eqb-true form 1 h)) (λ h. omega (arith, eqb-true form 2 h)) (or-cases (eqb form 1) (eqb form 2) e)
+form-few form e = ⊎-elim (λ h. omega (arith, eqb-true form 1 h)) later (or-cases (eqb form 1) (eqb form 2 || eqb form 3) e)
+  where
+    later : (eqb form 2 || eqb form 3) ≡ true → form < 10 ^ mostDigits
+    later e′ =
+        ⊎-elim (λ h. omega (arith, eqb-true form 2 h)) (λ h. omega (arith, eqb-true form 3 h)) (or-cases (eqb form 2) (eqb form 3) e′)

@@ -10,16 +10,17 @@ textBytes = 8192
 
 -- ---- by form
 
--- "`policy,1`: the form's number", and document 02: "A text beginning `policy,2`"
+-- "`policy,1`: the form's number", and document 02: "A text beginning `policy,2`", "a text beginning `policy,3`"
 abbrev pub isForm : ℕ → Bool
-isForm form = eqb form 1 || eqb form 2
+isForm form = eqb form 1 || (eqb form 2 || eqb form 3)
 
--- "Each W is 1 to 7; U, the sum of the W, is 1 to 7": the greatest width and sum of a side in a text of this form
+-- "Each W is 1 to 7; U, the sum of the W, is 1 to 7"; a text beginning `policy,3` "has sums, and each W, from 1 to 9 on
+-- each side": the greatest width and sum of a side in a text of this form
 unfoldable pub values : ℕ → ℕ
-values form = 7
+values form = cond (eqb form 3) 9 7
 
 -- "the formula of action A, 0 to 7", to which "a `policy,1` text keeps"; "a text beginning `policy,2` may have actions 0
--- to 15": how many actions a text of this form has
+-- to 15", and one beginning `policy,3` has "actions as in form 2": how many actions a text of this form has
 unfoldable pub actions : ℕ → ℕ
 actions form = cond (eqb form 1) 8 16
 
@@ -27,17 +28,22 @@ actions form = cond (eqb form 1) 8 16
 abbrev pub bits : ℕ → ℕ → Widths
 bits label entry = record { label = label; entry = entry }
 
--- "three byte buffers"; "table entries are 16 bits wide. A `policy,1` text keeps byte tables": the stored widths of a form
+-- "three byte buffers"; "table entries are 16 bits wide. A `policy,1` text keeps byte tables"; in form 3 "label buffers
+-- become 16-bit": the stored widths of a form
 unfoldable pub storedWidths : ℕ → Widths
-storedWidths form = cond (eqb form 1) (bits 8 8) (bits 8 16)
+storedWidths form = cond (eqb form 1) (bits 8 8) (cond (eqb form 3) (bits 16 16) (bits 8 16))
 
 -- a call is made for these widths, and they are not "stored widths other than those of the policy's form"
 unfoldable pub ownWidths : ℕ → Widths → Bool
 ownWidths form w = eqb (w .label) (storedWidths form .label) && eqb (w .entry) (storedWidths form .entry)
 
+-- "Each is stored in 16 bits"; in form 3 "tuples 32-bit": in how many bits a form stores a tuple
+unfoldable pub tupleBits : ℕ → ℕ
+tupleBits form = cond (eqb form 3) 32 16
+
 -- the most of any form, for which arrays have places; the laws `values-most` and `actions-most` say so
 abbrev pub mostValues : ℕ
-mostValues = 7
+mostValues = 9
 
 abbrev pub mostActions : ℕ
 mostActions = 16

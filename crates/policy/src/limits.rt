@@ -6,19 +6,23 @@ ghost use Rattle.policy.specs.Limits as limits;
 // The most bytes of a text.
 pub const TEXT_BYTES: usize = 8192;
 
-// The forms. All have the same greatest sum of a side; the second has more actions.
+// The forms. The second has more actions than the first, the third more values than both.
 const FORM_1: u32 = 1;
 
 const FORM_2: u32 = 2;
 
-const FORM_VALUES: u32 = 7;
+const FORM_3: u32 = 3;
+
+const FORM_1_VALUES: u32 = 7;
+
+const FORM_3_VALUES: u32 = 9;
 
 const FORM_1_ACTIONS: u32 = 8;
 
 const FORM_2_ACTIONS: u32 = 16;
 
 // The most of any form, for which arrays have places.
-pub const MOST_VALUES: usize = 7;
+pub const MOST_VALUES: usize = 9;
 
 pub const MOST_ACTIONS: usize = 16;
 
@@ -61,8 +65,18 @@ pub const WIDTHS_8_16: Widths = Widths {
     entry: 16,
 };
 
+pub const WIDTHS_16_16: Widths = Widths {
+    label: 16,
+    entry: 16,
+};
+
 // The width of what is stored in a byte.
 pub const BYTE: u32 = 8;
+
+// The stored widths of tuples.
+pub const TUPLE_16: u32 = 16;
+
+pub const TUPLE_32: u32 = 32;
 
 pub fn is_form(form: u32) -> bool
     ensures { λ r. ⌜ r ≡ limits.isForm form ⌝ }
@@ -70,14 +84,21 @@ pub fn is_form(form: u32) -> bool
     if form == FORM_1 {
         return true;
     }
-    form == FORM_2
+    if form == FORM_2 {
+        return true;
+    }
+    form == FORM_3
 }
 
 // The greatest width and sum of a side.
 pub fn values(form: u32) -> u32
     ensures { λ r. ⌜ r ≡ limits.values form ⌝ }
 {
-    FORM_VALUES
+    if form == FORM_3 {
+        FORM_3_VALUES
+    } else {
+        FORM_1_VALUES
+    }
 }
 
 pub fn actions(form: u32) -> u32
@@ -95,9 +116,22 @@ fn stored_widths(form: u32) -> Widths
     ensures { λ r. ⌜ r ≡ limits.storedWidths form ⌝ }
 {
     if form == FORM_1 {
-        WIDTHS_8_8
+        return WIDTHS_8_8;
+    }
+    if form == FORM_3 {
+        return WIDTHS_16_16;
+    }
+    WIDTHS_8_16
+}
+
+// In how many bits a form stores a tuple.
+pub fn tuple_bits(form: u32) -> u32
+    ensures { λ r. ⌜ r ≡ limits.tupleBits form ⌝ }
+{
+    if form == FORM_3 {
+        TUPLE_32
     } else {
-        WIDTHS_8_16
+        TUPLE_16
     }
 }
 

@@ -7,7 +7,10 @@ returns : tie.Need-returns
 returns c = search eq-eqb
 
 returns-2 : tie.Need-returns-2
-returns-2 c = search ne-eqb
+returns-2 c = search (eq-eqb, ne-eqb)
+
+returns-3 : tie.Need-returns-3
+returns-3 c = search ne-eqb
 
 pub is-form-spec : {M : Type 1} → statement M
-is-form-spec = tie.close (tie.spec returns returns-2)
+is-form-spec = tie.close (tie.spec returns returns-2 returns-3)

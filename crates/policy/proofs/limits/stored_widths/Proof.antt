@@ -10,7 +10,11 @@ returns c = search eq-eqb
 
 returns-2 : tie.Need-returns-2
 unfolding storedWidths
-returns-2 c = search ne-eqb
+returns-2 c = search (eq-eqb, ne-eqb)
+
+returns-3 : tie.Need-returns-3
+unfolding storedWidths
+returns-3 c = search ne-eqb
 
 pub stored-widths-spec : {M : Type 1} → statement M
-stored-widths-spec = tie.close (tie.spec returns returns-2)
+stored-widths-spec = tie.close (tie.spec returns returns-2 returns-3)
