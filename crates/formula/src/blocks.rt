@@ -1,13 +1,12 @@
-// The object sets of a policy in blocks of 64, made once for all the user sets that are asked about.
-ghost use Prim.Native.Nat.{ℕ, _+_, _*_, _%_, _^_, _≤_, _<_};
+// The sets of a side in blocks of 64, made once for all the sets of the other side that are asked about.
+ghost use Prim.Native.Nat.{ℕ, _*_, _≤_, _<_};
 ghost use mathlib.Core.Path.{_≡_};
-ghost use Rattle.seniority.specs.Seniority.{heldOrJunior};
+ghost use lib.ListN.{getD};
 ghost use Rattle.policy.specs.Limits.{mostValues};
 ghost use Rattle.policy.specs.Policy.{Policy};
 ghost use Rattle.policy.specs.Value.{sideOf};
 ghost use Rattle.formula.specs.Inner.Fits.{SideFits};
-ghost use Rattle.formula.specs.Inner.Lane.{lanes, Stands};
-ghost use Rattle.formula.specs.Inner.Source.{blocksOf, SourceOf};
+ghost use Rattle.formula.specs.Inner.Source.{blocksOf, noBlock, Numbered, SourceOf};
 use crate::attributes;
 use crate::attributes::Attributes;
 use crate::side;
@@ -18,7 +17,7 @@ use policy::limits::MOST_SETS;
 use policy::value::SideValue;
 
 // The most blocks that a side has.
-const SIDE_BLOCKS: usize = MOST_SETS / LANES;
+pub const SIDE_BLOCKS: usize = MOST_SETS / LANES;
 
 // The vectors of 64 sets.
 pub struct Block {
@@ -45,14 +44,27 @@ pub fn blocks_of(n: u32) -> usize
     }
 }
 
-// The object sets that the numbers 64b to 64b + 63 have in their lowest n bits, with their seniors.
-fn objects_from(b: u32, object: SideValue, n: u32) -> Block
-    requires { ⌜ SideFits object × (n ≤ mostValues) ⌝ }
-    ensures { λ r. ⌜ ((k : ℕ) → k < lanes → Stands (heldOrJunior (sideOf object .lines)) (r .vectors) k ((b * lanes + k) % 2 ^ n)) ⌝ }
+// The sets of a side that the numbers 64b to 64b + 63 have in their lowest n bits, as seniority makes them.
+fn sets_from(b: u32, side: SideValue, n: u32, user: bool) -> Block
+    requires { ⌜ SideFits side × (n ≤ mostValues) ⌝ }
+    ensures { λ r. ⌜ Numbered user (sideOf side) n b r ⌝ }
 {
-    let lines = object.seniority;
-    let vectors = side::with_seniors(side::part(b, 0, n), lines, object.lines);
+    let vectors = side::closed(side::part(b, 0, n), side, user);
     Block { vectors }
+}
+
+// All sets of a side of n values in blocks.
+pub fn of_side(side: SideValue, n: u32, user: bool) -> [Block; SIDE_BLOCKS]
+    requires { ⌜ SideFits side × (n ≤ mostValues) ⌝ }
+    ensures { λ r. ⌜ ((b : ℕ) → b < blocksOf n → Numbered user (sideOf side) n b (getD r b noBlock)) ⌝ }
+{
+    let count = blocks_of(n);
+    let vectors = [0u64; VECTORS];
+    let mut blocks = [Block { vectors }; SIDE_BLOCKS];
+    for b in 0..count {
+        blocks[b] = sets_from(b as u32, side, n, user);
+    }
+    blocks
 }
 
 // What the pairs of sets of a policy with these sides are worked out from.
@@ -62,13 +74,7 @@ pub fn source_of(user: SideValue, object: SideValue) -> Source
 {
     let sides = attributes::of_sides(user, object);
     let object_starts = sides.object;
-    let n = attributes::total(object_starts);
-    let count = blocks_of(n);
-    let vectors = [0u64; VECTORS];
-    let mut objects = [Block { vectors }; SIDE_BLOCKS];
-    for b in 0..count {
-        objects[b] = objects_from(b as u32, object, n);
-    }
+    let objects = of_side(object, attributes::total(object_starts), false);
     Source {
         sides,
         user,

@@ -6,11 +6,13 @@ ghost use lib.ListN.{take};
 ghost use Rattle.sets.specs.Set.{has};
 ghost use Rattle.seniority.specs.Seniority.{heldOrSenior, heldOrJunior};
 ghost use Rattle.seniority.specs.Inner.{Ordered};
-ghost use Rattle.policy.specs.Value.{linePlaces};
+ghost use Rattle.policy.specs.Value.{linePlaces, sideOf};
 ghost use Rattle.policy.specs.Limits.{mostValues};
-ghost use Rattle.formula.specs.Inner.Lane.{lanes, Plain, Stands, extendedLanes};
+ghost use Rattle.formula.specs.Inner.Fits.{SideFits};
+ghost use Rattle.formula.specs.Inner.Lane.{lanes, Plain, Stands, extendedLanes, grownBy};
 use policy::limits::MOST_VALUES;
 use policy::value::LINE_PLACES;
+use policy::value::SideValue;
 use seniority::Direct;
 
 // True in every lane.
@@ -130,4 +132,17 @@ pub fn with_seniors(plain: [u64; VECTORS], lines: [Direct; LINE_PLACES], n: usiz
         i += 1;
     }
     r
+}
+
+// The sets of a side as seniority makes them: user sets with all juniors of their values, object sets with all seniors.
+pub fn closed(plain: [u64; VECTORS], side: SideValue, user: bool) -> [u64; VECTORS]
+    requires { ⌜ SideFits side ⌝ }
+    ensures { λ r. ⌜ ((k s : ℕ) → Plain plain k s → Stands (grownBy user (sideOf side .lines)) r k s) ⌝ }
+{
+    let lines = side.seniority;
+    if user {
+        with_juniors(plain, lines, side.lines)
+    } else {
+        with_seniors(plain, lines, side.lines)
+    }
 }

@@ -9,9 +9,10 @@ use lib.ListN.{length, getD, set}
 use Rattle.basis.specs.Numbers.{agree, implies}
 use Rattle.sets.specs.Set.{has}
 use Rattle.seniority.specs.Seniority.{heldOrSenior, heldOrJunior}
+use Rattle.seniority.specs.declared.Direct.{Direct}
 use Rattle.policy.specs.Limits.{mostValues}
 use Rattle.policy.specs.Policy.{Side, Policy, total, start}
-use Rattle.formula.specs.Truth.{Sets}
+use Rattle.formula.specs.Truth.{Sets, at}
 use Rattle.formula.specs.declared.attributes.Attributes.{Attributes}
 
 -- a lane is a bit's place in a word of the machine, and a place is a number of so many bits
@@ -55,6 +56,24 @@ pub record Stands (grown : ℕ → ℕ → Bool) (vectors : List ℕ) (k s : ℕ
 abbrev pub extendedLanes : List ℕ → ℕ → ℕ → List ℕ
 extendedLanes vectors a b =
     set vectors (mostValues + b) (bitOr (getD vectors (mostValues + b) 0) (getD vectors (mostValues + a) 0))
+
+-- ---- by side: the user side, or else the object side
+
+abbrev pub sideAt : Bool → Policy → Side
+sideAt true p = p .user
+sideAt false p = p .object
+
+-- what seniority makes of the sets of a side
+abbrev pub grownBy : Bool → List Direct → ℕ → ℕ → Bool
+grownBy true lines = heldOrSenior lines
+grownBy false lines = heldOrJunior lines
+
+-- a set of a side with one of the other
+abbrev pub beside : Bool → ℕ → ℕ → Sets
+beside true s other = at s other
+beside false s other = at other s
+
+-- ---- both sides
 
 -- lane k stands for these sets
 pub record InLane (p : Policy) (users objects : List ℕ) (k : ℕ) (s : Sets) : Type 0 where
