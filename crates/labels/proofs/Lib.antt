@@ -7,5 +7,6 @@ pub mod Turn
 pub mod Putting
 pub mod Compiling
 pub mod Storing
+pub mod Refining
 pub mod Told
 pub mod Separation

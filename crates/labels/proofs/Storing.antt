@@ -1,7 +1,7 @@
--- Compiling from a grid: the labels of its rows and columns are those of the policy's sets, and what the parts leave in
--- the buffers is what compiling is to leave there.
+-- Compiling: the labels that the code works out are those of the policy's sets, and what the parts leave in the buffers
+-- is what compiling is to leave there.
 use Prim.Native.Nat.{ℕ, _+_, _*_, _/_, _%_, _^_, _≤_, _<_}
-use mathlib.Core.Path.{_≡_, ap, _∙_}
+use mathlib.Core.Path.{_≡_, refl, ap, _∙_}
 use mathlib.Core.Bool.{Bool, true, false, _||_, and-false}
 use mathlib.Core.List.{List}
 use native.Mathlib.Nat.{le-trans, lt-of-lt-of-le}
@@ -14,7 +14,7 @@ use Rattle.basis.specs.Choice.{firstBroken}
 use Rattle.basis.specs.Lists.{over}
 use Rattle.basis.specs.Numbers.{upTo}
 use Rattle.basis.proofs.Bools.{or-right, and-left, and-right}
-use Rattle.policy.specs.Limits.{values, actions, storedWidths, ownWidths}
+use Rattle.policy.specs.Limits.{values, actions, storedWidths, ownWidths, mostSets}
 use Rattle.policy.specs.Policy.{Side, Policy, sets}
 use Rattle.policy.specs.Value.{policyOf}
 use Rattle.policy.specs.Valid.{valid}
@@ -26,51 +26,94 @@ use Rattle.policy.proofs.Bounds.{total-most}
 use Rattle.policy.proofs.Forms.{actions-stored, values-stored}
 use Rattle.policy.proofs.Parts.{SideParts, parts}
 use Rattle.policy.proofs.Valid.{valid-whole}
-use Rattle.formula.specs.Truth.{grants}
+use Rattle.formula.specs.Truth.{Sets, at, grants}
 use Rattle.labels.specs.Compile.{entryOf}
 use Rattle.labels.specs.Compile.{likeUsers, likeObjects, NU, NO, entry, userLabel, objectLabel, userResult, objectResult, tableResult, lent, counts, stored, used, fitsWidths, tooShort, compile, compileBuffers, Compiles}
-use Rattle.labels.specs.Inner.Grid.{cell, turnedView, likeRows, Narrow, GridOf, Labelled, Puts}
+use Rattle.labels.specs.Rows.{rowsAlike}
+use Rattle.labels.specs.Inner.Grid.{cell, turnedView, likeStill, ViewOf, Kept, Labelled, Puts}
+use Rattle.labels.specs.Inner.Labels.{LabelsOf}
+use Rattle.labels.specs.Inner.Rows.{entryIn}
+use Rattle.labels.specs.declared.assign.Labels.{Labels}
 use Rattle.labels.specs.declared.grid.View.{View}
 use Rattle.labels.specs.declared.Counts.{Counts}
 use Rattle.labels.specs.declared.Compiled.the-variants.{Stored, Refused}
-use Rattle.labels.proofs.Alike.{rows-equivalence, rows-alike, columns-alike}
-use Rattle.labels.proofs.Turn.{labelled-same, labelled-leads}
+use Rattle.labels.proofs.Alike.{rows-alike, columns-alike}
+use Rattle.labels.proofs.Refining.{alike-same, joined-alike, leaders-enough}
+use Rattle.labels.proofs.Turn.{labelled-same, labelled-few}
 use Rattle.labels.proofs.Compiling.{length-userResult, length-objectResult, length-tableResult}
 
 -- ---- the labels
 
-module _ {p : Policy} {grid : List ℕ} {view : View} (G : GridOf p grid view) {labels leaders : List ℕ} {count : ℕ} where
-  pub users-labelled : Labelled (likeRows grid view) (view .rows) labels leaders count → Labelled (likeUsers p) (sets (p .user)) labels leaders count
+-- where the grid holds all entries
+module _ {p : Policy} (grid : List ℕ) {view : View} (K : Kept p grid view) (v : ViewOf p view) (before : List ℕ) {labels leaders : List ℕ} {count : ℕ}
+    (none : (u : ℕ) → getD before u 0 ≡ 0) where
+  pub users-at-once : Labelled (likeStill before grid view) (view .rows) labels leaders count → Labelled (likeUsers p) (sets (p .user)) labels leaders count
   unfolding likeUsers entryOf
-  users-labelled s =
-      rw (← G .users, ← G .objects)
-      (labelled-same (rows-alike (cell grid view) (grants p) (actions (p .form)) (view .rows) (view .columns) (G .entries)) s)
+  users-at-once s =
+      rw (← v .users, ← v .objects)
+      (labelled-same (λ u w hu hw.
+      joined-alike before none (cell grid view) (view .columns) (view .rows) u w (omega arith) hu hw
+      ∙ rows-alike (cell grid view) (grants p) (actions (p .form)) (view .rows) (view .columns) K u w hu hw) s)
 
-  pub objects-labelled : Labelled (likeRows grid (turnedView view)) (view .columns) labels leaders count
+  pub objects-at-once : Labelled (likeStill before grid (turnedView view)) (view .columns) labels leaders count
       → Labelled (likeObjects p) (sets (p .object)) labels leaders count
   unfolding likeObjects entryOf
-  objects-labelled s =
-      rw (← G .users, ← G .objects)
-      (labelled-same
-      (columns-alike (cell grid (turnedView view)) (grants p) (actions (p .form)) (view .rows) (view .columns) (λ o u ho hu.
-      let e : o * view .along + u * view .down ≡ u * view .down + o * view .along = omega arith in
-      ap (λ (x : ℕ). getD grid x 0) e ∙ G .entries u o hu ho)) s)
+  objects-at-once s =
+      rw (← v .users, ← v .objects)
+      (labelled-same (λ o q ho hq.
+      joined-alike before none (cell grid (turnedView view)) (view .rows) (view .columns) o q (omega arith) ho hq
+      ∙ columns-alike (cell grid (turnedView view)) (grants p) (actions (p .form)) (view .rows) (view .columns) (λ x u hx hu.
+      let e : x * view .along + u * view .down ≡ u * view .down + x * view .along = omega arith in
+      ap (λ (y : ℕ). getD grid y 0) e ∙ K u x hu hx) o q ho hq) s)
+
+-- by strips: user sets by all object sets, object sets by the lowest user set of each label
+module _ {p : Policy} {view : View} (v : ViewOf p view) (every : List ℕ) {labels leaders : List ℕ} {count : ℕ} (all : (i : ℕ) → i < view .columns → getD every i 0 ≡ i)
+    (U : Labelled (rowsAlike (entryIn p false every) (view .columns)) (view .rows) labels leaders count) where
+  rows-labelled : Labelled (rowsAlike (λ u o. entryOf p (at u o)) (view .columns)) (view .rows) labels leaders count
+  rows-labelled =
+      labelled-same (λ u w hu hw.
+      alike-same _ _ (view .columns) u w (λ o h. ap (λ (x : ℕ). entryOf p (at u x)) (all o h)) (λ o h. ap (λ (x : ℕ). entryOf p (at w x)) (all o h))) U
+
+  pub users-by-strips : Labelled (likeUsers p) (sets (p .user)) labels leaders count
+  unfolding likeUsers entryOf
+  users-by-strips =
+      rw (← v .users, ← v .objects)
+      (labelled-same (rows-alike (λ u o. entryOf p (at u o)) (grants p) (actions (p .form)) (view .rows) (view .columns) (λ u o hu ho. refl)) rows-labelled)
+
+  pub objects-by-strips : {ls fs : List ℕ} {n : ℕ} → Labelled (rowsAlike (entryIn p true leaders) count) (view .columns) ls fs n
+      → Labelled (likeObjects p) (sets (p .object)) ls fs n
+  unfolding likeObjects entryOf
+  objects-by-strips s =
+      rw (← v .users, ← v .objects)
+      (labelled-same (λ o q ho hq.
+      leaders-enough (λ u x. entryOf p (at u x)) (view .rows) (view .columns) rows-labelled o q ho hq
+      ∙ columns-alike (λ x u. entryOf p (at u x)) (grants p) (actions (p .form)) (view .rows) (view .columns) (λ x u hx hu. refl) o q ho hq) s)
 
 -- how many there are
-pub counts-are : {p : Policy} {grid : List ℕ} {view : View} → GridOf p grid view → {lu fu lo fo : List ℕ} (c : Counts)
-    → Labelled (likeRows grid view) (view .rows) lu fu (c .users) → Labelled (likeRows grid (turnedView view)) (view .columns) lo fo (c .objects)
-    → (c .users ≡ NU p) × (c .objects ≡ NO p)
+pub counts-are : {p : Policy} {x : Labels} → LabelsOf p x → (x .users .count ≡ NU p) × (x .objects .count ≡ NO p)
 unfolding NU NO
-counts-are G c U O = (users-labelled G U .counted, objects-labelled G O .counted)
+counts-are L = (L .users .counted, L .objects .counted)
 
--- ---- the entries
+-- and that they are few
+module _ {p : Policy} {view : View} {x : Labels} (L : LabelsOf p x) (v : ViewOf p view) where
+  pub users-few : x .users .count ≤ mostSets
+  users-few = omega (arith, labelled-few (L .users), v .users, v .few-users)
 
--- an entry has a bit for each action, and so fits the width that a form stores it in
-pub narrow : {p : Policy} {grid : List ℕ} {view : View} (w : Widths) → ownWidths (p .form) w ≡ true → GridOf p grid view → Narrow (w .entry) grid view
-unfolding ownWidths entryOf
-narrow {p} w own G u o hu ho =
-    let e = eqb-true (w .entry) (storedWidths (p .form) .entry) (and-right (eqb (w .label) (storedWidths (p .form) .label)) _ own) in
-    rw (G .entries u o hu ho, e) (lt-of-lt-of-le (setOf-lt _ (actions (p .form))) (pow-mono (actions-stored (p .form))))
+  pub objects-few : x .objects .count ≤ mostSets
+  objects-few = omega (arith, labelled-few (L .objects), v .objects, v .few-objects)
+
+-- ---- the widths
+
+-- an entry has a bit for each action
+pub entry-narrow : (p : Policy) (s : Sets) (width : ℕ) → actions (p .form) ≤ width → entryOf p s < 2 ^ width
+unfolding entryOf
+entry-narrow p s width h = lt-of-lt-of-le (setOf-lt _ (actions (p .form))) (pow-mono h)
+
+-- and so fits the width that a form stores it in
+pub actions-few : (form : ℕ) (w : Widths) → ownWidths form w ≡ true → actions form ≤ w .entry
+unfolding ownWidths
+actions-few form w own =
+    rw (eqb-true (w .entry) (storedWidths form .entry) (and-right (eqb (w .label) (storedWidths form .label)) _ own)) (actions-stored form)
 
 -- and a side has at most as many sets as the width of a label has numbers
 pub sets-few : (v : PolicyValue) → valid v ≡ true → (w : Widths) → ownWidths (v .form) w ≡ true
@@ -145,46 +188,38 @@ pub used-stored : (v : PolicyValue) → valid v ≡ true → (c : Counts) → c 
 unfolding used firstBroken
 used-stored v e c q = rw (e, q)
 
--- ---- a grid whose rows and columns are labelled
+-- ---- once both sides are labelled
 
-module _ (v : PolicyValue) (w : Widths) (ok : valid v ≡ true) (own : ownWidths (v .form) w ≡ true) (us os ts : List ℕ) {grid : List ℕ} {view : View} (G : GridOf (policyOf v) grid view) where
+module _ (v : PolicyValue) (w : Widths) (ok : valid v ≡ true) (own : ownWidths (v .form) w ≡ true) (us os ts : List ℕ) {view : View} (W : ViewOf (policyOf v) view) where
   pub short-users : length us < view .rows → Compiles v (lent w us os ts) (Refused BufferTooShort) (lent w us os ts)
-  short-users h = refused-short v w ok own us os ts (users-short (policyOf v) w us os ts (rw (← G .users) h))
+  short-users h = refused-short v w ok own us os ts (users-short (policyOf v) w us os ts (rw (← W .users) h))
 
   pub short-objects : length os < view .columns → Compiles v (lent w us os ts) (Refused BufferTooShort) (lent w us os ts)
-  short-objects h = refused-short v w ok own us os ts (objects-short (policyOf v) w us os ts (rw (← G .objects) h))
+  short-objects h = refused-short v w ok own us os ts (objects-short (policyOf v) w us os ts (rw (← W .objects) h))
 
-  module _ {lu fu lo fo : List ℕ} (c : Counts) (U : Labelled (likeRows grid view) (view .rows) lu fu (c .users))
-      (O : Labelled (likeRows grid (turnedView view)) (view .columns) lo fo (c .objects)) where
-    users-counted : c .users ≡ NU (policyOf v)
-    users-counted = counts-are G c U O .0
-
-    objects-counted : c .objects ≡ NO (policyOf v)
-    objects-counted = counts-are G c U O .1
-
-    pub short-table : length ts < c .users * c .objects → Compiles v (lent w us os ts) (Refused BufferTooShort) (lent w us os ts)
-    short-table h = refused-short v w ok own us os ts (table-short (policyOf v) w us os ts (rw (← users-counted, ← objects-counted) h))
+  module _ {x : Labels} (L : LabelsOf (policyOf v) x) where
+    pub short-table : length ts < x .users .count * x .objects .count → Compiles v (lent w us os ts) (Refused BufferTooShort) (lent w us os ts)
+    short-table h =
+        let n = counts-are L in refused-short v w ok own us os ts (table-short (policyOf v) w us os ts (rw (← n .0, ← n .1) h))
 
     -- the entry of two labels is that of their leaders
-    leaders-entry : (ul ol : ℕ) → ul < c .users → ol < c .objects → cell grid view (getD fu ul 0) (getD fo ol 0) ≡ entry (policyOf v) ul ol
+    leaders-entry : (ul ol : ℕ) → ul < x .users .count → ol < x .objects .count
+        → entryOf (policyOf v) (at (getD (x .users .leaders) ul 0) (getD (x .objects .leaders) ol 0)) ≡ entry (policyOf v) ul ol
     unfolding entry
-    leaders-entry ul ol hu ho =
-        let x = users-labelled G U in
-        let y = objects-labelled G O in
-        G .entries _ _ (labelled-leads (rows-equivalence _ _ _) U .row ul hu) (labelled-leads (rows-equivalence _ _ _) O .row ol ho)
-        ∙ rw (x .leaders-are ul hu, y .leaders-are ol ho)
+    leaders-entry ul ol hu ho = rw (L .users .leaders-are ul hu, L .objects .leaders-are ol ho)
 
     -- what three writers leave that put the labels and the table there
-    pub stored-all : (us′ os′ ts′ : List ℕ) → view .rows ≤ length us → view .columns ≤ length os → c .users * c .objects ≤ length ts
-        → Puts lu (view .rows) us us′ → Puts lo (view .columns) os os′
-        → ((f : ℕ → ℕ → ℕ) → ((ul ol : ℕ) → ul < c .users → ol < c .objects → cell grid view (getD fu ul 0) (getD fo ol 0) ≡ f ul ol)
-        → ts′ ≡ over (upTo (λ i. f (i / c .objects) (i % c .objects)) (c .users * c .objects)) ts)
-        → Compiles v (lent w us os ts) (Stored c) (lent w us′ os′ ts′)
+    pub stored-all : (us′ os′ ts′ : List ℕ) → view .rows ≤ length us → view .columns ≤ length os → x .users .count * x .objects .count ≤ length ts
+        → Puts (x .users .labels) (view .rows) us us′ → Puts (x .objects .labels) (view .columns) os os′
+        → ((f : ℕ → ℕ → ℕ) → ((ul ol : ℕ) → ul < x .users .count → ol < x .objects .count
+        → entryOf (policyOf v) (at (getD (x .users .leaders) ul 0) (getD (x .objects .leaders) ol 0)) ≡ f ul ol)
+        → ts′ ≡ over (upTo (λ i. f (i / x .objects .count) (i % x .objects .count)) (x .users .count * x .objects .count)) ts)
+        → Compiles v (lent w us os ts) (Stored (record { users = x .users .count; objects = x .objects .count })) (lent w us′ os′ ts′)
     unfolding userResult objectResult tableResult
     stored-all us′ os′ ts′ hu ho ht wu wo wt =
-        let p = policyOf v in
-        let e = none-short (policyOf v) w us os ts (rw (← G .users) hu) (rw (← G .objects) ho) (rw (← users-counted, ← objects-counted) ht) in
-        stored-long v w ok own us os ts c us′ os′ ts′ e users-counted objects-counted
-        (wu (userLabel (policyOf v)) (rw (G .users) (users-labelled G U .labels-are)) ∙ rw (G .users))
-        (wo (objectLabel (policyOf v)) (rw (G .objects) (objects-labelled G O .labels-are)) ∙ rw (G .objects))
-        (wt (entry (policyOf v)) leaders-entry ∙ rw (users-counted, objects-counted))
+        let n = counts-are L in
+        let e = none-short (policyOf v) w us os ts (rw (← W .users) hu) (rw (← W .objects) ho) (rw (← n .0, ← n .1) ht) in
+        stored-long v w ok own us os ts (record { users = x .users .count; objects = x .objects .count }) us′ os′ ts′ e (n .0) (n .1)
+        (wu (userLabel (policyOf v)) (rw (W .users) (L .users .labels-are)) ∙ rw (W .users))
+        (wo (objectLabel (policyOf v)) (rw (W .objects) (L .objects .labels-are)) ∙ rw (W .objects))
+        (wt (entry (policyOf v)) leaders-entry ∙ rw (n .0, n .1))

@@ -1,4 +1,5 @@
 -- What only the contracts of inner code and the proofs cite.
 pub mod Rows
 pub mod Grid
+pub mod Labels
 pub mod Lending

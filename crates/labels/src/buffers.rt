@@ -1,28 +1,35 @@
 // The lent buffers: the labels of both sides and their table, written once all of them are known.
 ghost use Prim.Native.Nat.{ℕ, _*_, _/_, _%_, _^_, _≤_, _<_};
 ghost use mathlib.Core.Path.{_≡_};
-ghost use mathlib.Core.Bool.{true};
+ghost use mathlib.Core.Bool.{true, false};
+ghost use lib.Dec.{leb};
 ghost use lib.ListN.{length, getD};
 ghost use Rattle.basis.specs.Lists.{over};
 ghost use Rattle.basis.specs.Numbers.{upTo};
 ghost use Rattle.policy.specs.Limits.{mostSets, ownWidths};
-ghost use Rattle.policy.specs.Policy.{Policy};
+ghost use Rattle.policy.specs.Policy.{Policy, sets};
 ghost use Rattle.policy.specs.Value.{policyOf};
 ghost use Rattle.policy.specs.Valid.{valid};
 ghost use Rattle.policy.specs.declared.value.PolicyValue.{PolicyValue};
-ghost use Rattle.labels.specs.Compile.{counts, Compiles};
-ghost use Rattle.labels.specs.Inner.Grid.{cell, Inside, Narrow, Fit, GridOf, Leading, Puts};
+ghost use Rattle.formula.specs.Truth.{at};
+ghost use Rattle.labels.specs.Compile.{entryOf, Compiles};
+ghost use Rattle.labels.specs.Inner.Grid.{gridPlaces, Fit, ViewOf, Kept, Leading, Puts};
+ghost use Rattle.labels.specs.Inner.Labels.{LabelsOf};
 ghost use Rattle.labels.specs.Inner.Lending.{lentIn, lentAs};
+ghost use Rattle.labels.specs.Inner.Rows.{RowsOf, Stored};
 use crate::Compiled;
 use crate::Counts;
-use crate::classify::classify;
+use crate::assign::Labels;
 use crate::grid;
+use crate::grid::PLACES;
 use crate::grid::View;
 use crate::lending;
+use crate::rows;
+use crate::rows::Rows;
 use crate::sorts;
 use crate::sorts::ObjectClasses;
 use crate::sorts::UserClasses;
-use policy::limits::MOST_TUPLES;
+use policy::limits::MOST_SETS;
 use policy::limits::Widths;
 use policy::refusal::Refusal;
 
@@ -56,20 +63,49 @@ fn put_object_labels(
     }
 }
 
+// Puts the row of user set u, unless all rows are kept in the grid.
+fn take_row(row: &mut [u16; MOST_SETS], kept: bool, from: Rows, u: usize, n: usize)
+    requires { ⌜ (from .user ≡ true) × ((p : Policy) × RowsOf p from × (n ≡ sets (p .object))) × (u < mostSets) × (length (now row) ≡ mostSets) ⌝ }
+    ensures { λ _. ⌜ (length (now (row .exit)) ≡ mostSets) × ((p : Policy) → RowsOf p from → n ≡ sets (p .object) → Stored p kept (now (row .exit)) u n) ⌝ }
+{
+    if !kept {
+        rows::put(row, from, u as u32, n);
+    }
+}
+
+// The entry of user set u and object set o, out of the grid or else out of the row of u.
+fn entry_of(
+    kept: bool,
+    grid: &[u16; PLACES],
+    view: View,
+    row: &[u16; MOST_SETS],
+    u: usize,
+    o: usize,
+) -> u16
+    requires { ⌜ (kept ≡ leb (view .rows * view .columns) gridPlaces) × ((p : Policy) × ViewOf p view) × (u < view .rows) × (o < view .columns) ⌝ }
+    ensures { λ r. ⌜ ((p : Policy) → (view .rows * view .columns ≤ gridPlaces → Kept p (now (grid .entry)) view) → Stored p kept (now (row .entry)) u (view .columns) → r ≡ entryOf p (at u o)) ⌝ }
+{
+    if kept {
+        return grid::entry(grid, view, u, o);
+    }
+    row[o]
+}
+
 // Puts the table at the start of a lent buffer: at two labels, the entry of their leaders.
 fn put_table(
     width: u32,
     bytes: &mut [u8],
     wide: &mut [u16],
-    grid: &[u16; MOST_TUPLES],
+    grid: &[u16; PLACES],
+    from: Rows,
     view: View,
     users: UserClasses,
     objects: ObjectClasses,
     counts: Counts,
 )
-    requires { ⌜ Inside view × (counts .users ≤ mostSets) × (counts .objects ≤ mostSets) × (counts .users * counts .objects ≤ length (lentIn width (now bytes) (now wide))) × Narrow width (now grid) view ⌝ }
+    requires { ⌜ (from .user ≡ true) × ((p : Policy) × RowsOf p from × ViewOf p view × (view .rows * view .columns ≤ gridPlaces → Kept p (now grid) view)) × (counts .users ≤ mostSets) × (counts .objects ≤ mostSets) × (counts .users * counts .objects ≤ length (lentIn width (now bytes) (now wide))) × (from .actions ≤ width) ⌝ }
     requires { ⌜ Leading (view .rows) (users .0 .labels) (users .0 .leaders) (counts .users) × Leading (view .columns) (objects .0 .labels) (objects .0 .leaders) (counts .objects) ⌝ }
-    ensures { λ _. ⌜ ((f : ℕ → ℕ → ℕ) → ((ul ol : ℕ) → ul < counts .users → ol < counts .objects → cell (now (grid .entry)) view (getD (users .0 .leaders) ul 0) (getD (objects .0 .leaders) ol 0) ≡ f ul ol) → lentIn width (now (bytes .exit)) (now (wide .exit)) ≡ over (upTo (λ i. f (i / counts .objects) (i % counts .objects)) (counts .users * counts .objects)) (lentIn width (now (bytes .entry)) (now (wide .entry)))) ⌝ }
+    ensures { λ _. ⌜ ((p : Policy) → RowsOf p from → ViewOf p view → (view .rows * view .columns ≤ gridPlaces → Kept p (now (grid .entry)) view) → (f : ℕ → ℕ → ℕ) → ((ul ol : ℕ) → ul < counts .users → ol < counts .objects → entryOf p (at (getD (users .0 .leaders) ul 0) (getD (objects .0 .leaders) ol 0)) ≡ f ul ol) → lentIn width (now (bytes .exit)) (now (wide .exit)) ≡ over (upTo (λ i. f (i / counts .objects) (i % counts .objects)) (counts .users * counts .objects)) (lentIn width (now (bytes .entry)) (now (wide .entry)))) ⌝ }
 {
     let user_labels = users.0.labels;
     let user_leaders = users.0.leaders;
@@ -77,36 +113,29 @@ fn put_table(
     let object_leaders = objects.0.leaders;
     let nu = counts.users;
     let no = counts.objects;
+    let kept = grid::holds(view);
+    let columns = view.columns;
+    let mut row = [0u16; MOST_SETS];
     for k in 0..nu {
         let u = grid::wide(user_leaders[k as usize]);
         let ul = sorts::user_label(&user_labels, u);
+        take_row(&mut row, kept, from, u, columns);
         for l in 0..no {
             let o = grid::wide(object_leaders[l as usize]);
             let ol = sorts::object_label(&object_labels, o);
             let at = crate::place(ul, ol, no);
-            let x = grid::entry(grid, view, u, o);
+            let x = entry_of(kept, grid, view, &row, u, o);
             lending::put(width, bytes, wide, at, x);
         }
     }
 }
 
-// How many labels rows and columns have.
-pub fn counts(grid: &[u16; MOST_TUPLES], view: View) -> Counts
-    requires { ⌜ Inside view ⌝ }
-    ensures { λ r. ⌜ ((p : Policy) → GridOf p (now (grid .entry)) view → r ≡ counts p) ⌝ }
-{
-    let rows = classify(grid, view);
-    let columns = classify(grid, grid::turned(view));
-    Counts {
-        users: rows.count as u32,
-        objects: columns.count as u32,
-    }
-}
-
-// The labels of a valid policy's grid and their table, into the three buffers if these are long enough.
+// The labels of a valid policy and their table, into the three buffers if these are long enough.
 pub fn store(
-    grid: &[u16; MOST_TUPLES],
+    grid: &[u16; PLACES],
+    from: Rows,
     view: View,
+    labels: Labels,
     widths: Widths,
     users: &mut [u8],
     objects: &mut [u8],
@@ -115,11 +144,11 @@ pub fn store(
     wide_objects: &mut [u16],
     wide_table: &mut [u16],
 ) -> Compiled
-    requires { ⌜ Inside view × Narrow (widths .entry) (now grid) view × (view .rows ≤ 2 ^ (widths .label)) × (view .columns ≤ 2 ^ (widths .label)) ⌝ }
-    ensures { λ r. ⌜ ((v : PolicyValue) → valid v ≡ true → ownWidths (v .form) widths ≡ true → GridOf (policyOf v) (now (grid .entry)) view → Compiles v (lentAs widths (now (users .entry)) (now (objects .entry)) (now (table .entry)) (now («wide_users» .entry)) (now («wide_objects» .entry)) (now («wide_table» .entry))) r (lentAs widths (now (users .exit)) (now (objects .exit)) (now (table .exit)) (now («wide_users» .exit)) (now («wide_objects» .exit)) (now («wide_table» .exit)))) ⌝ }
+    requires { ⌜ (from .user ≡ true) × ((p : Policy) × RowsOf p from × ViewOf p view × LabelsOf p labels × (view .rows * view .columns ≤ gridPlaces → Kept p (now grid) view)) × (from .actions ≤ widths .entry) × (view .rows ≤ 2 ^ (widths .label)) × (view .columns ≤ 2 ^ (widths .label)) ⌝ }
+    ensures { λ r. ⌜ ((v : PolicyValue) → valid v ≡ true → ownWidths (v .form) widths ≡ true → RowsOf (policyOf v) from → ViewOf (policyOf v) view → LabelsOf (policyOf v) labels → (view .rows * view .columns ≤ gridPlaces → Kept (policyOf v) (now (grid .entry)) view) → Compiles v (lentAs widths (now (users .entry)) (now (objects .entry)) (now (table .entry)) (now («wide_users» .entry)) (now («wide_objects» .entry)) (now («wide_table» .entry))) r (lentAs widths (now (users .exit)) (now (objects .exit)) (now (table .exit)) (now («wide_users» .exit)) (now («wide_objects» .exit)) (now («wide_table» .exit)))) ⌝ }
 {
-    let rows = classify(grid, view);
-    let columns = classify(grid, grid::turned(view));
+    let rows = labels.users;
+    let columns = labels.objects;
     let nu = rows.count;
     let no = columns.count;
     if lending::length(widths.label, users, wide_users) < view.rows {
@@ -145,6 +174,7 @@ pub fn store(
         table,
         wide_table,
         grid,
+        from,
         view,
         user,
         object,

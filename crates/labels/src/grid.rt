@@ -1,21 +1,22 @@
-// The grid: the rows of all user sets, one after the other.
-ghost use Prim.Native.Nat.{_<_};
+// A grid: rows one after the other, as many entries as are kept at once.
+ghost use Prim.Native.Nat.{ℕ, _+_, _*_, _≤_, _<_};
 ghost use mathlib.Core.Path.{_≡_};
-ghost use mathlib.Core.Bool.{true};
-ghost use lib.ListN.{length};
-ghost use Rattle.policy.specs.Limits.{mostTuples};
-ghost use Rattle.policy.specs.Policy.{Policy};
-ghost use Rattle.policy.specs.Value.{policyOf};
-ghost use Rattle.policy.specs.Valid.{valid};
-ghost use Rattle.formula.specs.Inner.Lane.{AttributesOf};
-ghost use Rattle.labels.specs.Inner.Rows.{RowsOf};
-ghost use Rattle.labels.specs.Inner.Grid.{cell, turnedView, ViewOf, Inside, GridOf};
+ghost use mathlib.Core.Bool.{not};
+ghost use lib.Dec.{leb};
+ghost use lib.ListN.{length, getD};
+ghost use Rattle.policy.specs.Limits.{mostSets};
+ghost use Rattle.policy.specs.Policy.{Policy, sets};
+ghost use Rattle.formula.specs.Inner.Lane.{AttributesOf, sideAt};
+ghost use Rattle.labels.specs.Inner.Rows.{RowsOf, entryIn};
+ghost use Rattle.labels.specs.Inner.Grid.{gridPlaces, cell, turnedView, ViewOf, Inside};
 use crate::rows;
 use crate::rows::Rows;
 use formula::attributes;
 use formula::attributes::Attributes;
-use policy::limits::MOST_TUPLES;
-use policy::value::PolicyValue;
+use policy::limits::MOST_SETS;
+
+// 32 KiB: all entries of a policy with seven values a side.
+pub const PLACES: usize = 16384;
 
 // A grid as seen from one side: its sets are the rows and those of the other side the columns. A row starts `down`
 // places after the one before, and in it a column lies `along` places after the one before.
@@ -26,7 +27,7 @@ pub struct View {
     pub along: usize,
 }
 
-// The view from the user side.
+// The view of all entries from the user side, in rows of user sets.
 pub fn view_of(sides: Attributes) -> View
     requires { ⌜ ((p : Policy) × AttributesOf p sides) ⌝ }
     ensures { λ r. ⌜ ((p : Policy) → AttributesOf p sides → ViewOf p r) ⌝ }
@@ -55,32 +56,46 @@ pub fn turned(view: View) -> View
     }
 }
 
-// Fills a grid, which the caller owns because it is large, with the entries of a policy.
-fn fill(grid: &mut [u16; MOST_TUPLES], from: Rows, view: View)
-    requires { ⌜ ((p : Policy) × RowsOf p from × ViewOf p view) × (length (now grid) ≡ mostTuples) ⌝ }
-    ensures { λ _. ⌜ ((p : Policy) → RowsOf p from → ViewOf p view → GridOf p (now (grid .exit)) view) ⌝ }
+// Whether a grid has room for so many rows and columns.
+pub fn holds(view: View) -> bool
+    requires { ⌜ (view .rows ≤ mostSets) × (view .columns ≤ mostSets) ⌝ }
+    ensures { λ r. ⌜ r ≡ leb (view .rows * view .columns) gridPlaces ⌝ }
 {
-    let m = view.rows;
-    let n = view.columns;
-    for u in 0..m {
-        let row = rows::row(from, u as u32, n);
-        for o in 0..n {
-            grid[u * n + o] = row[o];
-        }
-    }
+    view.rows * view.columns <= PLACES
 }
 
-// Fills a grid with the entries of a valid policy, and gives its view from the user side.
-pub fn enter(grid: &mut [u16; MOST_TUPLES], policy: PolicyValue) -> View
-    requires { ⌜ (valid policy ≡ true) × (length (now grid) ≡ mostTuples) ⌝ }
-    ensures { λ r. ⌜ Inside r × GridOf (policyOf policy) (now (grid .exit)) r ⌝ }
+// The first n sets, in order.
+pub fn every(n: usize) -> [u16; MOST_SETS]
+    requires { ⌜ n ≤ mostSets ⌝ }
+    ensures { λ r. ⌜ ((i : ℕ) → i < n → getD r i 0 ≡ i) ⌝ }
 {
-    let from = rows::rows_of(policy);
-    let source = from.source;
-    let sides = source.sides;
-    let view = view_of(sides);
-    fill(grid, from, view);
-    view
+    let mut r = [0u16; MOST_SETS];
+    for i in 0..n {
+        r[i] = i as u16;
+    }
+    r
+}
+
+// Fills a grid, which the caller owns because it is large, with the rows of `count` of the chosen sets, those from
+// `start` on, at the n sets of the other side.
+pub fn fill(
+    grid: &mut [u16; PLACES],
+    from: Rows,
+    chosen: &[u16; MOST_SETS],
+    start: usize,
+    count: usize,
+    n: usize,
+)
+    requires { ⌜ ((p : Policy) × RowsOf p from × (n ≤ sets (sideAt (not (from .user)) p))) × (length (now grid) ≡ gridPlaces) × (n ≤ mostSets) × (count * n ≤ gridPlaces) × (start + count ≤ mostSets) × ((i : ℕ) → i < start + count → getD (now chosen) i 0 < mostSets) ⌝ }
+    ensures { λ _. ⌜ (length (now (grid .exit)) ≡ gridPlaces) × ((p : Policy) → RowsOf p from → n ≤ sets (sideAt (not (from .user)) p) → (i o : ℕ) → i < count → o < n → getD (now (grid .exit)) (i * n + o) 0 ≡ entryIn p (from .user) (now (chosen .entry)) o (start + i)) ⌝ }
+{
+    let mut row = [0u16; MOST_SETS];
+    for i in 0..count {
+        rows::put(&mut row, from, chosen[start + i] as u32, n);
+        for o in 0..n {
+            grid[i * n + o] = row[o];
+        }
+    }
 }
 
 // A set that is kept in 16 bits.
@@ -91,7 +106,7 @@ pub fn wide(x: u16) -> usize
 }
 
 // The entry in row u and column o.
-pub fn entry(grid: &[u16; MOST_TUPLES], view: View, u: usize, o: usize) -> u16
+pub fn entry(grid: &[u16; PLACES], view: View, u: usize, o: usize) -> u16
     requires { ⌜ Inside view × (u < view .rows) × (o < view .columns) ⌝ }
     ensures { λ r. ⌜ r ≡ cell (now (grid .entry)) view u o ⌝ }
 {

@@ -6,16 +6,18 @@ ghost use Rattle.labels.specs.Compile.{lent, stored, used, Compiles};
 ghost use Rattle.labels.specs.Apart.{Tells};
 ghost use Rattle.labels.specs.Inner.Lending.{lentAs};
 
+mod assign;
 mod buffers;
 mod classify;
 mod grid;
 mod lending;
 mod rows;
 mod sorts;
+mod strips;
 mod telling;
 
+use crate::grid::PLACES;
 use policy::limits;
-use policy::limits::MOST_TUPLES;
 use policy::limits::Widths;
 use policy::refusal::Refusal;
 use policy::value::PolicyValue;
@@ -77,11 +79,16 @@ fn compile(
     if !limits::own_widths(policy.form, widths) {
         return Compiled::Refused(Refusal::InvalidState);
     }
-    let mut entries = [0u16; MOST_TUPLES];
-    let view = grid::enter(&mut entries, policy);
+    let from = rows::rows_of(policy, true);
+    let sides = from.sides;
+    let view = grid::view_of(sides);
+    let mut entries = [0u16; PLACES];
+    let labels = assign::label(&mut entries, policy, from, view);
     buffers::store(
         &entries,
+        from,
         view,
+        labels,
         widths,
         users,
         objects,
@@ -171,9 +178,17 @@ pub fn used(policy: PolicyValue) -> Compiled
     if !validity::check(policy) {
         return Compiled::Refused(Refusal::InvalidState);
     }
-    let mut entries = [0u16; MOST_TUPLES];
-    let view = grid::enter(&mut entries, policy);
-    Compiled::Stored(buffers::counts(&entries, view))
+    let from = rows::rows_of(policy, true);
+    let sides = from.sides;
+    let view = grid::view_of(sides);
+    let mut entries = [0u16; PLACES];
+    let labels = assign::label(&mut entries, policy, from, view);
+    let rows = labels.users;
+    let columns = labels.objects;
+    Compiled::Stored(Counts {
+        users: rows.count as u32,
+        objects: columns.count as u32,
+    })
 }
 
 // Whether no action and no object set tells two user sets apart, or else some that do: the lowest object set, and at it
@@ -184,9 +199,8 @@ pub fn apart(policy: PolicyValue, u: u32, w: u32) -> Apartness
     if !validity::check(policy) {
         return Apartness::Refused(Refusal::InvalidState);
     }
-    let from = rows::rows_of(policy);
-    let source = from.source;
-    let sides = source.sides;
+    let from = rows::rows_of(policy, true);
+    let sides = from.sides;
     let view = grid::view_of(sides);
     if view.rows <= u as usize {
         return Apartness::Refused(Refusal::SetOutOfReach);

@@ -1,22 +1,26 @@
-// Rows of entries. The entry of a user set and an object set has bit a where action a is granted; a user set's row has
-// its entries at the object sets. Here entries are as wide as those of any form.
+// Rows of entries. The entry of a user set and an object set has bit a where action a is granted; the row of a set of one
+// side has its entries at the sets of the other. Here entries are as wide as those of any form.
 ghost use Prim.Native.Nat.{ℕ, _+_, _^_, _≤_, _<_, min};
 ghost use mathlib.Core.Path.{_≡_};
+ghost use mathlib.Core.Bool.{not};
 ghost use lib.ListN.{length, getD};
+ghost use Rattle.sets.specs.Set.{has};
 ghost use Rattle.policy.specs.Limits as limits;
-ghost use Rattle.policy.specs.Limits.{mostValues, mostSets};
+ghost use Rattle.policy.specs.Limits.{mostValues, mostSets, mostActions};
 ghost use Rattle.policy.specs.Policy.{Policy, sets};
 ghost use Rattle.policy.specs.Value.{policyOf};
-ghost use Rattle.formula.specs.Truth.{at};
+ghost use Rattle.formula.specs.Truth as truth;
 ghost use Rattle.formula.specs.Inner.Fits.{ValueFits};
 ghost use Rattle.formula.specs.Inner.Grant.{GrantsOf};
-ghost use Rattle.formula.specs.Inner.Lane.{lanes, AttributesOf, InLane};
+ghost use Rattle.formula.specs.Inner.Lane.{lanes, AttributesOf, sideAt, beside};
 ghost use Rattle.labels.specs.Rows.{firstUnlike};
 ghost use Rattle.labels.specs.Compile.{entryOf};
-ghost use Rattle.labels.specs.Inner.Rows.{RowsOf, entryAt};
+ghost use Rattle.labels.specs.Inner.Rows.{RowsOf, InLanes, entryAt};
+use formula::attributes;
 use formula::attributes::Attributes;
 use formula::blocks;
-use formula::blocks::Source;
+use formula::blocks::Block;
+use formula::blocks::SIDE_BLOCKS;
 use formula::entries;
 use formula::grant;
 use formula::grant::Grants;
@@ -24,83 +28,126 @@ use formula::side;
 use formula::side::LANES;
 use formula::side::VECTORS;
 use policy::limits;
+use policy::limits::MOST_ACTIONS;
 use policy::limits::MOST_SETS;
 use policy::value::PolicyValue;
+use policy::value::SideValue;
 
-// What all rows of a policy are worked out from.
+// What the rows of one side are worked out from: whether it is the user side, the side, and the sets of the other.
 pub struct Rows {
-    pub source: Source,
+    pub user: bool,
+    pub sides: Attributes,
+    pub side: SideValue,
+    pub others: [Block; SIDE_BLOCKS],
     pub grants: Grants,
     pub actions: u32,
 }
 
-pub fn rows_of(policy: PolicyValue) -> Rows
+// What the rows of a policy's user sets are worked out from, or else of its object sets.
+pub fn rows_of(policy: PolicyValue, user: bool) -> Rows
     requires { ⌜ ValueFits policy ⌝ }
-    ensures { λ r. ⌜ RowsOf (policyOf policy) r ⌝ }
+    ensures { λ r. ⌜ (r .user ≡ user) × RowsOf (policyOf policy) r ⌝ }
 {
-    let user = policy.user;
-    let object = policy.object;
-    let source = blocks::source_of(user, object);
+    let users = policy.user;
+    let objects = policy.object;
+    let sides = attributes::of_sides(users, objects);
     let grants = grant::of_policy(policy);
+    let actions = limits::actions(policy.form);
+    if user {
+        let starts = sides.object;
+        let others = blocks::of_side(objects, attributes::total(starts), false);
+        return Rows {
+            user,
+            sides,
+            side: users,
+            others,
+            grants,
+            actions,
+        };
+    }
+    let starts = sides.user;
+    let others = blocks::of_side(users, attributes::total(starts), true);
     Rows {
-        source,
+        user,
+        sides,
+        side: objects,
+        others,
         grants,
-        actions: limits::actions(policy.form),
+        actions,
     }
 }
 
-// Puts into a row that has the entries of the object sets before `start` those of the next `count`, which may be fewer
-// than the 64 of the vectors.
+// For each action where it is granted, with a set of one side in every lane of the first vectors and sets of the other
+// side in the second.
+fn granted(
+    user: bool,
+    sides: Attributes,
+    fixed: &[u64; VECTORS],
+    others: &[u64; VECTORS],
+    grants: Grants,
+) -> [u64; MOST_ACTIONS]
+    requires { ⌜ ((p : Policy) × AttributesOf p sides × GrantsOf p grants) ⌝ }
+    ensures { λ r. ⌜ ((p : Policy) (k s t : ℕ) → AttributesOf p sides → GrantsOf p grants → InLanes p user (now (fixed .entry)) (now (others .entry)) k s t → (a : ℕ) → a < mostActions → has (getD r a 0) k ≡ truth.grants p a (beside user s t)) ⌝ }
+{
+    if user {
+        entries::of_lanes(sides, fixed, others, grants)
+    } else {
+        entries::of_lanes(sides, others, fixed, grants)
+    }
+}
+
+// Puts into a row that has the entries of the sets before `start` those of the next `count`, which may be fewer than the
+// 64 of the vectors.
 fn put_block(
     row: &mut [u16; MOST_SETS],
+    user: bool,
     sides: Attributes,
-    users: &[u64; VECTORS],
-    objects: &[u64; VECTORS],
+    fixed: &[u64; VECTORS],
+    others: &[u64; VECTORS],
     grants: Grants,
     actions: u32,
     start: usize,
     count: usize,
 )
     requires { ⌜ ((p : Policy) × AttributesOf p sides × GrantsOf p grants × (actions ≡ limits.actions (p .form))) × (count ≤ lanes) × (start + count ≤ mostSets) × (length (now row) ≡ mostSets) ⌝ }
-    ensures { λ _. ⌜ (length (now (row .exit)) ≡ mostSets) × ((p : Policy) (u : ℕ) → AttributesOf p sides → GrantsOf p grants → actions ≡ limits.actions (p .form) → ((k : ℕ) → k < count → InLane p (now (users .entry)) (now (objects .entry)) k (at u (start + k))) → ((o : ℕ) → o < start → getD (now (row .entry)) o 0 ≡ entryOf p (at u o)) → (o : ℕ) → o < start + count → getD (now (row .exit)) o 0 ≡ entryOf p (at u o)) ⌝ }
+    ensures { λ _. ⌜ (length (now (row .exit)) ≡ mostSets) × ((p : Policy) (s : ℕ) → AttributesOf p sides → GrantsOf p grants → actions ≡ limits.actions (p .form) → ((k : ℕ) → k < count → InLanes p user (now (fixed .entry)) (now (others .entry)) k s (start + k)) → ((o : ℕ) → o < start → getD (now (row .entry)) o 0 ≡ entryOf p (beside user s o)) → (o : ℕ) → o < start + count → getD (now (row .exit)) o 0 ≡ entryOf p (beside user s o)) ⌝ }
 {
-    let granted = entries::of_lanes(sides, users, objects, grants);
+    let granted = granted(user, sides, fixed, others, grants);
     for k in 0..count {
         row[start + k] = entries::entry(&granted, actions, k);
     }
 }
 
-// How many of n object sets one block has.
+// How many of n sets one block has.
 fn in_block(n: usize) -> usize
     ensures { λ r. ⌜ r ≡ min n lanes ⌝ }
 {
     if n < LANES { n } else { LANES }
 }
 
-// The row of a user set, at the first n object sets.
-pub fn row(from: Rows, u: u32, n: usize) -> [u16; MOST_SETS]
-    requires { ⌜ ((p : Policy) × RowsOf p from × (n ≤ sets (p .object))) × (u < 2 ^ mostValues) ⌝ }
-    ensures { λ r. ⌜ ((p : Policy) (o : ℕ) → RowsOf p from → n ≤ sets (p .object) → o < n → getD r o 0 ≡ entryOf p (at u o)) ⌝ }
+// Puts the row of a set, at the first n sets of the other side.
+pub fn put(row: &mut [u16; MOST_SETS], from: Rows, s: u32, n: usize)
+    requires { ⌜ ((p : Policy) × RowsOf p from × (n ≤ sets (sideAt (not (from .user)) p))) × (s < 2 ^ mostValues) × (length (now row) ≡ mostSets) ⌝ }
+    ensures { λ _. ⌜ (length (now (row .exit)) ≡ mostSets) × ((p : Policy) (o : ℕ) → RowsOf p from → n ≤ sets (sideAt (not (from .user)) p) → o < n → getD (now (row .exit)) o 0 ≡ entryOf p (beside (from .user) s o)) ⌝ }
 {
-    let source = from.source;
+    let user = from.user;
+    let sides = from.sides;
     let grants = from.grants;
     let actions = from.actions;
-    let user = source.user;
-    let lines = user.seniority;
-    let users = side::with_juniors(side::spread(u), lines, user.lines);
-    let sides = source.sides;
-    let blocks = source.objects;
-    let mut r = [0u16; MOST_SETS];
+    let side = from.side;
+    let fixed = side::closed(side::spread(s), side, user);
+    let blocks = from.others;
     let mut start: usize = 0;
     let mut b: usize = 0;
     while start < n {
         let block = blocks[b];
-        let objects = block.vectors;
+        let others = block.vectors;
         put_block(
-            &mut r,
+            row,
+            user,
             sides,
-            &users,
-            &objects,
+            &fixed,
+            &others,
             grants,
             actions,
             start,
@@ -109,7 +156,6 @@ pub fn row(from: Rows, u: u32, n: usize) -> [u16; MOST_SETS]
         start += LANES;
         b += 1;
     }
-    r
 }
 
 // The first of n columns at which two rows differ, or n where none does.

@@ -1,6 +1,7 @@
 // What the rows of two user sets tell of them.
 ghost use Prim.Native.Nat.{_^_, _<_};
 ghost use mathlib.Core.Path.{_≡_};
+ghost use mathlib.Core.Bool.{true};
 ghost use mathlib.Core.Option.{none};
 ghost use Rattle.policy.specs.Limits.{mostValues};
 ghost use Rattle.policy.specs.Policy.{Policy, sets};
@@ -13,6 +14,7 @@ use crate::Witness;
 use crate::rows;
 use crate::rows::Rows;
 use policy::limits::MOST_ACTIONS;
+use policy::limits::MOST_SETS;
 
 // The most actions that an entry has.
 const ACTIONS: u32 = MOST_ACTIONS as u32;
@@ -31,11 +33,13 @@ fn first_action(x: u16, y: u16) -> u32
 
 // What the rows of two user sets tell, of n object sets.
 pub fn tell(from: Rows, n: usize, u: u32, w: u32) -> Apartness
-    requires { ⌜ ((p : Policy) × RowsOf p from × (n ≡ sets (p .object))) × (u < 2 ^ mostValues) × (w < 2 ^ mostValues) ⌝ }
+    requires { ⌜ (from .user ≡ true) × ((p : Policy) × RowsOf p from × (n ≡ sets (p .object))) × (u < 2 ^ mostValues) × (w < 2 ^ mostValues) ⌝ }
     ensures { λ r. ⌜ ((v : PolicyValue) → apartRefusal v u w ≡ none → RowsOf (policyOf v) from → n ≡ sets (policyOf v .object) → Tells v u w r) ⌝ }
 {
-    let row = rows::row(from, u, n);
-    let other = rows::row(from, w, n);
+    let mut row = [0u16; MOST_SETS];
+    rows::put(&mut row, from, u, n);
+    let mut other = [0u16; MOST_SETS];
+    rows::put(&mut other, from, w, n);
     let o = rows::first_unlike(&row, &other, n);
     if o == n {
         return Apartness::Alike;

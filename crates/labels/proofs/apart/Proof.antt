@@ -25,28 +25,28 @@ rows-of-requires : tie.Need-rows-of-requires
 rows-of-requires c κs = valid-fits _ (ok c)
 
 view-of-requires : tie.Need-view-of-requires
-view-of-requires c κs = search needs
+view-of-requires c κs = (_, c .before .rows-of .ensures .1 .sides)
 
-seen : (c : tie.After-view-of) → ViewOf (policyOf (c .before .before .before .before .before .before .args .policy)) (c .view-of .result)
-seen c = c .view-of .ensures _ (c .before .before .before .rows-of .ensures .source .sides)
+seen : (c : tie.After-view-of) → ViewOf (policyOf (c .before .before .before .before .before .args .policy)) (c .view-of .result)
+seen c = c .view-of .ensures _ (c .before .before .rows-of .ensures .1 .sides)
 
 returns-2 : tie.Need-returns-2
-returns-2 c = refused-first _ _ _ (ok (c .before .before .before .before .before .before)) (rw (← seen (c .before .before) .users) (c .if2 .taken))
+returns-2 c = refused-first _ _ _ (ok (c .before .before .before .before .before)) (rw (← seen (c .before .before) .users) (c .if2 .taken))
 
 returns-3 : tie.Need-returns-3
-returns-3 c = refused-second _ _ _ (ok (c .before .before .before .before .before .before .before .before)) (rw (← seen (c .before .before .before .before) .users) (c .if3 .taken))
+returns-3 c = refused-second _ _ _ (ok (c .before .before .before .before .before .before .before)) (rw (← seen (c .before .before .before .before) .users) (c .if3 .taken))
 
 tell-requires : tie.Need-tell-requires
 tell-requires c κs =
     let v = seen (c .before .before .before .before) in
     let m = v .few-users in
-    ((policyOf _, c .before .before .before .before .before .before .before .rows-of .ensures, v .objects), omega (arith, c .before .before .if2 .left), omega (arith, c .if3 .left))
+    let r = c .before .before .before .before .before .before .rows-of .ensures in
+    (r .0, (policyOf _, r .1, v .objects), omega (arith, c .before .before .if2 .left), omega (arith, c .if3 .left))
 
 returns-4 : tie.Need-returns-4
 returns-4 c =
     let v = seen (c .before .before .before .before .before) in
-    c .tell .ensures _ (not-refused _ _ _ (ok (c .before .before .before .before .before .before .before .before .before)) (rw (← v .users) (c .before .before .before .if2 .left)) (rw (← v .users) (c .before .if3 .left)))
-    (c .before .before .before .before .before .before .before .before .rows-of .ensures) (v .objects)
+    c .tell .ensures _ (not-refused _ _ _ (ok (c .before .before .before .before .before .before .before .before)) (rw (← v .users) (c .before .before .before .if2 .left)) (rw (← v .users) (c .before .if3 .left))) (c .before .before .before .before .before .before .before .rows-of .ensures .1) (v .objects)
 
 pub apart-spec : {M : Type 1} → statement M
 apart-spec =

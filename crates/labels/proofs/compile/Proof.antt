@@ -1,14 +1,16 @@
--- `labels::compile` meets its contract: where check 11 passes, the grid is stored.
+-- `labels::compile` meets its contract: where check 11 passes, both sides are labelled and stored.
 use Prim.Native.Nat.{ℕ}
 use mathlib.Core.Path.{_≡_, sym, _∙_}
 use mathlib.Core.Bool.{true}
 use lib.ListN.{length-replicate}
 use borrow.Author.Needs.{needs}
 use borrow.Author.Tests.{not-true, not-false}
-use Rattle.policy.specs.Limits.{mostTuples, ownWidths}
+use Rattle.policy.specs.Limits.{ownWidths}
 use Rattle.policy.specs.Value.{policyOf}
 use Rattle.policy.specs.Valid.{valid}
-use Rattle.labels.proofs.Storing.{narrow, sets-few, refused-value, refused-widths}
+use Rattle.formula.proofs.Checked.{valid-fits}
+use Rattle.labels.specs.Inner.Grid.{gridPlaces, ViewOf}
+use Rattle.labels.proofs.Storing.{actions-few, sets-few, refused-value, refused-widths}
 use Rattle.labels.proofs.compile.Statement.{statement}
 use Rattle.labels.proofs.compile.Tie as tie
 
@@ -30,18 +32,33 @@ returns-2 c = refused-widths _ _ _ _ _ (sym (c .before .own-widths .ensures) ∙
 own : (c : tie.Else2) → let a = c .before .before .before .before .before .before .before .before .before .before .args in ownWidths (a .policy .form) (a .widths) ≡ true
 own c = sym (c .before .own-widths .ensures) ∙ not-false (c .before .own-widths .result) (c .if2 .left)
 
-enter-requires : tie.Need-enter-requires
-enter-requires c κs = (ok (c .before .before .before), length-replicate {A = ℕ} mostTuples 0)
+rows-of-requires : tie.Need-rows-of-requires
+rows-of-requires c κs = valid-fits _ (ok (c .before .before))
+
+view-of-requires : tie.Need-view-of-requires
+view-of-requires c κs = (_, c .before .rows-of .ensures .1 .sides)
+
+-- the user sets are the rows
+seen : (c : tie.After-view-of) → ViewOf (policyOf (c .before .before .before .before .before .before .before .before .before .before .before .before .before .args .policy)) (c .view-of .result)
+seen c = c .view-of .ensures _ (c .before .before .rows-of .ensures .1 .sides)
+
+label-requires : tie.Need-label-requires
+label-requires c κs =
+    let r = c .before .before .before .rows-of .ensures in (ok (c .before .before .before .before .before .before), r .0, r .1, seen (c .before), length-replicate {A = ℕ} gridPlaces 0)
 
 store-requires : tie.Need-store-requires
 unfolding policyOf
 store-requires c κs =
-    let e = c .before .before .before .before .before .before .before .enter .ensures in
-    let few = sets-few _ (ok (c .before .before .before .before .before .before .before .before .before .before .before)) _ (own (c .before .before .before .before .before .before .before .before .before)) in
-    (e .0, narrow _ (own (c .before .before .before .before .before .before .before .before .before)) (e .1), rw (e .1 .users) (few .0), rw (e .1 .objects) (few .1))
+    let r = c .before .before .before .before .before .before .before .before .before .before .before .rows-of .ensures in
+    let w = seen (c .before .before .before .before .before .before .before .before .before) in
+    let l = c .before .before .before .before .before .before .before .label .ensures in
+    let few = sets-few _ (ok (c .before .before .before .before .before .before .before .before .before .before .before .before .before .before)) _ (own (c .before .before .before .before .before .before .before .before .before .before .before .before)) in
+    (r .0, (_, r .1, w, l .0, l .1), rw (r .1 .actions) (actions-few _ _ (own (c .before .before .before .before .before .before .before .before .before .before .before .before))), rw (w .users) (few .0), rw (w .objects) (few .1))
 
 returns-3 : tie.Need-returns-3
-returns-3 c = c .before .before .before .before .before .before .before .before .before .before .before .before .store .ensures _ (ok (c .before .before .before .before .before .before .before .before .before .before .before .before .before .before .before .before .before .before .before .before .before .before .before .before)) (own (c .before .before .before .before .before .before .before .before .before .before .before .before .before .before .before .before .before .before .before .before .before .before)) (c .before .before .before .before .before .before .before .before .before .before .before .before .before .before .before .before .before .before .before .before .enter .ensures .1)
+returns-3 c =
+    let l = c .before .before .before .before .before .before .before .before .before .before .before .before .before .before .before .before .before .before .before .before .label .ensures in
+    c .before .before .before .before .before .before .before .before .before .before .before .before .store .ensures _ (ok (c .before .before .before .before .before .before .before .before .before .before .before .before .before .before .before .before .before .before .before .before .before .before .before .before .before .before .before)) (own (c .before .before .before .before .before .before .before .before .before .before .before .before .before .before .before .before .before .before .before .before .before .before .before .before .before)) (c .before .before .before .before .before .before .before .before .before .before .before .before .before .before .before .before .before .before .before .before .before .before .before .before .rows-of .ensures .1) (seen (c .before .before .before .before .before .before .before .before .before .before .before .before .before .before .before .before .before .before .before .before .before .before)) (l .0) (l .1)
 
 same-length : tie.Need-same-length
 same-length c = search needs
@@ -69,7 +86,9 @@ compile-spec =
     returns
     own-widths-requires
     returns-2
-    enter-requires
+    rows-of-requires
+    view-of-requires
+    label-requires
     store-requires
     same-length
     same-length-2

@@ -1,13 +1,16 @@
--- `labels::used` meets its contract: where check 11 passes, the rows and columns of the grid are counted.
+-- `labels::used` meets its contract: where check 11 passes, the labels of both sides are counted.
 use Prim.Native.Nat.{ℕ}
 use mathlib.Core.Path.{_≡_, sym, _∙_}
 use mathlib.Core.Bool.{true}
+use native.Mathlib.Omega.{arith}
 use lib.ListN.{length-replicate}
 use borrow.Author.Needs.{needs}
 use borrow.Author.Tests.{not-true, not-false}
-use Rattle.policy.specs.Limits.{mostTuples}
+use Rattle.policy.specs.Value.{policyOf}
 use Rattle.policy.specs.Valid.{valid}
-use Rattle.labels.proofs.Storing.{used-refused, used-stored}
+use Rattle.formula.proofs.Checked.{valid-fits}
+use Rattle.labels.specs.Inner.Grid.{gridPlaces, ViewOf}
+use Rattle.labels.proofs.Storing.{users-few, objects-few, counts-are, used-refused, used-stored}
 use Rattle.labels.proofs.used.Statement.{statement}
 use Rattle.labels.proofs.used.Tie as tie
 
@@ -20,14 +23,29 @@ returns c = used-refused _ (sym (c .before .check .ensures) ∙ not-true (c .bef
 ok : (c : tie.Else1) → valid (c .before .before .args .policy) ≡ true
 ok c = sym (c .before .check .ensures) ∙ not-false (c .before .check .result) (c .if1 .left)
 
-enter-requires : tie.Need-enter-requires
-enter-requires c κs = (ok (c .before), length-replicate {A = ℕ} mostTuples 0)
+rows-of-requires : tie.Need-rows-of-requires
+rows-of-requires c κs = valid-fits _ (ok c)
 
-counts-requires : tie.Need-counts-requires
-counts-requires c κs = c .before .enter .ensures .0
+view-of-requires : tie.Need-view-of-requires
+view-of-requires c κs = (_, c .before .rows-of .ensures .1 .sides)
+
+-- the user sets are the rows
+seen : (c : tie.After-view-of) → ViewOf (policyOf (c .before .before .before .before .before .args .policy)) (c .view-of .result)
+seen c = c .view-of .ensures _ (c .before .before .rows-of .ensures .1 .sides)
+
+label-requires : tie.Need-label-requires
+label-requires c κs =
+    let r = c .before .before .before .rows-of .ensures in (ok (c .before .before .before .before), r .0, r .1, seen (c .before), length-replicate {A = ℕ} gridPlaces 0)
+
+cast-t13 : tie.Need-cast-t13
+cast-t13 c = omega (arith, users-few (c .before .before .before .label .ensures .0) (seen (c .before .before .before .before .before)))
+
+cast-t14 : tie.Need-cast-t14
+cast-t14 c = omega (arith, objects-few (c .before .before .before .before .label .ensures .0) (seen (c .before .before .before .before .before .before)))
 
 returns-2 : tie.Need-returns-2
-returns-2 c = used-stored _ (ok (c .before .before .before .before)) _ (c .counts .ensures _ (c .before .before .enter .ensures .1))
+returns-2 c = let n = counts-are (c .before .before .before .before .label .ensures .0) in used-stored _ (ok (c .before .before .before .before .before .before .before .before .before)) _ (rw (n .0, n .1))
 
 pub used-spec : {M : Type 1} → statement M
-used-spec = tie.close (tie.spec check-requires returns enter-requires counts-requires returns-2)
+used-spec =
+    tie.close (tie.spec check-requires returns rows-of-requires view-of-requires label-requires cast-t13 cast-t14 returns-2)

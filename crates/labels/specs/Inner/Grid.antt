@@ -1,12 +1,12 @@
--- A grid lists the entries of all user sets and object sets; either side's sets can be taken as its rows.
-use Prim.Native.Nat.{ℕ, _+_, _*_, _^_, _≤_, _<_}
+-- A grid lists entries in rows; either side's sets can be taken as its rows.
+use Prim.Native.Nat.{ℕ, zero, suc, _+_, _*_, _^_, _≤_, _<_}
 use mathlib.Core.Path.{_≡_}
 use mathlib.Core.Bool.{Bool}
 use mathlib.Core.List.{List}
 use lib.ListN.{getD}
 use Rattle.basis.specs.Lists.{over}
 use Rattle.basis.specs.Numbers.{upTo}
-use Rattle.policy.specs.Limits.{mostSets, mostTuples}
+use Rattle.policy.specs.Limits.{mostSets}
 use Rattle.policy.specs.Policy.{Policy, sets}
 use Rattle.formula.specs.Truth.{at}
 use Rattle.labels.specs.Labels.{label, labelCount, leader}
@@ -14,13 +14,22 @@ use Rattle.labels.specs.Rows.{rowsAlike}
 use Rattle.labels.specs.Compile.{entryOf}
 use Rattle.labels.specs.declared.grid.View.{View}
 
+-- how many entries it has
+abbrev pub gridPlaces : ℕ
+gridPlaces = 16384
+
 -- what stands in row u and column o
 abbrev pub cell : List ℕ → View → ℕ → ℕ → ℕ
 cell grid view u o = getD grid (u * view .down + o * view .along) 0
 
--- two rows are alike
-abbrev pub likeRows : List ℕ → View → ℕ → ℕ → Bool
-likeRows grid view = rowsAlike (cell grid view) (view .columns)
+-- a row of labels that were given before, and of what is looked at now
+unfoldable pub joined : List ℕ → (ℕ → ℕ → ℕ) → ℕ → ℕ → ℕ
+joined before f u zero = getD before u 0
+joined before f u (suc o) = f u o
+
+-- two rows had one label, and are alike
+abbrev pub likeStill : List ℕ → List ℕ → View → ℕ → ℕ → Bool
+likeStill before grid view = rowsAlike (joined before (cell grid view)) (suc (view .columns))
 
 -- the same grid as seen from the other side
 abbrev pub turnedView : View → View
@@ -30,11 +39,7 @@ turnedView view = record { rows = view .columns; columns = view .rows; down = vi
 pub record Inside (view : View) : Type 0 where
   pub few-rows : view .rows ≤ mostSets
   pub few-columns : view .columns ≤ mostSets
-  pub inside : (u o : ℕ) → u < view .rows → o < view .columns → u * view .down + o * view .along < mostTuples
-
--- each entry fits so many bits
-abbrev pub Narrow : ℕ → List ℕ → View → Type 0
-Narrow bits grid view = (u o : ℕ) → u < view .rows → o < view .columns → cell grid view u o < 2 ^ bits
+  pub inside : (u o : ℕ) → u < view .rows → o < view .columns → u * view .down + o * view .along < gridPlaces
 
 -- each of the first n labels fits so many bits
 abbrev pub Fit : ℕ → ℕ → List ℕ → Type 0
@@ -50,10 +55,8 @@ pub record ViewOf (p : Policy) (view : View) : Type 0 where
   pub along : view .along ≡ 1
 
 -- and the grid has their entries
-pub record GridOf (p : Policy) (grid : List ℕ) (view : View) : Type 0 where
-  pub users : view .rows ≡ sets (p .user)
-  pub objects : view .columns ≡ sets (p .object)
-  pub entries : (u o : ℕ) → u < view .rows → o < view .columns → cell grid view u o ≡ entryOf p (at u o)
+abbrev pub Kept : Policy → List ℕ → View → Type 0
+Kept p grid view = (u o : ℕ) → u < view .rows → o < view .columns → cell grid view u o ≡ entryOf p (at u o)
 
 -- two arrays have the labels of m sets and the lowest set of each label, and there are so many labels
 pub record Labelled (like : ℕ → ℕ → Bool) (m : ℕ) (labels leaders : List ℕ) (count : ℕ) : Type 0 where

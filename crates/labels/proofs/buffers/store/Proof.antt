@@ -1,96 +1,69 @@
--- `labels::buffers::store` meets its contract: rows and columns are labelled, a buffer that is too short is refused
--- before any is written, and the three writers leave the labels and the table.
-use Prim.Native.Nat.{_≤_}
-use denote.Ref.{now}
-use native.Mathlib.Nat.{le-trans, mul-le-mul}
+-- `labels::buffers::store` meets its contract: a buffer that is too short is refused before any is written, and the
+-- three writers leave the labels and the table.
+use native.Mathlib.Nat.{mul-le-mul}
 use native.Mathlib.Omega.{arith}
 use borrow.Author.Needs.{needs}
-use Rattle.policy.specs.Limits.{mostSets}
-use Rattle.labels.specs.Inner.Grid.{turnedView, likeRows, Labelled}
-use Rattle.labels.proofs.Alike.{rows-equivalence}
-use Rattle.labels.proofs.Grids.{turned-inside}
-use Rattle.labels.proofs.Storing.{short-users, short-objects, short-table, stored-all}
-use Rattle.labels.proofs.Turn.{labelled-few, labelled-fit, labelled-leads}
+use Rattle.labels.proofs.Compiling.{likeUsers-equivalence, likeObjects-equivalence}
+use Rattle.labels.proofs.Storing.{users-few, objects-few, short-users, short-objects, short-table, stored-all}
+use Rattle.labels.proofs.Turn.{labelled-fit, labelled-leads}
 use Rattle.labels.proofs.buffers.store.Statement.{statement}
 use Rattle.labels.proofs.buffers.store.Tie as tie
-
-classify-requires : tie.Need-classify-requires
-classify-requires c κs = search needs
-
-turned-requires : tie.Need-turned-requires
-turned-requires c κs = search needs
-
-classify-requires-2 : tie.Need-classify-requires-2
-classify-requires-2 c κs = rw (c .turned .ensures) (turned-inside _ (c .before .before .before .before .before .before .before .before .pre .0))
-
--- what is known once rows and columns are labelled
-users-are : (c : tie.After-classify2) → let a = c .before .before .before .before .before .before .before .before .before .args in let r = c .before .before .classify .result in
-    Labelled (likeRows (now (a .grid)) (a .view)) (a .view .rows) (r .labels) (r .leaders) (r .count)
-users-are c = c .before .before .classify .ensures
-
-objects-are : (c : tie.After-classify2) → let a = c .before .before .before .before .before .before .before .before .before .args in let r = c .classify2 .result in
-    Labelled (likeRows (now (a .grid)) (turnedView (a .view))) (a .view .columns) (r .labels) (r .leaders) (r .count)
-objects-are c = rw (c .before .turned .ensures) at (c .classify2 .ensures)
-
-users-few : (c : tie.After-classify2) → c .before .before .classify .result .count ≤ mostSets
-users-few c = le-trans (labelled-few (users-are c)) (c .before .before .before .before .before .before .before .before .before .pre .0 .few-rows)
-
-objects-few : (c : tie.After-classify2) → c .classify2 .result .count ≤ mostSets
-objects-few c = le-trans (labelled-few (objects-are c)) (c .before .before .before .before .before .before .before .before .before .pre .0 .few-columns)
 
 length-requires : tie.Need-length-requires
 length-requires c κs = search needs
 
 returns : tie.Need-returns
-returns c = λ v ok own G. short-users v _ ok own _ _ _ G (rw (c .before .before .length .ensures) at (c .if1 .taken))
+returns c = λ v ok own rows w L kept. short-users v _ ok own _ _ _ w (rw (c .before .before .length .ensures) at (c .if1 .taken))
 
 length-requires-2 : tie.Need-length-requires-2
 length-requires-2 c κs = search needs
 
 returns-2 : tie.Need-returns-2
-returns-2 c = λ v ok own G. short-objects v _ ok own _ _ _ G (rw (c .before .before .length2 .ensures) at (c .if2 .taken))
+returns-2 c = λ v ok own rows w L kept. short-objects v _ ok own _ _ _ w (rw (c .before .before .length2 .ensures) at (c .if2 .taken))
 
 length-requires-3 : tie.Need-length-requires-3
 length-requires-3 c κs = search needs
 
 mul-places : tie.Need-mul-places
-mul-places c = let k = c .before .before .before .before .before .before .before .before .before .before in omega (arith, mul-le-mul (users-few k) (objects-few k))
+mul-places c = let s = c .before .before .before .before .before .before .before .before .before .before .before .before .before .before .before .before .before .before .pre .1 in omega (arith, mul-le-mul (users-few (s .3) (s .2)) (objects-few (s .3) (s .2)))
 
 returns-3 : tie.Need-returns-3
-returns-3 c =
-    let k = c .before .before .before .before .before .before .before .before .before .before .before .before .before .before in
-    λ v ok own G. short-table v _ ok own _ _ _ G (record { users = _; objects = _ }) (users-are k) (objects-are k) (rw (c .before .length3 .ensures) at (c .if3 .taken))
-
-cast-t36 : tie.Need-cast-t36
-cast-t36 c = omega (arith, users-few (c .before .before .before .before .before .before .before .before .before .before .before .before .before .before))
+returns-3 c = λ v ok own rows w L kept. short-table v _ ok own _ _ _ w L (rw (c .before .length3 .ensures) at (c .if3 .taken))
 
 cast-t37 : tie.Need-cast-t37
-cast-t37 c = omega (arith, objects-few (c .before .before .before .before .before .before .before .before .before .before .before .before .before .before))
+cast-t37 c = let s = c .before .before .before .before .before .before .before .before .before .before .before .before .before .before .before .before .before .before .before .before .before .before .pre .1 in omega (arith, users-few (s .3) (s .2))
+
+cast-t38 : tie.Need-cast-t38
+cast-t38 c = let s = c .before .before .before .before .before .before .before .before .before .before .before .before .before .before .before .before .before .before .before .before .before .before .pre .1 in omega (arith, objects-few (s .3) (s .2))
 
 put-user-labels-requires : tie.Need-put-user-labels-requires
 put-user-labels-requires c κs =
-    let k = c .before .before .before .before .before .before .before .before .before .before .before .before .before .before .before .before in let s = c .before .before .before .before .before .before .before .before .before .before .before .before .before .before .before .before .before .before .before .before .before .before .before .before .before .pre in
-    (s .0 .few-rows, rw (c .before .before .before .before .before .before .before .before .before .before .before .before .before .length .ensures) at (c .before .before .before .before .before .before .before .before .before .before .before .if1 .left), labelled-fit _ (rows-equivalence _ _ _) (users-are k) (s .2))
+    let s = c .before .before .before .before .before .before .before .before .before .before .before .before .before .before .before .before .before .before .before .before .before .before .before .before .pre in let w = s .1 .2 in (
+      w .few-users,
+      rw (c .before .before .before .before .before .before .before .before .before .before .before .before .before .length .ensures) at (c .before .before .before .before .before .before .before .before .before .before .before .if1 .left),
+      rw (w .users) (labelled-fit _ (likeUsers-equivalence _ _) (s .1 .3 .users) (rw (← w .users) (s .3))),
+    )
 
 put-object-labels-requires : tie.Need-put-object-labels-requires
 put-object-labels-requires c κs =
-    let k = c .before .before .before .before .before .before .before .before .before .before .before .before .before .before .before .before .before .before .before .before .before .before .before in let s = c .before .before .before .before .before .before .before .before .before .before .before .before .before .before .before .before .before .before .before .before .before .before .before .before .before .before .before .before .before .before .before .before .pre in
-    (s .0 .few-columns, rw (c .before .before .before .before .before .before .before .before .before .before .before .before .before .before .before .length2 .ensures) at (c .before .before .before .before .before .before .before .before .before .before .before .before .before .if2 .left), labelled-fit _ (rows-equivalence _ _ _) (objects-are k) (s .3))
+    let s = c .before .before .before .before .before .before .before .before .before .before .before .before .before .before .before .before .before .before .before .before .before .before .before .before .before .before .before .before .before .before .before .pre in let w = s .1 .2 in (
+      w .few-objects,
+      rw (c .before .before .before .before .before .before .before .before .before .before .before .before .before .before .before .length2 .ensures) at (c .before .before .before .before .before .before .before .before .before .before .before .before .before .if2 .left),
+      rw (w .objects) (labelled-fit _ (likeObjects-equivalence _ _) (s .1 .3 .objects) (rw (← w .objects) (s .4))),
+    )
 
 put-table-requires : tie.Need-put-table-requires
 put-table-requires c κs =
-    let k = c .before .before .before .before .before .before .before .before .before .before .before .before .before .before .before .before .before .before .before .before .before .before .before .before .before .before .before .before .before .before in let s = c .before .before .before .before .before .before .before .before .before .before .before .before .before .before .before .before .before .before .before .before .before .before .before .before .before .before .before .before .before .before .before .before .before .before .before .before .before .before .before .pre in (
-      (s .0, users-few k, objects-few k, rw (c .before .before .before .before .before .before .before .before .before .before .before .before .before .before .before .before .before .length3 .ensures) at (c .before .before .before .before .before .before .before .before .before .before .before .before .before .before .before .before .if3 .left), s .1),
-      (labelled-leads (rows-equivalence _ _ _) (users-are k), labelled-leads (rows-equivalence _ _ _) (objects-are k)),
+    let s = c .before .before .before .before .before .before .before .before .before .before .before .before .before .before .before .before .before .before .before .before .before .before .before .before .before .before .before .before .before .before .before .before .before .before .before .before .before .before .pre in let w = s .1 .2 in let L = s .1 .3 in (
+      (s .0, (s .1 .0, s .1 .1, w, s .1 .4), users-few L w, objects-few L w, rw (c .before .before .before .before .before .before .before .before .before .before .before .before .before .before .before .before .before .length3 .ensures) at (c .before .before .before .before .before .before .before .before .before .before .before .before .before .before .before .before .if3 .left), s .2),
+      (rw (w .users) (labelled-leads (likeUsers-equivalence _ _) (L .users)), rw (w .objects) (labelled-leads (likeObjects-equivalence _ _) (L .objects))),
     )
 
 returns-4 : tie.Need-returns-4
-returns-4 c =
-    let k = c .before .before .before .before .before .before .before .before .before .before .before .before .before .before .before .before .before .before .before .before .before .before .before .before .before .before .before .before .before .before .before .before .before .before .before in
-    λ v ok own G.
-    stored-all v _ ok own _ _ _ G (record { users = _; objects = _ }) (users-are k) (objects-are k) _ _ _
+returns-4 c = λ v ok own rows w L kept.
+    stored-all v _ ok own _ _ _ w L _ _ _
     (rw (c .before .before .before .before .before .before .before .before .before .before .before .before .before .before .before .before .before .before .before .before .before .before .before .before .before .before .before .before .before .before .before .before .length .ensures) at (c .before .before .before .before .before .before .before .before .before .before .before .before .before .before .before .before .before .before .before .before .before .before .before .before .before .before .before .before .before .before .if1 .left)) (rw (c .before .before .before .before .before .before .before .before .before .before .before .before .before .before .before .before .before .before .before .before .before .before .before .before .before .before .before .length2 .ensures) at (c .before .before .before .before .before .before .before .before .before .before .before .before .before .before .before .before .before .before .before .before .before .before .before .before .before .if2 .left)) (rw (c .before .before .before .before .before .before .before .before .before .before .before .before .before .before .before .before .before .before .before .before .before .before .length3 .ensures) at (c .before .before .before .before .before .before .before .before .before .before .before .before .before .before .before .before .before .before .before .before .before .if3 .left))
-    (c .before .before .before .before .before .before .before .before .before .before .before .before .before .before .before .before .before .before .put-user-labels .ensures) (c .before .before .before .before .before .before .before .before .before .before .before .put-object-labels .ensures) (c .before .before .before .before .put-table .ensures)
+    (c .before .before .before .before .before .before .before .before .before .before .before .before .before .before .before .before .before .before .put-user-labels .ensures) (c .before .before .before .before .before .before .before .before .before .before .before .put-object-labels .ensures) (c .before .before .before .before .put-table .ensures _ rows w kept)
 
 same-length : tie.Need-same-length
 same-length c = search needs
@@ -150,9 +123,6 @@ pub store-spec : {M : Type 1} → statement M
 store-spec =
     tie.close
     (tie.spec
-    classify-requires
-    turned-requires
-    classify-requires-2
     length-requires
     same-length
     same-length-2
@@ -172,8 +142,8 @@ store-spec =
     same-length-11
     same-length-12
     returns-3
-    cast-t36
     cast-t37
+    cast-t38
     put-user-labels-requires
     put-object-labels-requires
     put-table-requires

@@ -4,17 +4,17 @@ use Prim.Native.Nat.{_-_}
 use mathlib.Core.Logic.{⊎-elim}
 use native.Mathlib.Omega.{arith}
 use borrow.Author.Needs.{needs}
-use Rattle.labels.specs.Inner.Grid.{likeRows}
+use Rattle.labels.specs.Inner.Grid.{likeStill}
 use Rattle.labels.proofs.Alike.{rows-equivalence}
 use Rattle.labels.proofs.Turn.{Turned, turned-none, leader-row, found-le, turned-old, turned-new, turned-all}
 use Rattle.labels.proofs.classify.classify.Statement.{statement}
 use Rattle.labels.proofs.classify.classify.Tie as tie
 
 abbrev Inv-loop : tie.InvT-loop
-Inv-loop grid view rows labels₀ leaders₀ count₀ u₀ labels leaders count u = Turned (likeRows grid view) rows u labels leaders count
+Inv-loop grid view before rows labels₀ leaders₀ count₀ u₀ labels leaders count u = Turned (likeStill before grid view) rows u labels leaders count
 
 abbrev μ-loop : tie.MeasureT-loop
-μ-loop grid view rows labels₀ leaders₀ count₀ u₀ labels leaders count u = rows - u
+μ-loop grid view before rows labels₀ leaders₀ count₀ u₀ labels leaders count u = rows - u
 
 loop-holds : tie.Need-loop-holds Inv-loop μ-loop
 loop-holds c = turned-none _ _ _ _ (c .pre .few-rows) (c .pre .few-rows)

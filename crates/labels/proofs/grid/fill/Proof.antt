@@ -1,53 +1,67 @@
 -- `labels::grid::fill` meets its contract: a turn of the inner loop puts one entry, one of the outer a row.
 use Prim.Native.Nat.{ℕ, _+_, _*_, _-_, _≤_, _<_}
 use mathlib.Core.Path.{_≡_, ap}
+use mathlib.Core.Bool.{not}
 use native.Mathlib.Omega.{arith}
+use lib.Arith.{digits-lt}
+use lib.ListN.{length, getD, length-replicate}
 use borrow.Author.Needs.{needs}
-use Rattle.policy.specs.Limits.{mostTuples}
-use Rattle.labels.proofs.Grids.{place-below, Entered, entered-more, entered-count, entered-all}
+use Rattle.policy.specs.Limits.{mostSets}
+use Rattle.policy.specs.Policy.{Policy, sets}
+use Rattle.formula.specs.Inner.Lane.{sideAt}
+use Rattle.labels.specs.Inner.Rows.{RowsOf, entryIn}
+use Rattle.labels.specs.Inner.Grid.{gridPlaces}
+use Rattle.labels.proofs.Grids.{Entered, entered-more, entered-count, entered-at}
 use Rattle.labels.proofs.grid.fill.Statement.{statement}
 use Rattle.labels.proofs.grid.fill.Tie as tie
 
 abbrev Inv-loop2 : tie.InvT-loop2
-Inv-loop2 grid₀ from m n u row o₀ grid o = (o ≤ n) × Entered from n (u * n + o) grid
+Inv-loop2 grid₀ from chosen start count n row i o₀ grid o = (o ≤ n) × Entered from chosen start n (i * n + o) grid
 
 abbrev μ-loop2 : tie.MeasureT-loop2
-μ-loop2 grid₀ from m n u row o₀ grid o = n - o
+μ-loop2 grid₀ from chosen start count n row i o₀ grid o = n - o
 
 abbrev Inv-loop : tie.InvT-loop
-Inv-loop grid₀ from m n u₀ grid u = (u ≤ m) × Entered from n (u * n) grid
+Inv-loop grid₀ from chosen start count n row₀ i₀ grid row i = (i ≤ count) × Entered from chosen start n (i * n) grid × (length row ≡ mostSets)
 
 abbrev μ-loop : tie.MeasureT-loop
-μ-loop grid₀ from m n u₀ grid u = m - u
+μ-loop grid₀ from chosen start count n row₀ i₀ grid row i = count - i
 
 loop-holds : tie.Need-loop-holds Inv-loop2 μ-loop2 Inv-loop μ-loop
-loop-holds c = (search needs, record { long = c .pre .1; entries = λ p source few i h. absurd (omega arith) })
+loop-holds c =
+    (omega arith, record { long = c .pre .1; entries = λ p rows few i h. absurd (omega arith) }, length-replicate {A = ℕ} mostSets 0)
 
-cast-row : tie.Need-cast-row Inv-loop2 μ-loop2 Inv-loop μ-loop
-cast-row c = search needs
+add-put : tie.Need-add-put Inv-loop2 μ-loop2 Inv-loop μ-loop
+add-put c = search needs
 
-row-requires : tie.Need-row-requires Inv-loop2 μ-loop2 Inv-loop μ-loop
-row-requires c κs =
-    let s = c .before .before .pre .0 in
-    ((s .0, s .1, omega (arith, s .2 .objects)), omega (arith, s .2 .few-users, c .loop-test .taken))
+mul-put : tie.Need-mul-put Inv-loop2 μ-loop2 Inv-loop μ-loop
+mul-put c = search needs
+
+element-copy-out-put : tie.Need-element-copy-out-put Inv-loop2 μ-loop2 Inv-loop μ-loop
+element-copy-out-put c = search needs
+
+cast-put : tie.Need-cast-put Inv-loop2 μ-loop2 Inv-loop μ-loop
+cast-put c =
+    let h : c .before .before .before .before .args .start + c .before .before .before .loop .i < c .before .before .before .before .args .start + c .before .before .before .before .args .count = omega (arith, c .before .before .loop-test .taken) in
+    omega (arith, c .before .before .before .before .pre .5 _ h)
+
+put-requires : tie.Need-put-requires Inv-loop2 μ-loop2 Inv-loop μ-loop
+put-requires c κs =
+    let s = c .before .before .before .before .pre in
+    (s .0, s .5 _ (omega (arith, c .before .before .loop-test .taken)), c .before .before .before .loop .inv .2)
 
 loop2-holds : tie.Need-loop2-holds Inv-loop2 μ-loop2 Inv-loop μ-loop
-loop2-holds c = (search needs, entered-count (c .before .before .loop .inv .1) (omega arith))
+loop2-holds c = (omega arith, entered-count (c .before .before .before .before .loop .inv .1) (omega arith))
 
 mul-grid : tie.Need-mul-grid Inv-loop2 μ-loop2 Inv-loop μ-loop
 mul-grid c = search needs
 
 array-read-grid : tie.Need-array-read-grid Inv-loop2 μ-loop2 Inv-loop μ-loop
-array-read-grid c = search needs
+array-read-grid c = omega (arith, c .before .before .before .before .before .before .before .pre .2, c .before .before .put .ensures .0)
 
 -- the place is in the grid
-room : (c : tie.In-loop2 Inv-loop2 μ-loop2 Inv-loop μ-loop)
-    → let l = c .before .before .before .before in
-    l .loop .u * l .before .args .view .columns + c .before .loop2 .o < mostTuples
-room c =
-    let l = c .before .before .before in
-    let v = l .before .before .pre .0 .2 in
-    place-below _ _ _ _ (v .few-users) (v .few-objects) (l .loop-test .taken) (c .loop2-test .taken)
+room : (c : tie.In-loop2 Inv-loop2 μ-loop2 Inv-loop μ-loop) → c .before .before .before .before .before .before .loop .i * c .before .before .before .before .before .before .before .args .n + c .before .loop2 .o < gridPlaces
+room c = omega (arith, c .before .before .before .before .before .before .before .pre .3, digits-lt (c .before .before .before .before .before .loop-test .taken) (c .loop2-test .taken))
 
 mul-grid-2 : tie.Need-mul-grid-2 Inv-loop2 μ-loop2 Inv-loop μ-loop
 mul-grid-2 c = omega (arith, room c)
@@ -68,21 +82,27 @@ loop2-less : tie.Need-loop2-less Inv-loop2 μ-loop2 Inv-loop μ-loop
 loop2-less c = search needs
 
 loop2-again : tie.Need-loop2-again Inv-loop2 μ-loop2 Inv-loop μ-loop
-loop2-again c = (omega arith, entered-more _ _ (c .before .loop2 .inv .1) (c .loop2-test .taken) (room c) (λ p source few. c .before .before .row .ensures p _ source few (c .loop2-test .taken)))
+loop2-again c =
+    (omega arith, entered-more _ _ (c .before .loop2 .inv .1) (c .loop2-test .taken) (room c) (λ p rows few. c .before .before .put .ensures .1 p _ rows few (c .loop2-test .taken)))
 
-add-u : tie.Need-add-u Inv-loop2 μ-loop2 Inv-loop μ-loop
-add-u c = search needs
+add-i : tie.Need-add-i Inv-loop2 μ-loop2 Inv-loop μ-loop
+add-i c = search needs
 
 loop-less : tie.Need-loop-less Inv-loop2 μ-loop2 Inv-loop μ-loop
 loop-less c = search needs
 
 loop-again : tie.Need-loop-again Inv-loop2 μ-loop2 Inv-loop μ-loop
-loop-again c = (omega arith, entered-count (c .before .loop2 .inv .1) (omega arith))
+loop-again c =
+    let e : c .before .loop2 .o ≡ c .before .before .before .before .before .before .before .args .n = omega (arith, c .before .loop2 .inv .0) in
+    (omega arith, entered-count (c .before .loop2 .inv .1) (omega arith), c .before .before .put .ensures .0)
 
 returns : tie.Need-returns Inv-loop2 μ-loop2 Inv-loop μ-loop
-returns c = λ p source v.
-    let q : c .before .loop .u ≡ c .before .before .args .view .rows = omega arith in
-    entered-all p source v (c .before .loop .inv .1) (ap (λ (x : ℕ). x * c .before .before .args .view .columns) q)
+returns c = (
+  c .before .loop .inv .1 .long,
+  λ p rows few i o hi ho.
+      let q : c .before .loop .i ≡ c .before .before .args .count = omega (arith, c .before .loop .inv .0) in
+      entered-at (entered-count (c .before .loop .inv .1) (ap (λ (x : ℕ). x * c .before .before .args .n) q)) p rows few i o ho (digits-lt hi ho),
+)
 
 pub fill-spec : {M : Type 1} → statement M
 fill-spec =
@@ -93,8 +113,11 @@ fill-spec =
     Inv-loop
     μ-loop
     loop-holds
-    cast-row
-    row-requires
+    add-put
+    mul-put
+    element-copy-out-put
+    cast-put
+    put-requires
     loop2-holds
     mul-grid
     array-read-grid
@@ -105,7 +128,7 @@ fill-spec =
     add-o
     loop2-less
     loop2-again
-    add-u
+    add-i
     loop-less
     loop-again
     returns)

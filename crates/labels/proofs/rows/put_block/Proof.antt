@@ -6,23 +6,23 @@ use lib.ListN.{length, getD, length-set}
 use borrow.Author.Needs.{needs}
 use Rattle.basis.proofs.Places.{stored-next}
 use Rattle.policy.specs.Limits.{mostSets}
-use Rattle.formula.specs.Truth.{at}
+use Rattle.formula.specs.Inner.Lane.{beside}
 use Rattle.labels.specs.Compile.{entryOf}
 use Rattle.labels.proofs.Entries.{laneEntry, lane-entry}
 use Rattle.labels.proofs.rows.put_block.Statement.{statement}
 use Rattle.labels.proofs.rows.put_block.Tie as tie
 
 abbrev Inv-loop : tie.InvT-loop
-Inv-loop row₀ users objects actions start count granted k₀ row k =
+Inv-loop row₀ user fixed others actions start count granted k₀ row k =
     (k ≤ count) × (length row ≡ mostSets)
     × ((f : ℕ → ℕ) → ((o : ℕ) → o < start → getD row₀ o 0 ≡ f o) → ((i : ℕ) → i < count → laneEntry granted actions i ≡ f (start + i))
     → (o : ℕ) → o < start + k → getD row o 0 ≡ f o)
 
 abbrev μ-loop : tie.MeasureT-loop
-μ-loop row₀ users objects actions start count granted k₀ row k = count - k
+μ-loop row₀ user fixed others actions start count granted k₀ row k = count - k
 
-of-lanes-requires : tie.Need-of-lanes-requires Inv-loop μ-loop
-of-lanes-requires c κs = search needs
+granted-requires : tie.Need-granted-requires Inv-loop μ-loop
+granted-requires c κs = search needs
 
 loop-holds : tie.Need-loop-holds Inv-loop μ-loop
 loop-holds c =
@@ -60,10 +60,10 @@ loop-again c =
 returns : tie.Need-returns Inv-loop μ-loop
 returns c = (
   c .before .loop .inv .1,
-  λ p u sides grants e lane old o h.
-      let g = c .before .before .of-lanes in
-      c .before .loop .inv .2 (λ i. entryOf p (at u i)) old
-      (λ k l. rw e (lane-entry p _ grants (g .result) k _ (g .ensures p k _ sides grants (lane k l)))) o (omega arith),
+  λ p s sides grants e lane old o h.
+      let g = c .before .before .granted in
+      c .before .loop .inv .2 (λ i. entryOf p (beside (c .before .before .before .args .user) s i)) old
+      (λ k l. rw e (lane-entry p _ grants (g .result) k _ (g .ensures p k s _ sides grants (lane k l)))) o (omega arith),
 )
 
 pub put-block-spec : {M : Type 1} → statement M
@@ -72,7 +72,7 @@ put-block-spec =
     (tie.spec
     Inv-loop
     μ-loop
-    of-lanes-requires
+    granted-requires
     loop-holds
     entry-requires
     add-row
