@@ -14,7 +14,7 @@ use policy::limits::BYTE;
 use policy::limits::Widths;
 use policy::refusal::Refusal;
 
-// What stands at a place of a buffer, whatever its width, where the place is in it.
+// The number at a place of a buffer of either width, where the place is in it.
 pub enum Read {
     Past,
     At(u16),
@@ -42,7 +42,7 @@ fn wide_at(buffer: &[u16], place: usize) -> Read
     }
 }
 
-// A label or an entry, in the buffer of its width.
+// The number at a place of a lent buffer, a label or an entry: of the two that may be lent, the one of its width is read.
 fn read_at(width: u32, bytes: &[u8], wide: &[u16], place: usize) -> Read
     ensures { λ r. ⌜ readOf r ≡ readAt (lentIn width (now (bytes .entry)) (now (wide .entry))) place ⌝ }
 {
