@@ -42,7 +42,7 @@ fn wide_at(buffer: &[u16], place: usize) -> Read
     }
 }
 
-// The number at a place of a lent buffer, a label or an entry: of the two that may be lent, the one of its width is read.
+// A label or an entry at a place: of the two buffers that may be lent, the one of its width is read.
 fn read_at(width: u32, bytes: &[u8], wide: &[u16], place: usize) -> Read
     ensures { λ r. ⌜ readOf r ≡ readAt (lentIn width (now (bytes .entry)) (now (wide .entry))) place ⌝ }
 {
