@@ -34,8 +34,8 @@ pub struct Ran {
     pub board: Board,
 }
 
-// One item on a board: what is no call answers 5 and leaves the board. Each buffer is lent as bytes or in 16 bits: of the
-// two, the one of the widths that the calls are made for.
+// One item on a board: what is no call answers 5 and leaves the board. Each buffer may be lent as bytes or in 16 bits:
+// of the two, the one of the widths that the calls are made for is read.
 fn answer(
     board: Board,
     policy: PolicyValue,
