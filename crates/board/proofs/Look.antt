@@ -12,11 +12,9 @@ use Rattle.sets.specs.Set.{has}
 use Rattle.policy.specs.Answers.{granted, denied, refused, decided}
 use Rattle.formula.specs.Truth.{at}
 use Rattle.board.specs.Board.{Labels, placeAt, pastEnd, grantsByLabels}
-use Rattle.board.specs.Inner.{byteOf, entryReadOf, userOf, objectOf, readAt, lookedUp}
-use Rattle.board.specs.declared.buffers.Byte.{Byte}
-use Rattle.board.specs.declared.buffers.Byte.the-variants.{Past, At}
-use Rattle.board.specs.declared.buffers.EntryRead.{EntryRead}
-use Rattle.board.specs.declared.buffers.EntryRead.the-variants.{Past as EntryPast, At as EntryAt}
+use Rattle.board.specs.Inner.{readOf, userOf, objectOf, readAt, lookedUp}
+use Rattle.board.specs.declared.buffers.Read.{Read}
+use Rattle.board.specs.declared.buffers.Read.the-variants.{Past, At}
 use Rattle.board.specs.declared.buffers.UserRead.{UserRead}
 use Rattle.board.specs.declared.buffers.UserRead.the-variants.{Past as UserPast, At as UserAt}
 use Rattle.board.specs.declared.buffers.ObjectRead.{ObjectRead}
@@ -24,7 +22,7 @@ use Rattle.board.specs.declared.buffers.ObjectRead.the-variants.{Past as
 use Rattle.labels.specs.declared.UserLabel.{UserLabel}
 use Rattle.labels.specs.declared.ObjectLabel.{ObjectLabel}
 
--- a byte that is there, and one that is not
+-- a place that is in a buffer, and one that is not
 there-at : (xs : List ℕ) (k b : ℕ) → readAt xs k ≡ some b → (leb (length xs) k ≡ false) × (getD xs k 0 ≡ b)
 unfolding readAt
 there-at xs k b e = go (ltb k (length xs)) refl e
@@ -42,19 +40,12 @@ gone-at xs k e = go (ltb k (length xs)) refl e
     go true q f = let z : _≡_ {A = ℕ} 0 1 = cc in absurd (omega arith)
     go false q f = le-leb (length xs) k (ltb-false k (length xs) q)
 
--- a byte as an entry
-pub entry-past : (x : Byte) (b : Option ℕ) → byteOf x ≡ b → x ≡ Past → entryReadOf EntryPast ≡ b
-entry-past x b h e = rw e at h
+-- what the case of a read says of what stands there
+pub none-there : (x : Read) (b : Option ℕ) → readOf x ≡ b → x ≡ Past → none ≡ b
+none-there x b h e = rw e at h
 
-pub entry-byte : (x : Byte) (b : Option ℕ) → byteOf x ≡ b → (n : ℕ) → x ≡ At n → entryReadOf (EntryAt n) ≡ b
-entry-byte x b h n e = rw e at h
-
--- what a byte's case says of what was read
-pub read-past : (x : Byte) (b : Option ℕ) → byteOf x ≡ b → x ≡ Past → none ≡ b
-read-past x b h e = rw e at h
-
-pub read-at : (x : Byte) (b : Option ℕ) → byteOf x ≡ b → (n : ℕ) → x ≡ At n → some n ≡ b
-read-at x b h n e = rw e at h
+pub some-there : (x : Read) (b : Option ℕ) → readOf x ≡ b → (n : ℕ) → x ≡ At n → some n ≡ b
+some-there x b h n e = rw e at h
 
 module _ (l : Labels) (a u o : ℕ) (x : UserRead) (hx : userOf x ≡ readAt (l .buffers .users) u) where
   pub past-user : x ≡ UserPast → refused 20 ≡ lookedUp l a (at u o)
@@ -66,16 +57,16 @@ module _ (l : Labels) (a u o : ℕ) (x : UserRead) (hx : userOf x ≡ readAt (l 
     unfolding lookedUp pastEnd
     past-object e = rw (there-at (l .buffers .users) u (ul .0) (sym hx ∙ rw ex) .0, gone-at (l .buffers .objects) o (sym hy ∙ rw e))
 
-    module _ (ol : ObjectLabel) (ey : y ≡ ObjectAt ol) (k : ℕ) (hk : k ≡ ul .0 * l .counts .objects + ol .0) (z : EntryRead) (hz : entryReadOf z ≡ readAt (l .buffers .table) k) where
+    module _ (ol : ObjectLabel) (ey : y ≡ ObjectAt ol) (k : ℕ) (hk : k ≡ ul .0 * l .counts .objects + ol .0) (z : Read) (hz : readOf z ≡ readAt (l .buffers .table) k) where
       place : placeAt l (at u o) ≡ k
       place = rw (there-at (l .buffers .users) u (ul .0) (sym hx ∙ rw ex) .1, there-at (l .buffers .objects) o (ol .0) (sym hy ∙ rw ey) .1) (sym hk)
 
-      pub past-table : z ≡ EntryPast → refused 20 ≡ lookedUp l a (at u o)
+      pub past-table : z ≡ Past → refused 20 ≡ lookedUp l a (at u o)
       unfolding lookedUp pastEnd
       past-table e =
           rw (there-at (l .buffers .users) u (ul .0) (sym hx ∙ rw ex) .0, there-at (l .buffers .objects) o (ol .0) (sym hy ∙ rw ey) .0, place, gone-at (l .buffers .table) k (sym hz ∙ rw e))
 
-      module _ (b : ℕ) (ez : z ≡ EntryAt b) where
+      module _ (b : ℕ) (ez : z ≡ At b) where
         decided-at : decided (has b a) ≡ lookedUp l a (at u o)
         unfolding lookedUp pastEnd grantsByLabels
         decided-at =

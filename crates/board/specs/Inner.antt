@@ -31,10 +31,8 @@ use Rattle.board.specs.declared.rulings.Ruling.{Ruling}
 use Rattle.board.specs.declared.rulings.Ruling.the-variants.{Allowed, Refused}
 use Rattle.board.specs.declared.asking.Asked.{Asked}
 use Rattle.board.specs.declared.asking.Asked.the-variants.{Of, Refused as AskedRefused}
-use Rattle.board.specs.declared.buffers.Byte.{Byte}
-use Rattle.board.specs.declared.buffers.Byte.the-variants.{Past, At}
-use Rattle.board.specs.declared.buffers.EntryRead.{EntryRead}
-use Rattle.board.specs.declared.buffers.EntryRead.the-variants.{Past as EntryPast, At as EntryAt}
+use Rattle.board.specs.declared.buffers.Read.{Read}
+use Rattle.board.specs.declared.buffers.Read.the-variants.{Past, At}
 use Rattle.board.specs.declared.buffers.UserRead.{UserRead}
 use Rattle.board.specs.declared.buffers.UserRead.the-variants.{Past as UserPast, At as UserAt}
 use Rattle.board.specs.declared.buffers.ObjectRead.{ObjectRead}
@@ -50,13 +48,9 @@ abbrev pub askedOf : Asked → Result Sets
 askedOf (Of held object) = gives (at held object)
 askedOf (AskedRefused r) = refuses (numberOf r)
 
-abbrev pub byteOf : Byte → Option ℕ
-byteOf Past = none
-byteOf (At b) = some b
-
-abbrev pub entryReadOf : EntryRead → Option ℕ
-entryReadOf EntryPast = none
-entryReadOf (EntryAt x) = some x
+abbrev pub readOf : Read → Option ℕ
+readOf Past = none
+readOf (At x) = some x
 
 abbrev pub userOf : UserRead → Option ℕ
 userOf UserPast = none

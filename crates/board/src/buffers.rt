@@ -1,11 +1,10 @@
-// The three lent buffers of a request: each is read at one place. The table is lent in one of two buffers, of bytes or of
-// 16-bit entries; only here is it told how an entry is looked up.
+// The three lent buffers of a request: each is read at one place. Each is lent as bytes or in 16 bits; only here is it
+// told how a label or an entry is looked up.
 ghost use mathlib.Core.Path.{_≡_};
 ghost use Rattle.formula.specs.Truth.{at};
-ghost use Rattle.labels.specs.Compile.{lent};
-ghost use Rattle.labels.specs.Inner.Table.{tableIn};
+ghost use Rattle.labels.specs.Inner.Lending.{lentIn, lentAs};
 ghost use Rattle.board.specs.Board.{labelsOf, replyOf};
-ghost use Rattle.board.specs.Inner.{askedOf, answered, byteOf, entryReadOf, userOf, objectOf, readAt, lookedUp};
+ghost use Rattle.board.specs.Inner.{askedOf, answered, readOf, userOf, objectOf, readAt, lookedUp};
 use crate::Answer;
 use crate::asking::Asked;
 use labels::Counts;
@@ -15,49 +14,40 @@ use policy::limits::BYTE;
 use policy::limits::Widths;
 use policy::refusal::Refusal;
 
-// The byte at a place of a buffer, where the place is in it.
-pub enum Byte {
-    Past,
-    At(u8),
-}
-
-// The same of a table's entry, whatever its width.
-pub enum EntryRead {
+// The number at a place of a buffer of either width, where the place is in it.
+pub enum Read {
     Past,
     At(u16),
 }
 
 // The one way in which a lent buffer of bytes is read.
-fn byte_at(buffer: &[u8], place: usize) -> Byte
-    ensures { λ r. ⌜ byteOf r ≡ readAt (now (buffer .entry)) place ⌝ }
+fn byte_at(buffer: &[u8], place: usize) -> Read
+    ensures { λ r. ⌜ readOf r ≡ readAt (now (buffer .entry)) place ⌝ }
 {
     if place < buffer.len() {
-        Byte::At(buffer[place])
+        Read::At(buffer[place] as u16)
     } else {
-        Byte::Past
+        Read::Past
     }
 }
 
-// The one way in which a lent buffer of 16-bit entries is read.
-fn wide_at(buffer: &[u16], place: usize) -> EntryRead
-    ensures { λ r. ⌜ entryReadOf r ≡ readAt (now (buffer .entry)) place ⌝ }
+// The one way in which a lent buffer of 16 bits is read.
+fn wide_at(buffer: &[u16], place: usize) -> Read
+    ensures { λ r. ⌜ readOf r ≡ readAt (now (buffer .entry)) place ⌝ }
 {
     if place < buffer.len() {
-        EntryRead::At(buffer[place])
+        Read::At(buffer[place])
     } else {
-        EntryRead::Past
+        Read::Past
     }
 }
 
-// The entry at a place of the table that is lent.
-fn entry_at(entry: u32, bytes: &[u8], wide: &[u16], place: usize) -> EntryRead
-    ensures { λ r. ⌜ entryReadOf r ≡ readAt (tableIn entry (now (bytes .entry)) (now (wide .entry))) place ⌝ }
+// A label or an entry at a place: of the two buffers that may be lent, the one of its width is read.
+fn read_at(width: u32, bytes: &[u8], wide: &[u16], place: usize) -> Read
+    ensures { λ r. ⌜ readOf r ≡ readAt (lentIn width (now (bytes .entry)) (now (wide .entry))) place ⌝ }
 {
-    if entry == BYTE {
-        match byte_at(bytes, place) {
-            Byte::Past => EntryRead::Past,
-            Byte::At(x) => EntryRead::At(x as u16),
-        }
+    if width == BYTE {
+        byte_at(bytes, place)
     } else {
         wide_at(wide, place)
     }
@@ -75,22 +65,22 @@ pub enum ObjectRead {
 }
 
 // The held set's label.
-fn user_label(users: &[u8], held: u32) -> UserRead
-    ensures { λ r. ⌜ userOf r ≡ readAt (now (users .entry)) held ⌝ }
+fn user_label(width: u32, bytes: &[u8], wide: &[u16], held: u32) -> UserRead
+    ensures { λ r. ⌜ userOf r ≡ readAt (lentIn width (now (bytes .entry)) (now (wide .entry))) held ⌝ }
 {
-    match byte_at(users, held as usize) {
-        Byte::Past => UserRead::Past,
-        Byte::At(label) => UserRead::At(UserLabel(label)),
+    match read_at(width, bytes, wide, held as usize) {
+        Read::Past => UserRead::Past,
+        Read::At(label) => UserRead::At(UserLabel(label)),
     }
 }
 
 // The object set's label.
-fn object_label(objects: &[u8], object: u32) -> ObjectRead
-    ensures { λ r. ⌜ objectOf r ≡ readAt (now (objects .entry)) object ⌝ }
+fn object_label(width: u32, bytes: &[u8], wide: &[u16], object: u32) -> ObjectRead
+    ensures { λ r. ⌜ objectOf r ≡ readAt (lentIn width (now (bytes .entry)) (now (wide .entry))) object ⌝ }
 {
-    match byte_at(objects, object as usize) {
-        Byte::Past => ObjectRead::Past,
-        Byte::At(label) => ObjectRead::At(ObjectLabel(label)),
+    match read_at(width, bytes, wide, object as usize) {
+        Read::Past => ObjectRead::Past,
+        Read::At(label) => ObjectRead::At(ObjectLabel(label)),
     }
 }
 
@@ -100,22 +90,24 @@ fn look_up(
     widths: Widths,
     users: &[u8],
     objects: &[u8],
-    bytes: &[u8],
-    wide: &[u16],
+    table: &[u8],
+    wide_users: &[u16],
+    wide_objects: &[u16],
+    wide_table: &[u16],
     action: u32,
     held: u32,
     object: u32,
 ) -> Answer
-    ensures { λ r. ⌜ replyOf r ≡ lookedUp (labelsOf counts (lent widths (now (users .entry)) (now (objects .entry)) (tableIn (widths .entry) (now (bytes .entry)) (now (wide .entry))))) action (at held object) ⌝ }
+    ensures { λ r. ⌜ replyOf r ≡ lookedUp (labelsOf counts (lentAs widths (now (users .entry)) (now (objects .entry)) (now (table .entry)) (now («wide_users» .entry)) (now («wide_objects» .entry)) (now («wide_table» .entry)))) action (at held object) ⌝ }
 {
-    let UserRead::At(ul) = user_label(users, held) else {
+    let UserRead::At(ul) = user_label(widths.label, users, wide_users, held) else {
         return Answer::Refused(Refusal::BufferTooShort);
     };
-    let ObjectRead::At(ol) = object_label(objects, object) else {
+    let ObjectRead::At(ol) = object_label(widths.label, objects, wide_objects, object) else {
         return Answer::Refused(Refusal::BufferTooShort);
     };
     let place = labels::place(ul, ol, counts.objects);
-    let EntryRead::At(x) = entry_at(widths.entry, bytes, wide, place) else {
+    let Read::At(x) = read_at(widths.entry, table, wide_table, place) else {
         return Answer::Refused(Refusal::BufferTooShort);
     };
     if sets::holds(x as u32, action) {
@@ -131,12 +123,14 @@ pub fn answer(
     widths: Widths,
     users: &[u8],
     objects: &[u8],
-    bytes: &[u8],
-    wide: &[u16],
+    table: &[u8],
+    wide_users: &[u16],
+    wide_objects: &[u16],
+    wide_table: &[u16],
     action: u32,
     asked: Asked,
 ) -> Answer
-    ensures { λ r. ⌜ replyOf r ≡ answered (labelsOf counts (lent widths (now (users .entry)) (now (objects .entry)) (tableIn (widths .entry) (now (bytes .entry)) (now (wide .entry))))) action (askedOf asked) ⌝ }
+    ensures { λ r. ⌜ replyOf r ≡ answered (labelsOf counts (lentAs widths (now (users .entry)) (now (objects .entry)) (now (table .entry)) (now («wide_users» .entry)) (now («wide_objects» .entry)) (now («wide_table» .entry)))) action (askedOf asked) ⌝ }
 {
     match asked {
         Asked::Of(held, object) => look_up(
@@ -144,8 +138,10 @@ pub fn answer(
             widths,
             users,
             objects,
-            bytes,
-            wide,
+            table,
+            wide_users,
+            wide_objects,
+            wide_table,
             action,
             held,
             object,

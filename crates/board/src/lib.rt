@@ -13,10 +13,10 @@ mod conflicts;
 mod entries;
 mod fit;
 mod juniors;
+pub mod lending;
 mod reach;
 mod rulings;
 mod steps;
-pub mod tables;
 
 use labels::Counts;
 use policy::limits;
@@ -188,7 +188,7 @@ pub fn request_8_8(
     ensures { λ r. ⌜ outOf r ≡ boardStep policy (labelsOf counts (lent (bits 8 8) (now (users .entry)) (now (objects .entry)) (now (table .entry)))) (requests session action object) board ⌝ }
 {
     let none = [0u16; 0];
-    tables::request(
+    lending::request(
         board,
         policy,
         counts,
@@ -196,6 +196,8 @@ pub fn request_8_8(
         users,
         objects,
         table,
+        &none,
+        &none,
         &none,
         session,
         action,
@@ -217,15 +219,50 @@ pub fn request_8_16(
 ) -> Step
     ensures { λ r. ⌜ outOf r ≡ boardStep policy (labelsOf counts (lent (bits 8 16) (now (users .entry)) (now (objects .entry)) (now (table .entry)))) (requests session action object) board ⌝ }
 {
-    let none = [0u8; 0];
-    tables::request(
+    let no_table = [0u8; 0];
+    let no_labels = [0u16; 0];
+    lending::request(
         board,
         policy,
         counts,
         limits::WIDTHS_8_16,
         users,
         objects,
+        &no_table,
+        &no_labels,
+        &no_labels,
+        table,
+        session,
+        action,
+        object,
+    )
+}
+
+// The same of a form with labels and entries of 16 bits: reads one number of each lent buffer.
+pub fn request_16_16(
+    board: Board,
+    policy: PolicyValue,
+    counts: Counts,
+    users: &[u16],
+    objects: &[u16],
+    table: &[u16],
+    session: u32,
+    action: u32,
+    object: u32,
+) -> Step
+    ensures { λ r. ⌜ outOf r ≡ boardStep policy (labelsOf counts (lent (bits 16 16) (now (users .entry)) (now (objects .entry)) (now (table .entry)))) (requests session action object) board ⌝ }
+{
+    let none = [0u8; 0];
+    lending::request(
+        board,
+        policy,
+        counts,
+        limits::WIDTHS_16_16,
         &none,
+        &none,
+        &none,
+        users,
+        objects,
         table,
         session,
         action,

@@ -3,7 +3,7 @@ ghost use mathlib.Core.Path.{_≡_};
 ghost use Rattle.policy.specs.Answers.{replyNumber};
 ghost use Rattle.policy.specs.Limits.{bits};
 ghost use Rattle.labels.specs.Compile.{lent};
-ghost use Rattle.labels.specs.Inner.Table.{tableIn};
+ghost use Rattle.labels.specs.Inner.Lending.{lentAs};
 ghost use Rattle.board.specs.Board.{labelsOf, replyOf, outOf, boardStep};
 ghost use Rattle.runner.specs.Calls.{itemOf};
 ghost use Rattle.runner.specs.Run.{RunsAs};
@@ -15,7 +15,7 @@ use crate::list::Item;
 use board::Answer;
 use board::Board;
 use board::Step;
-use board::tables;
+use board::lending;
 use labels::Counts;
 use policy::limits;
 use policy::limits::Widths;
@@ -34,8 +34,8 @@ pub struct Ran {
     pub board: Board,
 }
 
-// One item on a board: what is no call answers 5 and leaves the board. The table is lent in one of two buffers, the one
-// of the widths that the calls are made for.
+// One item on a board: what is no call answers 5 and leaves the board. Each buffer may be lent as bytes or in 16 bits:
+// of the two, the one of the widths that the calls are made for is read.
 fn answer(
     board: Board,
     policy: PolicyValue,
@@ -43,22 +43,26 @@ fn answer(
     widths: Widths,
     users: &[u8],
     objects: &[u8],
-    bytes: &[u8],
-    wide: &[u16],
+    table: &[u8],
+    wide_users: &[u16],
+    wide_objects: &[u16],
+    wide_table: &[u16],
     item: Item,
 ) -> Step
-    ensures { λ r. ⌜ outOf r ≡ itemStep (boardStep policy (labelsOf counts (lent widths (now (users .entry)) (now (objects .entry)) (tableIn (widths .entry) (now (bytes .entry)) (now (wide .entry)))))) (itemOf item) board ⌝ }
+    ensures { λ r. ⌜ outOf r ≡ itemStep (boardStep policy (labelsOf counts (lentAs widths (now (users .entry)) (now (objects .entry)) (now (table .entry)) (now («wide_users» .entry)) (now («wide_objects» .entry)) (now («wide_table» .entry))))) (itemOf item) board ⌝ }
 {
     match item {
-        Item::Is(call) => tables::take(
+        Item::Is(call) => lending::take(
             board,
             policy,
             counts,
             widths,
             users,
             objects,
-            bytes,
-            wide,
+            table,
+            wide_users,
+            wide_objects,
+            wide_table,
             call,
         ),
         Item::NoCall => Step {
@@ -82,12 +86,14 @@ fn run(
     widths: Widths,
     users: &[u8],
     objects: &[u8],
-    bytes: &[u8],
-    wide: &[u16],
+    table: &[u8],
+    wide_users: &[u16],
+    wide_objects: &[u16],
+    wide_table: &[u16],
     calls: &[u32],
     answers: &mut [u8],
 ) -> Ran
-    ensures { λ r. ⌜ RunsAs policy (labelsOf counts (lent widths (now (users .entry)) (now (objects .entry)) (tableIn (widths .entry) (now (bytes .entry)) (now (wide .entry))))) (now (calls .entry)) (now (answers .entry)) r (now (answers .exit)) ⌝ }
+    ensures { λ r. ⌜ RunsAs policy (labelsOf counts (lentAs widths (now (users .entry)) (now (objects .entry)) (now (table .entry)) (now («wide_users» .entry)) (now («wide_objects» .entry)) (now («wide_table» .entry)))) (now (calls .entry)) (now (answers .entry)) r (now (answers .exit)) ⌝ }
 {
     let n = list::count_of(calls.len());
     let mut board = board::fresh();
@@ -107,8 +113,10 @@ fn run(
             widths,
             users,
             objects,
-            bytes,
-            wide,
+            table,
+            wide_users,
+            wide_objects,
+            wide_table,
             item,
         );
         let given = step.answer;
@@ -144,6 +152,8 @@ pub fn run_8_8(
         objects,
         table,
         &none,
+        &none,
+        &none,
         calls,
         answers,
     )
@@ -161,14 +171,45 @@ pub fn run_8_16(
 ) -> Ran
     ensures { λ r. ⌜ RunsAs policy (labelsOf counts (lent (bits 8 16) (now (users .entry)) (now (objects .entry)) (now (table .entry)))) (now (calls .entry)) (now (answers .entry)) r (now (answers .exit)) ⌝ }
 {
-    let none = [0u8; 0];
+    let no_table = [0u8; 0];
+    let no_labels = [0u16; 0];
     run(
         policy,
         counts,
         limits::WIDTHS_8_16,
         users,
         objects,
+        &no_table,
+        &no_labels,
+        &no_labels,
+        table,
+        calls,
+        answers,
+    )
+}
+
+// A list of calls, its requests by labels and a table of 16 bits.
+pub fn run_16_16(
+    policy: PolicyValue,
+    counts: Counts,
+    users: &[u16],
+    objects: &[u16],
+    table: &[u16],
+    calls: &[u32],
+    answers: &mut [u8],
+) -> Ran
+    ensures { λ r. ⌜ RunsAs policy (labelsOf counts (lent (bits 16 16) (now (users .entry)) (now (objects .entry)) (now (table .entry)))) (now (calls .entry)) (now (answers .entry)) r (now (answers .exit)) ⌝ }
+{
+    let none = [0u8; 0];
+    run(
+        policy,
+        counts,
+        limits::WIDTHS_16_16,
         &none,
+        &none,
+        &none,
+        users,
+        objects,
         table,
         calls,
         answers,

@@ -31,8 +31,8 @@ returns-2 c = search past-object
 place-requires : tie.Need-place-requires
 place-requires c κs = search needs
 
-entry-at-requires : tie.Need-entry-at-requires
-entry-at-requires c κs = search needs
+read-at-requires : tie.Need-read-at-requires
+read-at-requires c κs = search needs
 
 enum-known-x : tie.Need-enum-known-x
 enum-known-x c = search needs
@@ -68,7 +68,7 @@ look-up-spec =
     enum-told-2
     returns-2
     place-requires
-    entry-at-requires
+    read-at-requires
     enum-known-x
     enum-told-3
     returns-3

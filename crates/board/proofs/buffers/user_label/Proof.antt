@@ -1,11 +1,11 @@
--- `board::buffers::user_label` meets its contract, by the cases of the byte.
+-- `board::buffers::user_label` meets its contract, by the cases of the read.
 use borrow.Author.Needs.{needs}
-use Rattle.board.proofs.Look.{read-past, read-at}
+use Rattle.board.proofs.Look.{none-there, some-there}
 use Rattle.board.proofs.buffers.user_label.Statement.{statement}
 use Rattle.board.proofs.buffers.user_label.Tie as tie
 
-byte-at-requires : tie.Need-byte-at-requires
-byte-at-requires c κs = search needs
+read-at-requires : tie.Need-read-at-requires
+read-at-requires c κs = search needs
 
 enum-told : tie.Need-enum-told
 enum-told c = search needs
@@ -14,11 +14,11 @@ enum-known-label : tie.Need-enum-known-label
 enum-known-label c = search needs
 
 returns : tie.Need-returns
-returns c = search read-past
+returns c = search none-there
 
 returns-2 : tie.Need-returns-2
-returns-2 c = search read-at
+returns-2 c = search some-there
 
 pub user-label-spec : {M : Type 1} → statement M
 user-label-spec =
-    tie.close (tie.spec byte-at-requires enum-told enum-known-label returns returns-2)
+    tie.close (tie.spec read-at-requires enum-told enum-known-label returns returns-2)

@@ -1,7 +1,7 @@
--- `board::tables::take` meets its contract: each case is the call of that name.
+-- `board::lending::take` meets its contract: each case is the call of that name.
 use borrow.Author.Needs.{needs}
-use Rattle.board.proofs.tables.take.Statement.{statement}
-use Rattle.board.proofs.tables.take.Tie as tie
+use Rattle.board.proofs.lending.take.Statement.{statement}
+use Rattle.board.proofs.lending.take.Tie as tie
 
 enum-known-call : tie.Need-enum-known-call
 enum-known-call c = search needs

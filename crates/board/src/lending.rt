@@ -1,7 +1,6 @@
-// Calls that are lent a table in either width: of its two buffers, the one of the widths that the call is made for.
+// Calls that are lent buffers in either width: of the two of each, the one of the widths that the call is made for.
 ghost use mathlib.Core.Path.{_≡_};
-ghost use Rattle.labels.specs.Compile.{lent};
-ghost use Rattle.labels.specs.Inner.Table.{tableIn};
+ghost use Rattle.labels.specs.Inner.Lending.{lentAs};
 ghost use Rattle.board.specs.Machine.{requests};
 ghost use Rattle.board.specs.Board.{labelsOf, callOf, outOf, boardStep};
 use crate::Board;
@@ -24,13 +23,15 @@ pub fn request(
     widths: Widths,
     users: &[u8],
     objects: &[u8],
-    bytes: &[u8],
-    wide: &[u16],
+    table: &[u8],
+    wide_users: &[u16],
+    wide_objects: &[u16],
+    wide_table: &[u16],
     session: u32,
     action: u32,
     object: u32,
 ) -> Step
-    ensures { λ r. ⌜ outOf r ≡ boardStep policy (labelsOf counts (lent widths (now (users .entry)) (now (objects .entry)) (tableIn (widths .entry) (now (bytes .entry)) (now (wide .entry))))) (requests session action object) board ⌝ }
+    ensures { λ r. ⌜ outOf r ≡ boardStep policy (labelsOf counts (lentAs widths (now (users .entry)) (now (objects .entry)) (now (table .entry)) (now («wide_users» .entry)) (now («wide_objects» .entry)) (now («wide_table» .entry)))) (requests session action object) board ⌝ }
 {
     if !limits::own_widths(policy.form, widths) {
         return steps::invalid(board);
@@ -42,7 +43,18 @@ pub fn request(
     let registered = policy.objects;
     let actions = limits::actions(policy.form);
     let asked = asking::ask(sessions, registered, actions, session, action, object);
-    let answer = buffers::answer(counts, widths, users, objects, bytes, wide, action, asked);
+    let answer = buffers::answer(
+        counts,
+        widths,
+        users,
+        objects,
+        table,
+        wide_users,
+        wide_objects,
+        wide_table,
+        action,
+        asked,
+    );
     Step {
         answer: answer,
         board: board,
@@ -57,11 +69,13 @@ pub fn take(
     widths: Widths,
     users: &[u8],
     objects: &[u8],
-    bytes: &[u8],
-    wide: &[u16],
+    table: &[u8],
+    wide_users: &[u16],
+    wide_objects: &[u16],
+    wide_table: &[u16],
     call: Call,
 ) -> Step
-    ensures { λ r. ⌜ outOf r ≡ boardStep policy (labelsOf counts (lent widths (now (users .entry)) (now (objects .entry)) (tableIn (widths .entry) (now (bytes .entry)) (now (wide .entry))))) (callOf call) board ⌝ }
+    ensures { λ r. ⌜ outOf r ≡ boardStep policy (labelsOf counts (lentAs widths (now (users .entry)) (now (objects .entry)) (now (table .entry)) (now («wide_users» .entry)) (now («wide_objects» .entry)) (now («wide_table» .entry)))) (callOf call) board ⌝ }
 {
     match call {
         Call::Open(user, session, set) => crate::open(board, policy, user, session, set),
@@ -75,8 +89,10 @@ pub fn take(
             widths,
             users,
             objects,
-            bytes,
-            wide,
+            table,
+            wide_users,
+            wide_objects,
+            wide_table,
             session,
             action,
             object,

@@ -1,9 +1,9 @@
--- `board::tables::request` meets its contract: check 11, then what was asked is answered, and the board stays.
+-- `board::lending::request` meets its contract: check 11, then what was asked is answered, and the board stays.
 use borrow.Author.Needs.{needs}
 use Rattle.board.proofs.Asked.{asked-step}
 use Rattle.board.proofs.Settled.{stopped-widths, stopped, objects-ready}
-use Rattle.board.proofs.tables.request.Statement.{statement}
-use Rattle.board.proofs.tables.request.Tie as tie
+use Rattle.board.proofs.lending.request.Statement.{statement}
+use Rattle.board.proofs.lending.request.Tie as tie
 
 own-widths-requires : tie.Need-own-widths-requires
 own-widths-requires c κs = search needs
@@ -36,7 +36,7 @@ returns-3 : tie.Need-returns-3
 returns-3 c =
     let w = c .before .before .before .before .before .before .before .before in
     let f = c .before .before .before .before .before .before in
-    let a = w .before .before .before .before .before .args in
+    let a = w .before .before .before .before .before .before .before .args in
     asked-step (a .policy) _ (a .board) (a .session) (a .action) (a .object) (w .own-widths .result) (w .own-widths .ensures) (c .before .before .before .before .before .before .before .if1 .left)
     (f .fits2 .result) (f .fits2 .ensures) (c .before .before .before .before .before .if2 .left) (c .before .before .actions .result) (c .before .before .actions .ensures)
     (c .before .ask .result) (c .before .ask .ensures) _ (c .answer .ensures)
