@@ -11,7 +11,7 @@ mod isolation;
 mod lists;
 mod pairs;
 
-use crate::case_file::{answered, answered_for_all_widths, case_of, lines};
+use crate::case_file::{answered, answered_for_byte_labels, case_of, lines};
 use crate::cases::{self, Rng};
 use crate::formula::reach;
 use crate::labels::grants;
@@ -135,11 +135,11 @@ fn of_form_1(text: Making) -> impl Fn(u64) -> (Vec<u8>, Vec<u8>) {
     }
 }
 
-/// The text of a case of either form and all its lines, for all widths.
+/// The text of a case of form 1 or 2 and all its lines, for the widths of both.
 fn of_both_forms(case: u64) -> (Vec<u8>, Vec<u8>) {
     let mut rng = Rng::new(SEED, case);
-    let text = cases::text(&mut rng, case);
-    let lines = answered_for_all_widths(&mut rng, case, &text, u32::MAX);
+    let text = cases::text_without_form_3(&mut rng, case);
+    let lines = answered_for_byte_labels(&mut rng, case, &text, u32::MAX);
     (text, lines)
 }
 

@@ -70,7 +70,7 @@ fn beyond(draft: &Draft) -> Vec<String> {
         format!("conflict,{sets},8"),
         format!("conflict,{},8", sets - 1),
         "conflict,0,8".to_string(),
-        "conflict,256,1".to_string(),
+        format!("conflict,{},1", 2 * draft.form.most_sets()),
         "conflict,65536,1".to_string(),
         format!("conflict,{},256", sets - 1),
     ]
