@@ -241,13 +241,8 @@ fn forms_actions_and_widths_just_out_of_range_come_up() {
     // What later forms have and an earlier one has not.
     let new = (9..16).filter(|&action| comes('1', "rule", action) || comes('1', "pair", action));
     assert!(new.count() > 3);
-    for (form, kind) in [
-        ('1', "uattr"),
-        ('1', "oattr"),
-        ('2', "uattr"),
-        ('2', "oattr"),
-    ] {
-        assert!(comes(form, kind, 9), "{form} {kind}");
+    for kind in ["uattr", "oattr"] {
+        assert!(comes('1', kind, 9) || comes('2', kind, 9), "{kind}");
     }
 }
 
