@@ -376,56 +376,43 @@ fn calls_made_for_other_widths_get_11() {
     assert!(listed.iter().all(|&count| count > 10), "{listed:?}");
 }
 
-/// What only form 3 has: sets, labels and tuples that other forms have no room for, of
-/// attributes as wide as there may be and of several, with all lines of seniority.
+/// Attributes as wide as there may be and several, all lines of seniority, and sets that
+/// other forms have no room for.
 #[test]
-fn what_only_form_3_has_comes_up() {
-    let all: Vec<Policy> = FORM_3
-        .iter()
-        .flat_map(|&file| policies(&files()[file]))
-        .collect();
+fn policies_that_only_form_3_has_come_up() {
+    let all = FORM_3.iter().flat_map(|&file| policies(&files()[file]));
+    let all: Vec<Policy> = all.collect();
     let some = |wanted: &dyn Fn(&Policy) -> bool| all.iter().any(wanted);
-    assert!(some(&|p| (
-        p.user_widths.as_slice(),
-        p.object_widths.as_slice()
-    ) == (&[9], &[9])));
-    assert!(some(
-        &|p| p.user_values() + p.object_values() == 18 && p.user_widths.len() > 2
-    ));
-    assert!(some(
-        &|p| p.user_seniority.len() + p.object_seniority.len() == 72
-    ));
-    assert!(some(&|p| p
-        .users
-        .iter()
-        .any(|user| (256..512).contains(&user.1))));
-    assert!(some(&|p| p
-        .objects
-        .iter()
-        .any(|object| (256..512).contains(&object.1))));
+    assert!(some(&|p| p.user_widths == [9] && p.object_widths == [9]));
+    let nines = |p: &Policy| (p.user_values(), p.object_values()) == (9, 9);
+    assert!(some(&|p| nines(p)
+        && p.user_widths.len() > 2
+        && p.object_widths.len() > 2));
+    let lines = |p: &Policy| [p.user_seniority.len(), p.object_seniority.len()];
+    assert!(some(&|p| lines(p) == [36, 36]));
+    let high = |entry: &(u32, u32)| (256..512).contains(&entry.1);
+    assert!(some(&|p| p.users.iter().any(high)));
+    assert!(some(&|p| p.objects.iter().any(high)));
+}
+
+/// Labels and tuples that other forms have no room for, and requests by them.
+#[test]
+fn answers_that_only_form_3_has_come_up() {
     let lines = case_lines();
     let last = |tag| {
         let found = lines.iter().filter_map(|line| numbers(line, tag));
         let done = found.filter(|numbers| numbers[0] == 0);
         done.filter_map(|numbers| numbers.last().copied()).max()
     };
-    assert_eq!(
-        (last('v'), last('p'), last('t')),
-        (Some(511), Some(511), Some(262_143))
-    );
-    // Requests of sessions with such sets.
+    assert_eq!(['v', 'p', 't'].map(last), [511, 511, 262_143].map(Some));
     let lists = lines.iter().filter_map(|line| numbers(line, 'X'));
-    let wide = lists.filter(|list| {
+    let high = |(call, answer): &(&[u32], u32)| call[0] == 0 && call[3] > 255 && *answer == 2;
+    let granted = |(call, answer): &(&[u32], u32)| call[0] == 4 && *answer == 1;
+    let both = lists.filter(|list| {
         let calls = answered(list);
-        let opened = calls
-            .iter()
-            .any(|(call, done)| call[0] == 0 && call[3] > 255 && *done == 2);
-        opened
-            && calls
-                .iter()
-                .any(|(call, answer)| call[0] == 4 && *answer == 1)
+        calls.iter().any(high) && calls.iter().any(granted)
     });
-    assert!(wide.count() > 3);
+    assert!(both.count() > 3);
 }
 
 /// Texts that only a later form would read, and forms that there are not.
