@@ -10,23 +10,26 @@
 //! close,user,session
 //! request,session,action,object
 //! list,action,room           into a buffer of room entries
+//! list_16, list_32           with the same fields, made for these bits of a tuple,
+//!                            whatever the card's
 //! write,room                 into a buffer of room bytes
 //! compile,room,room,room     user labels, object labels and table
 //! compile_8_8, request_8_8   with the same fields, made for these bits of a label
 //! compile_8_16, request_8_16 and of an entry of the table, whatever the card's
+//! compile_16_16, request_16_16
 //! board,session,user,set     no call: the board is handed in with this session
 //! ```
 //!
 //! An answer is `done`, `granted`, `denied` or `refused,N`. The first call gets
 //! a fresh board, each later one the board after the call before it.
 
-use crate::form::{Widths, WIDTHS};
+use crate::form::{Widths, TUPLE_BITS, WIDTHS};
 use crate::formula::{decide, reach};
 use crate::labels::compile_for;
 use crate::machine::{step_for, Answer, Call, Sessions};
 use crate::policy::{Policy, Refusal, Set};
 use crate::text::{read, write};
-use crate::tuples::tuples;
+use crate::tuples::tuples_for;
 
 #[derive(Debug, Clone, Copy, PartialEq, Eq)]
 pub enum CardCall {
@@ -42,7 +45,9 @@ pub enum CardCall {
         widths: Widths,
         request: Call,
     },
+    /// The bits of a tuple that it is made for: the card's own if not given.
     List {
+        bits: Option<u32>,
         action: u32,
         room: usize,
     },
@@ -94,54 +99,86 @@ fn answer(field: &str) -> Option<Answer> {
     }
 }
 
-/// A kind of call with the widths in its name, if it has them.
-fn kind_and_widths(name: &str) -> (&str, Option<Widths>) {
-    for widths in WIDTHS {
-        let ending = format!("_{}_{}", widths.label, widths.entry);
+/// What a call's name says that it is made for.
+#[derive(Clone, Copy)]
+enum MadeFor {
+    /// What the card's form has.
+    Own,
+    Widths(Widths),
+    TupleBits(u32),
+}
+
+/// A kind of call, and what its name says that it is made for.
+fn kind_and_made_for(name: &str) -> (&str, MadeFor) {
+    let widths = WIDTHS.map(|w| (format!("_{}_{}", w.label, w.entry), MadeFor::Widths(w)));
+    let tuples = TUPLE_BITS.map(|bits| (format!("_{bits}"), MadeFor::TupleBits(bits)));
+    for (ending, made_for) in widths.into_iter().chain(tuples) {
         if let Some(kind) = name.strip_suffix(&ending) {
-            return (kind, Some(widths));
+            return (kind, made_for);
         }
     }
-    (name, None)
+    (name, MadeFor::Own)
 }
 
 fn call(field: &str) -> Option<CardCall> {
     let (name, numbers) = field.split_once(',')?;
-    let (kind, widths) = kind_and_widths(name);
     let numbers: Vec<u32> = numbers
         .split(',')
         .map(|number| number.parse().ok())
         .collect::<Option<_>>()?;
-    let call = match (kind, widths, &numbers[..]) {
-        ("decide", None, &[action, user_set, object_set]) => CardCall::Decide {
+    match kind_and_made_for(name) {
+        (kind, MadeFor::Own) => own_call(kind, &numbers),
+        ("list", MadeFor::TupleBits(bits)) => listing(Some(bits), &numbers),
+        ("compile", MadeFor::Widths(widths)) => compiling(Some(widths), &numbers),
+        ("request", MadeFor::Widths(widths)) => Some(CardCall::RequestFor {
+            widths,
+            request: session_call("request", &numbers)?,
+        }),
+        _ => None,
+    }
+}
+
+/// A call that is made for the card's own form.
+fn own_call(kind: &str, numbers: &[u32]) -> Option<CardCall> {
+    match (kind, numbers) {
+        ("decide", &[action, user_set, object_set]) => Some(CardCall::Decide {
             action,
             user_set,
             object_set,
-        },
-        ("list", None, &[action, room]) => CardCall::List {
-            action,
+        }),
+        ("list", numbers) => listing(None, numbers),
+        ("write", &[room]) => Some(CardCall::Write {
             room: room as usize,
-        },
-        ("write", None, &[room]) => CardCall::Write {
-            room: room as usize,
-        },
-        ("compile", widths, &[users, objects, table]) => CardCall::Compile {
-            widths,
-            rooms: [users, objects, table].map(|room| room as usize),
-        },
-        ("board", None, &[session, user, held]) => CardCall::Board {
+        }),
+        ("compile", numbers) => compiling(None, numbers),
+        ("board", &[session, user, held]) => Some(CardCall::Board {
             session,
             user,
             held,
-        },
-        ("request", Some(widths), numbers) => CardCall::RequestFor {
+        }),
+        (kind, numbers) => Some(CardCall::Session(session_call(kind, numbers)?)),
+    }
+}
+
+fn listing(bits: Option<u32>, numbers: &[u32]) -> Option<CardCall> {
+    match *numbers {
+        [action, room] => Some(CardCall::List {
+            bits,
+            action,
+            room: room as usize,
+        }),
+        _ => None,
+    }
+}
+
+fn compiling(widths: Option<Widths>, numbers: &[u32]) -> Option<CardCall> {
+    match *numbers {
+        [users, objects, table] => Some(CardCall::Compile {
             widths,
-            request: session_call(kind, numbers)?,
-        },
-        (kind, None, numbers) => CardCall::Session(session_call(kind, numbers)?),
-        _ => return None,
-    };
-    Some(call)
+            rooms: [users, objects, table].map(|room| room as usize),
+        }),
+        _ => None,
+    }
 }
 
 fn session_call(kind: &str, numbers: &[u32]) -> Option<Call> {
@@ -200,8 +237,9 @@ impl Player {
                 Ok(false) => Answer::Denied,
                 Err(refusal) => Answer::Refused(refusal),
             },
-            (CardCall::List { action, room }, Some(policy)) => {
-                done(tuples(policy, action).and_then(|listing| fits(listing.len(), room)))
+            (CardCall::List { bits, action, room }, Some(policy)) => {
+                let listing = tuples_for(policy, bits.unwrap_or(policy.form.tuple_bits), action);
+                done(listing.and_then(|listing| fits(listing.len(), room)))
             }
             (CardCall::Write { room }, Some(policy)) => done(fits(write(policy).len(), room)),
             (CardCall::Compile { widths, rooms }, Some(policy)) => {
@@ -263,6 +301,7 @@ fn sound(policy: &Policy, sessions: &Sessions) -> bool {
 #[cfg(test)]
 mod tests {
     use super::*;
+    use crate::form::FORMS;
 
     #[test]
     fn a_line_is_a_call_its_answer_and_words() {
@@ -298,37 +337,39 @@ mod tests {
         assert_eq!(answers, [done, Answer::Refused(11), done, done]);
     }
 
+    /// The answers due to a kind of call: one for the card's own, one for others.
+    fn made_for(call: &str, own: bool, due: &str) -> String {
+        match own {
+            true => format!("{call} {due}\n"),
+            false => format!("{call} refused,11\n"),
+        }
+    }
+
     #[test]
-    fn compile_and_request_may_be_made_for_other_widths() {
-        let card = |form| {
-            format!("policy,{form}\nuattr,1\noattr,1\nuser,0,1\nobject,0,1\nrule,0,u0\nend\n")
-        };
-        let lines = [
-            "open,0,0,1 done",
-            "compile,2,2,2 done",
-            "request,0,0,0 granted",
-            "compile_8_8,2,2,2 done",
-            "compile_8_8,2,2,1 refused,20",
-            "request_8_8,0,0,0 granted",
-            "compile_8_16,2,2,2 refused,11",
-            "compile_8_16,2,2,1 refused,11",
-            "request_8_16,0,0,0 refused,11",
-            "request_8_16,9,99,9 refused,11",
-            "close,0,0 done",
-        ];
-        let calls = call_file(&format!("card,a.txt\n{}\n", lines.join("\n")));
-        let swapped = lines
-            .join("\n")
-            .replace("_8_8", "_8_x")
-            .replace("_8_16", "_8_8");
-        let swapped = call_file(&format!(
-            "card,a.txt\n{}\n",
-            swapped.replace("_8_x", "_8_16")
-        ));
-        for (form, file) in [(1, calls), (2, swapped)] {
-            let mut player = Player::new(card(form).as_bytes());
+    fn compile_request_and_list_may_be_made_for_other_forms() {
+        for form in FORMS {
+            let number = form.number;
+            let card = format!("policy,{number}\nuattr,1\noattr,1\nuser,0,1\nobject,0,1\n");
+            let mut player = Player::new(format!("{card}rule,0,u0\nend\n").as_bytes());
+            let mut lines = "open,0,0,1 done\ncompile,2,2,2 done\n".to_string();
+            lines += "request,0,0,0 granted\nlist,0,2 done\nlist,0,1 refused,20\n";
+            for widths in WIDTHS {
+                let name = format!("{}_{}", widths.label, widths.entry);
+                let own = widths == form.widths;
+                lines += &made_for(&format!("compile_{name},2,2,2"), own, "done");
+                lines += &made_for(&format!("compile_{name},2,2,1"), own, "refused,20");
+                lines += &made_for(&format!("request_{name},0,0,0"), own, "granted");
+                lines += &made_for(&format!("request_{name},9,99,9"), own, "refused,12");
+            }
+            for bits in TUPLE_BITS {
+                let own = bits == form.tuple_bits;
+                lines += &made_for(&format!("list_{bits},0,2"), own, "done");
+                lines += &made_for(&format!("list_{bits},0,1"), own, "refused,20");
+                lines += &made_for(&format!("list_{bits},99,1"), own, "refused,12");
+            }
+            let file = call_file(&format!("card,a.txt\n{lines}close,0,0 done\n"));
             for (call, answer) in file.expect("calls").calls {
-                assert_eq!(player.answer(call), answer, "{form}: {call:?}");
+                assert_eq!(player.answer(call), answer, "{number}: {call:?}");
             }
         }
     }
@@ -337,7 +378,13 @@ mod tests {
     fn what_is_no_call_or_no_answer_is_no_file() {
         for line in [
             "open_8_8,0,0,1 done",
+            "open_16,0,0,1 done",
             "list_8_16,0,1 done",
+            "list_8,0,1 done",
+            "list_32,0 done",
+            "compile_16,1,1,1 done",
+            "request_32,0,0,0 done",
+            "decide_16,0,0,0 denied",
             "compile_8,1,1,1 done",
             "compile_16_8,1,1,1 done",
             "request_8_8,0,0 done",

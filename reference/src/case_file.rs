@@ -23,13 +23,19 @@
 //!                             these lengths: the user labels, the object
 //!                             labels or the table
 //! U, O, G                     the same for a table of 16-bit entries
+//! v, p, h                     the same for labels of 16 bits and such a table
 //! T,answer,count,action,room,first,last,..
-//!                             listing into a buffer of room entries: the count
-//!                             of tuples, and the tuples as runs of numbers
+//!                             listing tuples of 16 bits into a buffer of room
+//!                             entries: the count of tuples, and the tuples as
+//!                             runs of numbers
+//! t                           the same for tuples of 32 bits
 //! F,answer,0,action,us,os     deciding by formula and pairs
 //! B,answer,0,action,us,os,count
-//!                             deciding by tuples; the listing handed in is the
-//!                             action's, in a buffer of 16384 entries
+//!                             deciding by tuples of 16 bits; the listing handed
+//!                             in is the action's, in a buffer of 16384 entries
+//! b,answer,0,action,us,os,count,room
+//!                             the same for tuples of 32 bits, in a buffer of
+//!                             room entries
 //! P,answer,0,us,us            apart, for two user sets
 //! D,answer,0,us,us,action,os  whether this action and object set tell two user
 //!                             sets apart, as what apart names must
@@ -40,6 +46,7 @@
 //!                             how many are answered; the answers; and all
 //!                             sessions that are open afterwards, rising
 //! Z                           the same for a table of 16-bit entries
+//! X                           the same for labels of 16 bits and such a table
 //! ```
 //!
 //! An answer is 0 done, 1 granted, 2 denied, 3 alike, 4 told apart, or the
@@ -47,19 +54,24 @@
 //! with user, session and set; 3 close with user, session and 0; 4 request with
 //! session, action and object. There an answer is 0 denied, 1 granted, 2 done,
 //! or the refusal, 11 to 20 or 23. Buffers are blank before a call: byte 170,
-//! 16-bit entry 65535. A refused call leaves its buffers as they were, and one that
-//! is done leaves what lies past its result. Where a call is refused, its count is
-//! 0. Compiling for widths that are not the form's is refused, so the buffers of a
-//! list made for them are blank.
+//! 16 bits 65535, 32 bits 4294967295. A refused call leaves its buffers as they were,
+//! and one that is done leaves what lies past its result. Where a call is refused, its
+//! count is 0. Compiling and listing for widths that are not the form's are refused, so
+//! the buffers of a list of calls made for them, and the listing of a decision, are
+//! blank.
+//!
+//! Buffers are as long as the numbers of a line say. Those of labels have at most 128
+//! bytes or 512 labels of 16 bits, and others at most 16384 entries, but where a result
+//! needs more.
 
 use crate::cases::{self, Rng};
-use crate::form::{Widths, WIDTHS, WIDTHS_8_8};
+use crate::form::{Widths, TUPLE_BITS, WIDTHS_16_16, WIDTHS_8_16, WIDTHS_8_8};
 use crate::formula::decide;
 use crate::labels::{apart, compile, Entry, Labelling};
 use crate::machine::{run, run_for, step, Answer, Call, Sessions};
 use crate::policy::{Policy, Refusal, Set};
 use crate::text::{read, write};
-use crate::tuples::{decide_by_tuples, tuples, Stored};
+use crate::tuples::{decide_by_tuples, decide_by_tuples_for, tuples, tuples_for, Stored};
 
 /// Decisions of each sort in an accepted case.
 const DECISIONS: u32 = 6;
@@ -68,12 +80,10 @@ const MOST_CALLS: u32 = 40;
 const SHORT_REQUESTS: u32 = 3;
 /// Calls in a list made for other widths than the form's.
 const MOST_OTHER_CALLS: u32 = 8;
-/// Buffers that are long enough for any policy.
+/// A buffer that is long enough for any text.
 const MOST_TEXT: usize = 8192;
-const MOST_SETS: usize = 128;
+/// Buffers that are long enough for the tuples and tables of most policies.
 const MOST_ENTRIES: usize = 16384;
-/// What stands in a listing's buffer before a call.
-const BLANK_TUPLE: Stored = 65_535;
 /// Refused by check 11, on what a refused text yields.
 pub(crate) const WITHOUT_POLICY: [&str; 9] = [
     "W,11,0,8192,0",
@@ -94,11 +104,38 @@ pub(crate) const WITHOUT_POLICY_16: [&str; 4] = [
     "Z,0,2,0,0,128,128,16384,2,0,0,0,0,4,0,0,0,11,11",
 ];
 
+/// The same by calls made for labels of 16 bits, and tuples of 32.
+pub(crate) const WITHOUT_POLICY_WIDE: [&str; 6] = [
+    "v,11,0,512,512,16384",
+    "p,11,0,512,512,16384",
+    "h,11,0,512,512,16384",
+    "t,11,0,0,16384",
+    "b,11,0,0,0,0,0,16384",
+    "X,0,2,0,0,512,512,16384,2,0,0,0,0,4,0,0,0,11,11",
+];
+
 /// The tags of user labels, object labels, table and list, made for these widths.
-fn tags(widths: Widths) -> [char; 4] {
+pub(crate) fn tags(widths: Widths) -> [char; 4] {
     match widths {
         WIDTHS_8_8 => ['u', 'o', 'g', 'S'],
-        _ => ['U', 'O', 'G', 'Z'],
+        WIDTHS_8_16 => ['U', 'O', 'G', 'Z'],
+        _ => ['v', 'p', 'h', 'X'],
+    }
+}
+
+/// The tags of listing and of deciding by tuples, made for tuples of these bits.
+pub(crate) fn tuple_tags(bits: u32) -> [char; 2] {
+    match bits {
+        16 => ['T', 'B'],
+        _ => ['t', 'b'],
+    }
+}
+
+/// Label buffers that are long enough for any policy with labels of these widths.
+fn most_sets(widths: Widths) -> usize {
+    match widths.label {
+        8 => 128,
+        _ => 512,
     }
 }
 
@@ -110,6 +147,14 @@ fn blank(widths: Widths) -> Entry {
     }
 }
 
+/// What stands in a listing's buffer before a call.
+fn blank_tuple(bits: u32) -> Stored {
+    match bits {
+        16 => 65_535,
+        _ => Stored::MAX,
+    }
+}
+
 /// A made case. No number handed to a call is above `largest`.
 pub fn made(seed: u64, case: u64, largest: u32) -> Vec<u8> {
     let mut rng = Rng::new(seed, case);
@@ -117,18 +162,41 @@ pub fn made(seed: u64, case: u64, largest: u32) -> Vec<u8> {
     answered_for_all_widths(&mut rng, case, &text, largest)
 }
 
+/// Puts in lines of calls made for other widths than the form's.
+type OtherLines = fn(&mut String, &mut Rng, &[u8], u32);
+
 /// A case of a text, with what is due to it and to calls on it, made for the widths
 /// of its form.
 pub fn answered(rng: &mut Rng, case: u64, text: &[u8], largest: u32) -> Vec<u8> {
-    case_of(case, text, &lines_of(rng, text, largest))
+    answered_with(&[], rng, case, text, largest)
 }
 
-/// The same, and now and then calls made for other widths, from a stream of their
-/// own.
+/// The same, and now and then calls made for other widths with labels in bytes.
+pub fn answered_for_byte_labels(rng: &mut Rng, case: u64, text: &[u8], largest: u32) -> Vec<u8> {
+    answered_with(&[other_lines], rng, case, text, largest)
+}
+
+/// The same, and now and then calls made for other widths, whatever they are.
 pub fn answered_for_all_widths(rng: &mut Rng, case: u64, text: &[u8], largest: u32) -> Vec<u8> {
-    let mut others = rng.branch(0);
+    answered_with(&[other_lines, other_wide_lines], rng, case, text, largest)
+}
+
+/// Lines made for other widths have streams of their own and stand behind all others.
+fn answered_with(
+    others: &[OtherLines],
+    rng: &mut Rng,
+    case: u64,
+    text: &[u8],
+    largest: u32,
+) -> Vec<u8> {
+    let numbered = (0..).zip(others);
+    let streams: Vec<_> = numbered
+        .map(|(stream, put)| (put, rng.branch(stream)))
+        .collect();
     let mut out = lines_of(rng, text, largest);
-    other_lines(&mut out, &mut others, text, largest);
+    for (put, mut stream) in streams {
+        put(&mut out, &mut stream, text, largest);
+    }
     case_of(case, text, &out)
 }
 
@@ -221,6 +289,7 @@ fn short(rng: &mut Rng, length: usize) -> usize {
 
 /// A length that is enough, most often just so.
 fn enough(rng: &mut Rng, length: usize, most: usize) -> usize {
+    let most = most.max(length);
     match rng.below(4) {
         0 => most,
         1 => length + rng.index(most - length + 1),
@@ -232,10 +301,11 @@ fn label_lines(out: &mut String, rng: &mut Rng, policy: &Policy, labelling: &Lab
     let users = policy.user_sets() as usize;
     let objects = policy.object_sets() as usize;
     let places = labelling.table.len();
+    let most_sets = most_sets(labelling.widths);
     let rooms = |rng: &mut Rng| {
         [
-            enough(rng, users, MOST_SETS),
-            enough(rng, objects, MOST_SETS),
+            enough(rng, users, most_sets),
+            enough(rng, objects, most_sets),
             enough(rng, places, MOST_ENTRIES),
         ]
     };
@@ -273,19 +343,20 @@ fn refused_compile(widths: Widths, refusal: Refusal, rooms: [usize; 3]) -> [Stri
 }
 
 fn tuple_lines(out: &mut String, rng: &mut Rng, policy: &Policy) -> Vec<Vec<Stored>> {
+    let [tag, _] = tuple_tags(policy.form.tuple_bits);
     let past = policy.actions() + rng.below(3);
-    line(out, format!("T,12,0,{past},16384"));
+    line(out, format!("{tag},12,0,{past},{MOST_ENTRIES}"));
     let mut listings = Vec::new();
     for action in 0..policy.actions() {
         let listing = tuples(policy, action).expect("an action");
         let count = listing.len();
         if count > 0 && rng.chance(1, 4) {
-            line(out, format!("T,20,0,{action},{}", short(rng, count)));
+            line(out, format!("{tag},20,0,{action},{}", short(rng, count)));
         }
         let room = enough(rng, count, MOST_ENTRIES);
         line(
             out,
-            format!("T,0,{count},{action},{room}{}", runs(&listing)),
+            format!("{tag},0,{count},{action},{room}{}", runs(&listing)),
         );
         listings.push(listing);
     }
@@ -319,13 +390,8 @@ fn decision_lines(
         line(out, format!("F,{answer},0,{action},{us},{os}"));
     }
     for _ in 0..DECISIONS {
-        let (action, listing) = rng.pick(&Vec::from_iter(listings.iter().enumerate()));
-        let (us, os) = sets(rng, policy, largest);
-        let count = listing_count(rng, listing.len() as u32, largest);
-        let mut buffer = listing.clone();
-        buffer.resize(MOST_ENTRIES, BLANK_TUPLE);
-        let answer = decision(decide_by_tuples(policy, us, os, &buffer, count as usize));
-        line(out, format!("B,{answer},0,{action},{us},{os},{count}"));
+        let action = rng.index(listings.len());
+        tuple_decision_line(out, rng, policy, action as u32, &listings[action], largest);
     }
     for _ in 0..DECISIONS {
         let one = cases::set(rng, policy.user_sets(), largest);
@@ -335,6 +401,33 @@ fn decision_lines(
     }
 }
 
+/// Deciding by the tuples of an action.
+fn tuple_decision_line(
+    out: &mut String,
+    rng: &mut Rng,
+    policy: &Policy,
+    action: u32,
+    listing: &[Stored],
+    largest: u32,
+) {
+    let bits = policy.form.tuple_bits;
+    let [_, tag] = tuple_tags(bits);
+    let (us, os) = sets(rng, policy, largest);
+    let (room, room_field) = match bits {
+        16 => (MOST_ENTRIES, String::new()),
+        _ => {
+            let room = enough(rng, listing.len(), MOST_ENTRIES);
+            (room, fields([room]))
+        }
+    };
+    let count = listing_count(rng, listing.len() as u32, room as u32, largest);
+    let mut buffer = listing.to_vec();
+    buffer.resize(room, blank_tuple(bits));
+    let answer = decision(decide_by_tuples(policy, us, os, &buffer, count as usize));
+    let asked = format!("{action},{us},{os},{count}{room_field}");
+    line(out, format!("{tag},{answer},0,{asked}"));
+}
+
 /// A user set and an object set, mostly in range.
 fn sets(rng: &mut Rng, policy: &Policy, largest: u32) -> (Set, Set) {
     let user_set = cases::set(rng, policy.user_sets(), largest);
@@ -342,12 +435,12 @@ fn sets(rng: &mut Rng, policy: &Policy, largest: u32) -> (Set, Set) {
     (user_set, object_set)
 }
 
-/// Mostly the length of the listing, else half of it or more, up to too much.
-fn listing_count(rng: &mut Rng, length: u32, largest: u32) -> u32 {
+/// Mostly the length of the listing, else half of it or more, up to more than its buffer's.
+fn listing_count(rng: &mut Rng, length: u32, room: u32, largest: u32) -> u32 {
     let count = match rng.below(10) {
         0 => length / 2,
         1 => length + 1,
-        2 => MOST_ENTRIES as u32 + 1,
+        2 => room + 1,
         3 => largest,
         _ => length,
     };
@@ -393,9 +486,15 @@ impl Lent {
         Lent {
             widths: labelling.widths,
             counts: [labelling.user_count, labelling.object_count],
-            rooms: [MOST_SETS, MOST_SETS, MOST_ENTRIES],
+            rooms: lengths(labelling.widths, labelling.table.len()),
         }
     }
+}
+
+/// The lengths of long buffers for user labels, object labels and table, in these widths.
+fn lengths(widths: Widths, table: usize) -> [usize; 3] {
+    let sets = most_sets(widths);
+    [sets, sets, MOST_ENTRIES.max(table)]
 }
 
 /// A list of calls with their answers and the sessions that are open afterwards.
@@ -524,8 +623,8 @@ fn looked_up(labelling: &Labelling, lent: &Lent, places: [usize; 3], action: u32
     u32::from(entry >> action & 1)
 }
 
-/// Now and then: calls made for other widths than the form's, and actions at the
-/// limits of all forms.
+/// Now and then: calls made for other widths than the form's, with labels in bytes, and
+/// actions at the limits of all forms.
 fn other_lines(out: &mut String, rng: &mut Rng, text: &[u8], largest: u32) {
     let Ok(policy) = read(text) else {
         if rng.chance(1, 3) {
@@ -533,17 +632,59 @@ fn other_lines(out: &mut String, rng: &mut Rng, text: &[u8], largest: u32) {
         }
         return;
     };
-    for widths in WIDTHS.into_iter().filter(|w| *w != policy.form.widths) {
-        if rng.chance(1, 3) {
-            other_width_lines(out, rng, &policy, widths, largest);
-        }
-    }
+    other_widths(out, rng, &policy, &[WIDTHS_8_8, WIDTHS_8_16], largest);
     if rng.chance(1, 3) {
         let action = rng.pick(&[7, 8, 15, 16]).min(largest);
         let (us, os) = sets(rng, &policy, largest);
         let answer = decision(decide(&policy, action, us, os));
         line(out, format!("F,{answer},0,{action},{us},{os}"));
     }
+}
+
+/// Now and then: calls made for labels of 16 bits, and for tuples of other bits than the
+/// form's.
+fn other_wide_lines(out: &mut String, rng: &mut Rng, text: &[u8], largest: u32) {
+    let Ok(policy) = read(text) else {
+        if rng.chance(1, 3) {
+            line(out, rng.pick(&WITHOUT_POLICY_WIDE).to_string());
+        }
+        return;
+    };
+    other_widths(out, rng, &policy, &[WIDTHS_16_16], largest);
+    let other = |bits: &u32| *bits != policy.form.tuple_bits;
+    for bits in TUPLE_BITS.into_iter().filter(other) {
+        if rng.chance(1, 3) {
+            other_tuple_lines(out, rng, &policy, bits, largest);
+        }
+    }
+}
+
+/// Now and then calls made for those of some widths that are not the form's.
+fn other_widths(out: &mut String, rng: &mut Rng, policy: &Policy, widths: &[Widths], largest: u32) {
+    let others = widths.iter().filter(|other| **other != policy.form.widths);
+    for &widths in others {
+        if rng.chance(1, 3) {
+            other_width_lines(out, rng, policy, widths, largest);
+        }
+    }
+}
+
+/// Listing, and deciding by tuples, for tuples of bits that are not the form's: with any
+/// action, sets, count and room.
+fn other_tuple_lines(out: &mut String, rng: &mut Rng, policy: &Policy, bits: u32, largest: u32) {
+    let [list, decide] = tuple_tags(bits);
+    let room = rng.pick(&[0, 4, MOST_ENTRIES]);
+    let action = cases::action(rng, policy.form, largest);
+    let listed = tuples_for(policy, bits, action).expect_err("refused");
+    line(out, format!("{list},{listed},0,{action},{room}"));
+    let (us, os) = sets(rng, policy, largest);
+    let room = if bits == 16 { MOST_ENTRIES } else { room };
+    let count = listing_count(rng, 0, room as u32, largest);
+    let buffer = vec![blank_tuple(bits); room];
+    let decided = decide_by_tuples_for(policy, bits, us, os, &buffer, count as usize);
+    let room = if bits == 16 { Vec::new() } else { vec![room] };
+    let asked = format!("{action},{us},{os},{count}{}", fields(room));
+    line(out, format!("{decide},{},0,{asked}", decision(decided)));
 }
 
 /// Compiling for widths that are not the form's, into buffers of any lengths, and a
@@ -555,7 +696,7 @@ fn other_width_lines(
     widths: Widths,
     largest: u32,
 ) {
-    let rooms = [MOST_SETS, MOST_SETS, MOST_ENTRIES].map(|most| match rng.below(3) {
+    let rooms = lengths(widths, 0).map(|most| match rng.below(3) {
         0 => rng.index(4),
         _ => most,
     });
@@ -567,7 +708,7 @@ fn other_width_lines(
     let answers: Vec<u32> = answers.into_iter().map(answer_number).collect();
     let lent = Lent {
         widths,
-        counts: [1 + rng.index(128), 1 + rng.index(128)],
+        counts: [0, 1].map(|side| 1 + rng.index(lengths(widths, 0)[side])),
         rooms,
     };
     list_line(out, &lent, &calls, &answers, &sessions);
@@ -576,6 +717,7 @@ fn other_width_lines(
 #[cfg(test)]
 mod tests {
     use super::*;
+    use crate::form::WIDTHS;
     use crate::labels::compile_for;
     use crate::machine::step_for;
     use crate::stored::all_example_cases;
@@ -602,12 +744,11 @@ mod tests {
     fn due(policy: &Policy, tag: &str, numbers: &[u32]) -> String {
         match (tag, &numbers[2..]) {
             ("W", _) => format!("W,0{}", fields([write(policy).len(); 3])),
-            ("u" | "o" | "g" | "U" | "O" | "G", rooms) => compiled(policy, tag, &rooms[..3]),
-            ("T", &[action, room, ..]) => match tuples(policy, action) {
-                Ok(listing) => format!("T,0,{},{action},{room}{}", listing.len(), runs(&listing)),
-                Err(refusal) => format!("T,{refusal},0,{action},{room}"),
-            },
-            ("S" | "Z", asked) => played(policy, tag, asked),
+            ("u" | "o" | "g" | "U" | "O" | "G" | "v" | "p" | "h", rooms) => {
+                compiled(policy, tag, &rooms[..3])
+            }
+            ("T" | "t", &[action, room, ..]) => listed(policy, tag, action, room),
+            ("S" | "Z" | "X", asked) => played(policy, tag, asked),
             (_, asked) => format!("{tag},{},0{}", decided(policy, tag, asked), fields(asked)),
         }
     }
@@ -617,6 +758,40 @@ mod tests {
         let mut all = WIDTHS.into_iter();
         let found = all.find(|&widths| tags(widths).iter().any(|&t| tag.starts_with(t)));
         found.expect("widths")
+    }
+
+    /// The bits of a tuple that a line with this tag is made for.
+    fn bits_of(tag: &str) -> u32 {
+        let mut all = TUPLE_BITS.into_iter();
+        let found = all.find(|&bits| tuple_tags(bits).iter().any(|&t| tag.starts_with(t)));
+        found.expect("bits")
+    }
+
+    fn listed(policy: &Policy, tag: &str, action: u32, room: u32) -> String {
+        let listing = tuples_for(policy, bits_of(tag), action);
+        let listing = listing.and_then(|listing| match listing.len() > room as usize {
+            true => Err(20),
+            false => Ok(listing),
+        });
+        match listing {
+            Ok(listing) => format!(
+                "{tag},0,{},{action},{room}{}",
+                listing.len(),
+                runs(&listing)
+            ),
+            Err(refusal) => format!("{tag},{refusal},0,{action},{room}"),
+        }
+    }
+
+    /// By the action's tuples in a buffer, which is blank where listing is refused.
+    fn by_tuples(policy: &Policy, tag: &str, asked: &[u32], room: usize) -> u32 {
+        let bits = bits_of(tag);
+        let mut buffer = tuples_for(policy, bits, asked[0]).unwrap_or_default();
+        buffer.resize(room, blank_tuple(bits));
+        let count = asked[3] as usize;
+        decision(decide_by_tuples_for(
+            policy, bits, asked[1], asked[2], &buffer, count,
+        ))
     }
 
     fn compiled(policy: &Policy, tag: &str, rooms: &[u32]) -> String {
@@ -634,8 +809,8 @@ mod tests {
             return format!("{tag},20,0{}", fields(rooms));
         }
         let (count, entries) = match tag {
-            "u" | "U" => (labelling.user_count, fields(labelling.user_labels)),
-            "o" | "O" => (labelling.object_count, fields(labelling.object_labels)),
+            "u" | "U" | "v" => (labelling.user_count, fields(labelling.user_labels)),
+            "o" | "O" | "p" => (labelling.object_count, fields(labelling.object_labels)),
             _ => (labelling.object_count, fields(labelling.table)),
         };
         format!("{tag},0,{count}{}{entries}", fields(rooms))
@@ -644,10 +819,8 @@ mod tests {
     fn decided(policy: &Policy, tag: &str, asked: &[u32]) -> u32 {
         match (tag, asked) {
             ("F", &[action, us, os]) => decision(decide(policy, action, us, os)),
-            ("B", &[action, us, os, count]) => {
-                let listing = tuples(policy, action).expect("listed");
-                decision(decide_by_tuples(policy, us, os, &listing, count as usize))
-            }
+            ("B", asked) => by_tuples(policy, tag, asked, MOST_ENTRIES),
+            ("b", &[.., room]) => by_tuples(policy, tag, asked, room as usize),
             ("P", &[one, other]) => separation(policy, one, other),
             ("D", &[one, other, action, os]) => {
                 let granted = |us| decide(policy, action, us, os).expect("decided");

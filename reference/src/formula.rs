@@ -1,6 +1,7 @@
 //! What words, formulas and pairs mean on a user set and an object set.
 
-use crate::policy::{first_value, Pair, Policy, Refusal, Set, Word};
+use crate::policy::{first_value, Policy, Refusal, Set, Word};
+use std::ops::Range;
 
 /// Whether a set holds a value.
 pub fn holds(set: Set, value: u32) -> bool {
@@ -16,114 +17,132 @@ pub fn is_senior(lines: &[(u32, u32)], senior: u32, junior: u32) -> bool {
         .any(|line| line.1 == junior || is_senior(lines, line.1, junior))
 }
 
-/// The values below `count` that `wanted` is true of, as a set.
-fn set_of(count: u32, wanted: impl Fn(u32) -> bool) -> Set {
-    (0..count)
-        .filter(|&value| wanted(value))
-        .map(|value| 1 << value)
-        .sum()
+/// A set and all juniors of its values. A line leads to a lower value, so that with the
+/// highest seniors first every chain is followed to its end.
+fn with_juniors(lines: &[(u32, u32)], set: Set) -> Set {
+    let mut falling = lines.to_vec();
+    falling.sort_by_key(|line| std::cmp::Reverse(line.0));
+    let below = |all, &(senior, junior): &(u32, u32)| all | u32::from(holds(all, senior)) << junior;
+    falling.iter().fold(set, below)
+}
+
+/// A set and all seniors of its values, with the lowest juniors first.
+fn with_seniors(lines: &[(u32, u32)], set: Set) -> Set {
+    let mut rising = lines.to_vec();
+    rising.sort_by_key(|line| line.1);
+    let above = |all, &(senior, junior): &(u32, u32)| all | u32::from(holds(all, junior)) << senior;
+    rising.iter().fold(set, above)
 }
 
 /// The assigned values and all juniors of them.
 pub fn reach(policy: &Policy, assigned: Set) -> Set {
-    let lines = &policy.user_seniority;
-    set_of(policy.user_values(), |value| {
-        holds(assigned, value)
-            || (0..policy.user_values()).any(|v| holds(assigned, v) && is_senior(lines, v, value))
-    })
+    with_juniors(&policy.user_seniority, assigned) % policy.user_sets()
+}
+
+/// For each set of so many values the union of what each of its values gives.
+fn unions(values: u32, given: impl Fn(Set) -> Set) -> Vec<Set> {
+    let mut unions = vec![0];
+    for value in 0..values {
+        let one = given(1 << value);
+        let with_it: Vec<Set> = unions.iter().map(|without| without | one).collect();
+        unions.extend(with_it);
+    }
+    unions
 }
 
 /// The formulas and pairs of a policy, with the chains of seniority followed once.
 pub struct Formulas<'a> {
     policy: &'a Policy,
-    /// For each user value, it and its seniors: any of them makes `uV` true, and
-    /// stands for the value's place in `d`.
-    user_holders: Vec<Set>,
-    /// For each object value, it and its juniors: any of them makes `oV` true.
-    object_holders: Vec<Set>,
+    /// For each user set, it and the juniors of its values: `uV` is true where V is among
+    /// them, and `d` where all places due are, by what is held in its attribute.
+    user_reach: Vec<Set>,
+    /// For each object set, it and the seniors of its values: `oV` is true where V is
+    /// among them.
+    object_reach: Vec<Set>,
 }
 
 impl<'a> Formulas<'a> {
     pub fn of(policy: &'a Policy) -> Self {
-        let (users, objects) = (policy.user_values(), policy.object_values());
-        let or_senior = |value, v| v == value || is_senior(&policy.user_seniority, v, value);
-        let or_junior = |value, v| v == value || is_senior(&policy.object_seniority, value, v);
+        let (users, objects) = (&policy.user_seniority, &policy.object_seniority);
         Formulas {
             policy,
-            user_holders: (0..users)
-                .map(|w| set_of(users, |v| or_senior(w, v)))
-                .collect(),
-            object_holders: (0..objects)
-                .map(|w| set_of(objects, |v| or_junior(w, v)))
-                .collect(),
+            user_reach: unions(policy.user_values(), |set| with_juniors(users, set)),
+            object_reach: unions(policy.object_values(), |set| with_seniors(objects, set)),
         }
     }
 
     /// Whether the action is granted on the two sets: by its formula or by a pair.
     pub fn grants(&self, action: u32, user_set: Set, object_set: Set) -> bool {
-        let pairs = &self.policy.pairs;
-        self.is_true(action, user_set, object_set)
-            || pairs
-                .iter()
-                .any(|pair| pair.action == action && self.meets(pair, user_set, object_set))
-    }
-
-    /// Whether the sets hold a pair's two values, as `uV` and `oW` have it.
-    fn meets(&self, pair: &Pair, user_set: Set, object_set: Set) -> bool {
-        self.pushes(&Word::User(pair.user), user_set, object_set)
-            && self.pushes(&Word::Object(pair.object), user_set, object_set)
+        self.row(action, user_set, object_set..object_set + 1)[0]
     }
 
     /// Whether the action's formula is true on the two sets.
     pub fn is_true(&self, action: u32, user_set: Set, object_set: Set) -> bool {
+        self.truths(action, user_set, object_set..object_set + 1)[0]
+    }
+
+    /// Whether the action is granted to a user set, on each of these object sets.
+    pub fn row(&self, action: u32, user_set: Set, object_sets: Range<Set>) -> Vec<bool> {
+        let mut row = self.truths(action, user_set, object_sets.clone());
+        let pairs = self.policy.pairs.iter();
+        for pair in pairs.filter(|pair| pair.action == action) {
+            if holds(self.user_reach[user_set as usize], pair.user) {
+                let objects = self.pushes(&Word::Object(pair.object), user_set, &object_sets);
+                row = joined(row, objects, |granted, by_pair| granted | by_pair);
+            }
+        }
+        row
+    }
+
+    /// Whether the action's formula is true on a user set and each of these object sets.
+    fn truths(&self, action: u32, user_set: Set, object_sets: Range<Set>) -> Vec<bool> {
         let mut stack = Vec::new();
         for word in self.policy.formula(action) {
-            let truth = match *word {
-                Word::Not => !pop(&mut stack),
-                // Both are popped before they are joined: `&&` alone might skip one.
-                Word::And => {
-                    let (top, next) = (pop(&mut stack), pop(&mut stack));
-                    top && next
-                }
-                Word::Or => {
-                    let (top, next) = (pop(&mut stack), pop(&mut stack));
-                    top || next
-                }
-                _ => self.pushes(word, user_set, object_set),
+            let truths = match *word {
+                Word::Not => pop(&mut stack).into_iter().map(|truth| !truth).collect(),
+                Word::And => joined(pop(&mut stack), pop(&mut stack), |top, next| top & next),
+                Word::Or => joined(pop(&mut stack), pop(&mut stack), |top, next| top | next),
+                _ => self.pushes(word, user_set, &object_sets),
             };
-            stack.push(truth);
+            stack.push(truths);
         }
         pop(&mut stack)
     }
 
-    /// The truth value that a word other than a connective pushes.
-    fn pushes(&self, word: &Word, user_set: Set, object_set: Set) -> bool {
+    /// The truth values that a word other than a connective pushes.
+    fn pushes(&self, word: &Word, user_set: Set, object_sets: &Range<Set>) -> Vec<bool> {
+        let reach = self.user_reach[user_set as usize];
+        let on_all = |truth| vec![truth; object_sets.len()];
         match *word {
-            Word::True => true,
-            Word::User(value) => user_set & self.user_holders[value as usize] != 0,
-            Word::Object(value) => object_set & self.object_holders[value as usize] != 0,
-            Word::Within(i, j) => {
-                let held = places(&self.policy.user_widths, i, user_set);
-                let due = places(&self.policy.object_widths, j, object_set);
-                self.equal_width(i, j) && self.covers(i, held, due)
+            Word::True => on_all(true),
+            Word::User(value) => on_all(holds(reach, value)),
+            Word::Object(value) => {
+                let (start, end) = (object_sets.start as usize, object_sets.end as usize);
+                let reaches = self.object_reach[start..end].iter();
+                reaches.map(|&reach| holds(reach, value)).collect()
             }
-            Word::Same(i, j) => {
-                let held = places(&self.policy.user_widths, i, user_set);
-                let due = places(&self.policy.object_widths, j, object_set);
-                self.equal_width(i, j) && due == held
+            Word::Within(i, j) if self.equal_width(i, j) => {
+                let (own, due) = self.places_compared(i, j);
+                // Only seniors in I count, so what is held elsewhere is left out.
+                let held = user_set & own.all();
+                let covered = own.of(self.user_reach[held as usize]);
+                let sets = object_sets.clone();
+                sets.map(|set| due.of(set) & !covered == 0).collect()
             }
-            _ => false,
+            Word::Same(i, j) if self.equal_width(i, j) => {
+                let (own, due) = self.places_compared(i, j);
+                let held = own.of(user_set);
+                let sets = object_sets.clone();
+                sets.map(|set| due.of(set) == held).collect()
+            }
+            _ => on_all(false),
         }
     }
 
-    /// Whether each place due is held in user attribute I, or has a senior in I
-    /// that is held.
-    fn covers(&self, i: u32, held: Set, due: Set) -> bool {
-        let width = self.policy.user_widths[i as usize];
-        let first = first_value(&self.policy.user_widths, i);
-        (0..width)
-            .filter(|&place| holds(due, place))
-            .all(|place| (held << first) & self.user_holders[(first + place) as usize] != 0)
+    /// The places of user attribute I and those of object attribute J.
+    fn places_compared(&self, i: u32, j: u32) -> (Places, Places) {
+        let users = places(&self.policy.user_widths, i);
+        (users, places(&self.policy.object_widths, j))
     }
 
     fn equal_width(&self, i: u32, j: u32) -> bool {
@@ -132,14 +151,39 @@ impl<'a> Formulas<'a> {
 }
 
 /// The reader saw to it that no word finds the stack too short.
-fn pop(stack: &mut Vec<bool>) -> bool {
-    stack.pop().expect("a truth value")
+fn pop(stack: &mut Vec<Vec<bool>>) -> Vec<bool> {
+    stack.pop().expect("truth values")
 }
 
-/// The places of an attribute that a set holds, counted from its first value.
-fn places(widths: &[u32], attribute: u32, set: Set) -> Set {
-    let width = widths[attribute as usize];
-    (set >> first_value(widths, attribute)) % (1 << width)
+/// Truth values joined one by one.
+fn joined(one: Vec<bool>, other: Vec<bool>, join: fn(bool, bool) -> bool) -> Vec<bool> {
+    let both = one.into_iter().zip(other);
+    both.map(|(one, other)| join(one, other)).collect()
+}
+
+/// The places of an attribute among the values of its side.
+struct Places {
+    first: u32,
+    width: u32,
+}
+
+fn places(widths: &[u32], attribute: u32) -> Places {
+    Places {
+        first: first_value(widths, attribute),
+        width: widths[attribute as usize],
+    }
+}
+
+impl Places {
+    /// All values of the attribute.
+    fn all(&self) -> Set {
+        ((1 << self.width) - 1) << self.first
+    }
+
+    /// Those that a set holds, counted from the attribute's first value.
+    fn of(&self, set: Set) -> Set {
+        (set >> self.first) % (1 << self.width)
+    }
 }
 
 /// Decide by formula and pairs on two given sets; refusals 12 and 19.
@@ -178,6 +222,27 @@ mod tests {
         let lines = [(1, 0), (2, 1), (4, 3)];
         assert!(is_senior(&lines, 1, 0) && is_senior(&lines, 2, 0) && is_senior(&lines, 4, 3));
         assert!(!is_senior(&lines, 0, 0) && !is_senior(&lines, 0, 2) && !is_senior(&lines, 4, 0));
+    }
+
+    /// Of each set of seven values with some lines, by each chain.
+    #[test]
+    fn juniors_and_seniors_of_a_set_are_by_chains() {
+        let all = (0..7).flat_map(|senior| (0..senior).map(move |junior| (senior, junior)));
+        let all: Vec<(u32, u32)> = all.collect();
+        for step in 1..8 {
+            let lines: Vec<_> = all.iter().copied().step_by(step).collect();
+            for set in 0..128 {
+                for value in 0..7 {
+                    let by_chain = |leads: &dyn Fn(u32) -> bool| {
+                        holds(set, value) || (0..7).any(|held| holds(set, held) && leads(held))
+                    };
+                    let junior = by_chain(&|held| is_senior(&lines, held, value));
+                    assert_eq!(holds(with_juniors(&lines, set), value), junior);
+                    let senior = by_chain(&|held| is_senior(&lines, value, held));
+                    assert_eq!(holds(with_seniors(&lines, set), value), senior);
+                }
+            }
+        }
     }
 
     #[test]
@@ -304,15 +369,34 @@ mod tests {
     }
 
     #[test]
-    fn form_2_has_actions_up_to_15() {
-        let text = b"policy,2\nuattr,1\noattr,1\nrule,8,u0\nrule,15,t\npair,12,0,0\nend\n";
-        let policy = read(text).expect("accepted");
-        assert_eq!(decide(&policy, 8, 1, 0), Ok(true));
-        assert_eq!(decide(&policy, 8, 0, 0), Ok(false));
-        assert_eq!(decide(&policy, 12, 1, 1), Ok(true));
-        assert_eq!(decide(&policy, 12, 1, 0), Ok(false));
-        assert_eq!(decide(&policy, 15, 0, 0), Ok(true));
-        assert_eq!(decide(&policy, 15, 2, 0), Err(19));
-        assert_eq!(decide(&policy, 16, 2, 0), Err(12));
+    fn forms_2_and_3_have_actions_up_to_15() {
+        for form in [2, 3] {
+            let lines = "uattr,1\noattr,1\nrule,8,u0\nrule,15,t\npair,12,0,0\nend\n";
+            let policy = read(format!("policy,{form}\n{lines}").as_bytes()).expect("accepted");
+            assert_eq!(decide(&policy, 8, 1, 0), Ok(true));
+            assert_eq!(decide(&policy, 8, 0, 0), Ok(false));
+            assert_eq!(decide(&policy, 12, 1, 1), Ok(true));
+            assert_eq!(decide(&policy, 12, 1, 0), Ok(false));
+            assert_eq!(decide(&policy, 15, 0, 0), Ok(true));
+            assert_eq!(decide(&policy, 15, 2, 0), Err(19));
+            assert_eq!(decide(&policy, 16, 2, 0), Err(12));
+        }
+    }
+
+    /// By the highest of nine values: held, by seniority, in comparisons and in a pair.
+    #[test]
+    fn the_highest_values_of_form_3_decide() {
+        let head = "policy,3\nuattr,1\nuattr,8\noattr,8\noattr,1\nusen,8,1\nosen,7,0\n";
+        let rules = "rule,0,u1\nrule,1,o7\nrule,2,d10\nrule,3,q10\npair,4,8,8\n";
+        let policy = read(format!("{head}{rules}end\n").as_bytes()).expect("accepted");
+        let granted = |action, us, os| decide(&policy, action, us, os).expect("decided");
+        assert!(granted(0, 256, 0) && granted(0, 2, 0) && !granted(0, 253, 0));
+        assert!(granted(1, 0, 1) && granted(1, 0, 128) && !granted(1, 0, 382));
+        // Value 8 covers value 1, which is place 0 of its attribute.
+        assert!(granted(2, 256, 129) && granted(2, 511, 255) && !granted(2, 255, 128));
+        assert!(granted(3, 258, 385) && !granted(3, 256, 129) && granted(3, 1, 256));
+        assert!(granted(4, 256, 256) && !granted(4, 255, 511) && !granted(4, 511, 255));
+        assert_eq!(decide(&policy, 4, 512, 0), Err(19));
+        assert_eq!(decide(&policy, 4, 0, 512), Err(19));
     }
 }

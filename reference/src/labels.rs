@@ -4,6 +4,9 @@ use crate::form::Widths;
 use crate::formula::Formulas;
 use crate::policy::{Policy, Refusal, Set};
 
+/// A label, wide enough for every form.
+pub type Label = u16;
+
 /// An entry of a table, wide enough for every form.
 pub type Entry = u16;
 
@@ -12,8 +15,8 @@ pub type Entry = u16;
 pub struct Labelling {
     /// The bits in which labels and entries are stored.
     pub widths: Widths,
-    pub user_labels: Vec<u8>,
-    pub object_labels: Vec<u8>,
+    pub user_labels: Vec<Label>,
+    pub object_labels: Vec<Label>,
     /// NU: how many user labels are used.
     pub user_count: usize,
     /// NO: how many object labels are used.
@@ -25,19 +28,17 @@ pub struct Labelling {
 /// A row for each user set with an entry for each object set, bit a for action a.
 pub fn grants(policy: &Policy) -> Vec<Vec<Entry>> {
     let formulas = Formulas::of(policy);
-    let entry = |user_set, object_set| {
-        (0..policy.actions())
-            .filter(|&action| formulas.grants(action, user_set, object_set))
-            .map(|action| 1 << action)
-            .sum()
+    let row = |user_set| {
+        let mut row = vec![0; policy.object_sets() as usize];
+        for action in (0..policy.actions()).filter(|&action| policy.names(action)) {
+            let granted = formulas.row(action, user_set, 0..policy.object_sets());
+            for (entry, granted) in row.iter_mut().zip(granted) {
+                *entry |= Entry::from(granted) << action;
+            }
+        }
+        row
     };
-    (0..policy.user_sets())
-        .map(|user_set| {
-            (0..policy.object_sets())
-                .map(|o| entry(user_set, o))
-                .collect()
-        })
-        .collect()
+    (0..policy.user_sets()).map(row).collect()
 }
 
 /// The compiled labelling, in the widths of the policy's form: alike sets share a
@@ -73,12 +74,13 @@ pub fn compile_for(policy: &Policy, widths: Widths) -> Result<Labelling, Refusal
 }
 
 /// A label for each row, equal rows alike, and each label's lowest row.
-fn number(rows: &[Vec<Entry>]) -> (Vec<u8>, Vec<usize>) {
+fn number(rows: &[Vec<Entry>]) -> (Vec<Label>, Vec<usize>) {
     let mut labels = Vec::new();
     let mut lowest: Vec<usize> = Vec::new();
     for (set, row) in rows.iter().enumerate() {
         let label = lowest.iter().position(|&earlier| rows[earlier] == *row);
-        labels.push(label.unwrap_or(lowest.len()) as u8);
+        let number = label.unwrap_or(lowest.len());
+        labels.push(Label::try_from(number).expect("at most 512 labels"));
         if label.is_none() {
             lowest.push(set);
         }
@@ -109,12 +111,11 @@ pub fn apart(policy: &Policy, one: Set, other: Set) -> Result<Option<(u32, Set)>
         return Err(19);
     }
     let formulas = Formulas::of(policy);
+    let row = |action, user_set| formulas.row(action, user_set, 0..policy.object_sets());
     for action in 0..policy.actions() {
-        for object_set in 0..policy.object_sets() {
-            let granted = formulas.grants(action, one, object_set);
-            if granted != formulas.grants(action, other, object_set) {
-                return Ok(Some((action, object_set)));
-            }
+        let rows = row(action, one).into_iter().zip(row(action, other));
+        if let Some((object_set, _)) = (0..).zip(rows).find(|(_, (one, other))| one != other) {
+            return Ok(Some((action, object_set)));
         }
     }
     Ok(None)
@@ -123,7 +124,7 @@ pub fn apart(policy: &Policy, one: Set, other: Set) -> Result<Option<(u32, Set)>
 #[cfg(test)]
 mod tests {
     use super::*;
-    use crate::form::{WIDTHS_8_16, WIDTHS_8_8};
+    use crate::form::{FORMS, WIDTHS};
     use crate::text::read;
 
     #[test]
@@ -151,17 +152,30 @@ mod tests {
 
     #[test]
     fn compiling_for_other_widths_gets_11() {
-        for (form, own, other) in [(1, WIDTHS_8_8, WIDTHS_8_16), (2, WIDTHS_8_16, WIDTHS_8_8)] {
-            let text = format!("policy,{form}\nuattr,1\noattr,1\nrule,7,u0\nend\n");
+        for form in FORMS {
+            let text = format!("policy,{}\nuattr,1\noattr,1\nrule,7,u0\nend\n", form.number);
             let policy = read(text.as_bytes()).expect("accepted");
             let labelling = compile(&policy);
-            assert_eq!(
-                (labelling.widths, &labelling.table[..]),
-                (own, &[0, 128][..])
-            );
-            assert_eq!(compile_for(&policy, own), Ok(labelling));
-            assert_eq!(compile_for(&policy, other), Err(11));
+            assert_eq!(labelling.widths, form.widths);
+            assert_eq!(labelling.table, [0, 128]);
+            for widths in WIDTHS {
+                let own = widths == form.widths;
+                let due = if own { Ok(labelling.clone()) } else { Err(11) };
+                assert_eq!(compile_for(&policy, widths), due);
+            }
         }
+    }
+
+    /// Each set of nine values has a label of its own, on either side.
+    #[test]
+    fn there_are_up_to_512_labels() {
+        let text = b"policy,3\nuattr,9\noattr,9\nrule,15,q00\nend\n";
+        let labelling = compile(&read(text).expect("accepted"));
+        assert!(labelling.user_labels.iter().copied().eq(0..512));
+        assert!(labelling.object_labels.iter().copied().eq(0..512));
+        assert_eq!((labelling.user_count, labelling.object_count), (512, 512));
+        let mut granted = labelling.table.iter().enumerate().filter(|(_, e)| **e != 0);
+        assert!(granted.all(|(place, &entry)| place % 513 == 0 && entry == 32_768));
     }
 
     #[test]

@@ -19,22 +19,16 @@ fn listing(policy: &Policy) -> String {
         "labels,{},{}\n",
         labelling.user_count, labelling.object_count
     );
-    for action in (0..policy.actions()).filter(|&action| is_named(policy, action)) {
+    for action in (0..policy.actions()).filter(|&action| policy.names(action)) {
         let tuples = tuples(policy, action).expect("an action");
         output += &format!("action,{action},{}\n", tuples.len());
-        for tuple in tuples.into_iter().map(u32::from) {
+        for tuple in tuples {
             let (user_set, object_set) =
                 (tuple / policy.object_sets(), tuple % policy.object_sets());
             output += &format!("tuple,{action},{user_set},{object_set}\n");
         }
     }
     output
-}
-
-/// Whether an action has a rule or a pair.
-fn is_named(policy: &Policy, action: u32) -> bool {
-    policy.rules.iter().any(|rule| rule.action == action)
-        || policy.pairs.iter().any(|pair| pair.action == action)
 }
 
 #[cfg(test)]
@@ -54,9 +48,20 @@ mod tests {
     }
 
     #[test]
-    fn form_2_has_blocks_up_to_action_15() {
-        let output = list(b"policy,2\nuattr,1\noattr,1\nrule,8,u0,o0,a\npair,15,0,0\nend\n");
-        let expected = "labels,2,2\naction,8,1\ntuple,8,1,1\naction,15,1\ntuple,15,1,1\n";
-        assert_eq!(output, expected);
+    fn forms_2_and_3_have_blocks_up_to_action_15() {
+        for form in [2, 3] {
+            let lines = "uattr,1\noattr,1\nrule,8,u0,o0,a\npair,15,0,0\nend\n";
+            let output = list(format!("policy,{form}\n{lines}").as_bytes());
+            let expected = "labels,2,2\naction,8,1\ntuple,8,1,1\naction,15,1\ntuple,15,1,1\n";
+            assert_eq!(output, expected);
+        }
+    }
+
+    #[test]
+    fn tuples_of_nine_values_a_side_are_parted_again() {
+        let output = list(b"policy,3\nuattr,9\noattr,9\nrule,0,q00\nend\n");
+        let tuples = (0..512).map(|set| format!("tuple,0,{set},{set}\n"));
+        let tuples: String = tuples.collect();
+        assert_eq!(output, format!("labels,512,512\naction,0,512\n{tuples}"));
     }
 }

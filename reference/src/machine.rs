@@ -194,7 +194,7 @@ pub fn run_for(policy: &Policy, widths: Widths, calls: &[Call]) -> (Vec<Answer>,
 mod tests {
     use super::short::{add, open, request};
     use super::*;
-    use crate::form::{WIDTHS_8_16, WIDTHS_8_8};
+    use crate::form::WIDTHS;
     use crate::text::read;
 
     const TEXT: &[u8] = b"policy,1\nuattr,2\nuattr,1\noattr,1\nusen,1,0\nuser,0,2\nuser,5,4\n\
@@ -262,33 +262,65 @@ mod tests {
         assert_eq!(last(&[request(31, 7, 3)]), Answer::Refused(17));
     }
 
-    #[test]
-    fn form_2_decides_actions_up_to_15() {
+    /// The text in a form.
+    fn of_form(number: u32) -> String {
         let text = String::from_utf8(TEXT.to_vec()).expect("a text");
-        let text = text
-            .replace("policy,1", "policy,2")
-            .replace("end", "rule,15,o0\nend");
-        let asked = |action| last_on(text.as_bytes(), &[open(0, 31, 0), request(31, action, 3)]);
-        assert_eq!(asked(8), Answer::Denied);
-        assert_eq!(asked(15), Answer::Granted);
-        assert_eq!(asked(16), Answer::Refused(12));
+        text.replace("policy,1", &format!("policy,{number}"))
+    }
+
+    #[test]
+    fn forms_2_and_3_decide_actions_up_to_15() {
+        for form in [2, 3] {
+            let text = of_form(form).replace("end", "rule,15,o0\nend");
+            let asked =
+                |action| last_on(text.as_bytes(), &[open(0, 31, 0), request(31, action, 3)]);
+            assert_eq!(asked(8), Answer::Denied);
+            assert_eq!(asked(15), Answer::Granted);
+            assert_eq!(asked(16), Answer::Refused(12));
+        }
+    }
+
+    #[test]
+    fn sessions_hold_up_to_nine_values() {
+        let text = b"policy,3\nuattr,9\noattr,9\nusen,8,7\nuser,0,511\nuser,1,256\n\
+            object,0,511\nconflict,511,7\nrule,0,u7,o8,a\nend\n";
+        let last = |calls: &[Call]| last_on(text, calls);
+        let seven = 0b1_0011_1111;
+        assert_eq!(last(&[open(0, 0, 511)]), Answer::Refused(23));
+        assert_eq!(
+            last(&[open(0, 0, seven), request(0, 0, 0)]),
+            Answer::Granted
+        );
+        assert_eq!(
+            last(&[open(0, 0, seven), add(0, 0, 64)]),
+            Answer::Refused(23)
+        );
+        assert_eq!(last(&[open(0, 0, 512)]), Answer::Refused(19));
+        assert_eq!(last(&[open(1, 0, 384), request(0, 0, 0)]), Answer::Granted);
+        assert_eq!(last(&[open(1, 0, 64)]), Answer::Refused(19));
     }
 
     #[test]
     fn a_request_made_for_other_widths_gets_11_before_all_and_the_rest_goes_on() {
-        let policy = read(TEXT).expect("accepted");
         let calls = [
             open(0, 31, 1),
             request(31, 0, 3),
             request(99, 99, 99),
             add(0, 31, 2),
         ];
-        let (answers, sessions) = run_for(&policy, WIDTHS_8_16, &calls);
-        let refused = Answer::Refused(11);
-        assert_eq!(answers, [Answer::Done, refused, refused, Answer::Done]);
-        assert_eq!(sessions, Sessions::from([(31, (0, 3))]));
-        assert_eq!(run_for(&policy, WIDTHS_8_8, &calls), run(&policy, &calls));
-        assert_eq!(run(&policy, &calls).0[1], Answer::Granted);
+        let (done, refused) = (Answer::Done, Answer::Refused(11));
+        for number in 1..=3 {
+            let policy = read(of_form(number).as_bytes()).expect("accepted");
+            assert_eq!(run(&policy, &calls).0[1], Answer::Granted);
+            for widths in WIDTHS {
+                let found = run_for(&policy, widths, &calls);
+                assert_eq!(found.1, Sessions::from([(31, (0, 3))]));
+                match widths == policy.form.widths {
+                    true => assert_eq!(found, run(&policy, &calls)),
+                    false => assert_eq!(found.0, [done, refused, refused, done]),
+                }
+            }
+        }
     }
 
     #[test]

@@ -117,6 +117,12 @@ impl Policy {
             None => &[Word::False],
         }
     }
+
+    /// Whether an action has a rule or a pair.
+    pub fn names(&self, action: u32) -> bool {
+        let ruled = self.rules.iter().any(|rule| rule.action == action);
+        ruled || self.pairs.iter().any(|pair| pair.action == action)
+    }
 }
 
 fn find(entries: &[(u32, Set)], number: u32) -> Option<Set> {

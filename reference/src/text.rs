@@ -205,8 +205,8 @@ fn in_range(policy: &Policy, entry: &Entry) -> bool {
     let numbers = &entry.numbers;
     match entry.kind {
         Kind::Policy => Form::numbered(numbers[0]).is_some(),
-        Kind::UserAttribute => width_fits(&policy.user_widths, numbers[0]),
-        Kind::ObjectAttribute => width_fits(&policy.object_widths, numbers[0]),
+        Kind::UserAttribute => width_fits(policy.form, &policy.user_widths, numbers[0]),
+        Kind::ObjectAttribute => width_fits(policy.form, &policy.object_widths, numbers[0]),
         Kind::UserSeniority => senior_stands(&policy.user_widths, numbers[0], numbers[1]),
         Kind::ObjectSeniority => senior_stands(&policy.object_widths, numbers[0], numbers[1]),
         Kind::User => numbers[0] <= 31 && numbers[1] < policy.user_sets(),
@@ -225,9 +225,10 @@ fn in_range(policy: &Policy, entry: &Entry) -> bool {
     }
 }
 
-/// A width is 1 to 7, and so is the sum of all of its side.
-fn width_fits(widths: &[u32], width: u32) -> bool {
-    (1..=7).contains(&width) && widths.iter().sum::<u32>() + width <= 7
+/// A width is 1 to the form's most values, and so is the sum of all of its side.
+fn width_fits(form: Form, widths: &[u32], width: u32) -> bool {
+    let fits = |values| (1..=form.values).contains(&values);
+    fits(width) && fits(widths.iter().sum::<u32>() + width)
 }
 
 /// Both are values, of the same attribute, and the senior is the higher one.
@@ -399,6 +400,7 @@ fn word_text(word: &Word) -> String {
 #[cfg(test)]
 mod tests {
     use super::*;
+    use crate::form::FORMS;
 
     const HEAD: &str = "policy,1\nuattr,2\nuattr,1\noattr,2\noattr,1\n";
 
@@ -513,12 +515,9 @@ mod tests {
 
     #[test]
     fn refusal_6_by_the_range() {
-        for text in ["policy,0\n", "policy,5\n", "policy,99999\n"] {
+        for text in ["policy,0\n", "policy,4\n", "policy,5\n", "policy,99999\n"] {
             assert_eq!(refused(text), (6, 0));
         }
-        assert_eq!(refused("policy,1\nuattr,0\n"), (6, 1));
-        assert_eq!(refused("policy,1\nuattr,8\n"), (6, 1));
-        assert_eq!(refused("policy,1\nuattr,5\nuattr,3\n"), (6, 2));
         for text in ["usen,0,1", "usen,2,1", "usen,3,2", "osen,1,1", "osen,3,0"] {
             assert_eq!(line(text), Some(6), "{text}");
         }
@@ -542,8 +541,59 @@ mod tests {
     }
 
     #[test]
+    fn refusal_6_by_the_values_of_the_form() {
+        for (form, most) in [(1, 7), (2, 7), (3, 9)] {
+            let head = format!("policy,{form}\n");
+            for width in [0, most + 1, 255, 256, 65_536, 99_999] {
+                assert_eq!(refused(&format!("{head}uattr,{width}\n")), (6, 1));
+                assert_eq!(refused(&format!("{head}uattr,1\noattr,{width}\n")), (6, 2));
+            }
+            for width in 1..=most {
+                let attributes = format!("uattr,{width}\noattr,{width}\n");
+                let set = (1 << width) - 1;
+                let lines = format!("user,0,{set}\nobject,0,{set}\nconflict,{set},7\n");
+                assert!(read(format!("{head}{attributes}{lines}end\n").as_bytes()).is_ok());
+                let rest = most + 1 - width;
+                let past = format!("{head}uattr,{width}\nuattr,{rest}\n");
+                assert_eq!(refused(&past), (6, 2));
+                let past = format!("{head}{attributes}oattr,{rest}\n");
+                assert_eq!(refused(&past), (6, 3));
+                for line in ["user,0,S", "object,0,S", "conflict,S,0"] {
+                    let line = line.replace('S', &(set + 1).to_string());
+                    assert_eq!(refused(&format!("{head}{attributes}{line}\n")), (6, 3));
+                }
+            }
+        }
+    }
+
+    /// The highest values are words, pairs and seniors of a form that has them.
+    #[test]
+    fn the_highest_values_are_read() {
+        let lines = "usen,8,0\nosen,8,7\nrule,0,u8,o8,a,u7,r,o7,r\npair,0,8,8\n";
+        let text =
+            |form, values| format!("policy,{form}\nuattr,{values}\noattr,{values}\n{lines}end\n");
+        let policy = read(text(3, 9).as_bytes()).expect("accepted");
+        assert_eq!(write(&policy), text(3, 9).as_bytes());
+        assert_eq!(refused(&text(3, 8)), (6, 3));
+        assert_eq!(refused(&text(2, 9)), (6, 1));
+    }
+
+    /// Of the greatest set a session may be let hold 7 values, and not all 9.
+    #[test]
+    fn a_conflict_lets_hold_at_most_7_in_every_form() {
+        for form in FORMS {
+            let head = format!("policy,{}\nuattr,{}\noattr,1\n", form.number, form.values);
+            let last = form.most_sets() - 1;
+            assert!(read(format!("{head}conflict,{last},7\nend\n").as_bytes()).is_ok());
+            for most in [8, 9, 10] {
+                assert_eq!(refused(&format!("{head}conflict,{last},{most}\n")), (6, 3));
+            }
+        }
+    }
+
+    #[test]
     fn refusal_6_by_the_actions_of_the_form() {
-        for (form, actions) in [(1, 8), (2, 16)] {
+        for (form, actions) in [(1, 8), (2, 16), (3, 16)] {
             let head = HEAD.replace("policy,1", &format!("policy,{form}"));
             for line in ["rule,A,t", "pair,A,0,0"] {
                 let answer = |action: u32| {
@@ -561,7 +611,7 @@ mod tests {
 
     #[test]
     fn as_many_rules_as_actions_are_read() {
-        for (form, actions) in [(1, 8), (2, 16)] {
+        for (form, actions) in [(1, 8), (2, 16), (3, 16)] {
             let rules: String = (0..actions).map(|a| format!("rule,{a},t\n")).collect();
             let text = format!("policy,{form}\nuattr,1\noattr,1\n{rules}end\n");
             let policy = read(text.as_bytes()).expect("accepted");
@@ -671,7 +721,7 @@ mod tests {
              conflict,0,0\nconflict,5,7\nconflict,7,1\nrule,0,t,f,u0,o2,d00,q11,n,a,r,a,r,a\n\
              rule,7,f\npair,0,0,2\npair,7,2,0\nend\n"
         );
-        for form in ["policy,1", "policy,2"] {
+        for form in ["policy,1", "policy,2", "policy,3"] {
             let text = text.replace("policy,1", form);
             let policy = read(text.as_bytes()).expect("accepted");
             assert_eq!(write(&policy), text.as_bytes());

@@ -49,7 +49,7 @@ fn set(rng: &mut Rng, draft: &Draft) -> Set {
 
 /// A line of a text with so many. To forbid all of a set's values is rarer where
 /// there are more lines, or nothing could be held; one value less than the set
-/// has is the most that refuses at all.
+/// has is the most that refuses at all. More than a line may let hold is for none.
 fn line(rng: &mut Rng, set: Set, count: usize) -> String {
     let most = match rng.below(6) {
         0 if rng.index(count) < 2 => 0,
@@ -59,7 +59,7 @@ fn line(rng: &mut Rng, set: Set, count: usize) -> String {
         4 => set.count_ones(),
         _ => rng.below(MOST_TOGETHER + 1),
     };
-    format!("conflict,{set},{most}")
+    format!("conflict,{set},{}", most.min(MOST_TOGETHER))
 }
 
 fn beyond(draft: &Draft) -> Vec<String> {
@@ -70,7 +70,7 @@ fn beyond(draft: &Draft) -> Vec<String> {
         format!("conflict,{sets},8"),
         format!("conflict,{},8", sets - 1),
         "conflict,0,8".to_string(),
-        "conflict,256,1".to_string(),
+        format!("conflict,{},1", 2 * draft.form.most_sets()),
         "conflict,65536,1".to_string(),
         format!("conflict,{},256", sets - 1),
     ]

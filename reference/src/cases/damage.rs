@@ -127,10 +127,15 @@ fn beyond(draft: &Draft) -> Vec<String> {
         "policy,0".to_string(),
         format!("policy,{}", other.expect("another form").number),
     ];
-    lines.extend(["uattr,0", "uattr,8", "oattr,0", "oattr,8", "user,32,0"].map(String::from));
+    let past = draft.form.values + 1;
     lines.extend([
-        format!("uattr,{}", 8 - users),
-        format!("oattr,{}", 8 - objects),
+        "uattr,0".to_string(),
+        format!("uattr,{past}"),
+        "oattr,0".to_string(),
+        format!("oattr,{past}"),
+        "user,32,0".to_string(),
+        format!("uattr,{}", past - users),
+        format!("oattr,{}", past - objects),
         format!("user,31,{}", 1 << users),
         "object,64,0".to_string(),
         format!("object,63,{}", 1 << objects),
@@ -276,11 +281,12 @@ fn pile_faults(rng: &mut Rng, draft: &mut Draft) {
     ]);
     let users: u32 = draft.user_widths.iter().sum();
     let limit = (1 << users).to_string();
+    let past = (draft.form.values + 1).to_string();
     let numbers = [
         "0",
         "1",
         "2",
-        "8",
+        past.as_str(),
         "31",
         "32",
         "63",
@@ -343,7 +349,10 @@ fn mix_lines(rng: &mut Rng, draft: &mut Draft) {
                 rng.below(draft.form.actions + 1),
                 rng.pick(&["t", "u0", "o0,n", "d00"])
             ),
-            _ => format!("{kind},{},{}", rng.below(8), rng.below(4)),
+            _ => {
+                let first = rng.below(draft.form.values + 1);
+                format!("{kind},{first},{}", rng.below(4))
+            }
         };
         draft.lines.push(line);
     }

@@ -6,17 +6,21 @@ use crate::form::Form;
 /// The largest numbers a valid text may have of each thing.
 #[derive(Debug, Clone, Copy)]
 pub struct Size {
-    values: u32,
+    /// Of users and of objects.
+    values: [u32; 2],
+    /// Whether to go to these values instead of any up to them.
+    full_values: bool,
     users: u32,
     objects: u32,
     rules: u32,
     words: u32,
-    /// Whether to go to these numbers instead of any up to them.
+    /// The same for all other numbers.
     full: bool,
 }
 
 pub const SMALL: Size = Size {
-    values: 3,
+    values: [3, 3],
+    full_values: false,
     users: 4,
     objects: 4,
     rules: 3,
@@ -25,16 +29,18 @@ pub const SMALL: Size = Size {
 };
 /// Three values on each side, so that there are more pairs than a text may have.
 pub const THREES: Size = Size {
+    full_values: true,
     full: true,
     ..SMALL
 };
 /// Five values on each side, so that there are more user sets than conflicts.
 pub const FIVES: Size = Size {
-    values: 5,
+    values: [5, 5],
     ..THREES
 };
 pub const MIDDLE: Size = Size {
-    values: 7,
+    values: [7, 7],
+    full_values: false,
     users: 32,
     objects: 64,
     rules: 8,
@@ -42,11 +48,21 @@ pub const MIDDLE: Size = Size {
     full: false,
 };
 pub const LIMIT: Size = Size {
+    full_values: true,
     full: true,
     ..MIDDLE
 };
 
 impl Size {
+    /// The same with just so many values of users and of objects.
+    pub fn with_values(self, values: [u32; 2]) -> Self {
+        Size {
+            values,
+            full_values: true,
+            ..self
+        }
+    }
+
     /// 1 to `most`.
     fn some(&self, rng: &mut Rng, most: u32) -> u32 {
         if self.full {
@@ -109,9 +125,9 @@ impl Draft {
 
 /// A valid text of the first form, without conflicts and pairs.
 pub fn valid(rng: &mut Rng, size: Size) -> Draft {
-    let user_widths = widths(rng, size);
-    let mut object_widths = widths(rng, size);
-    if rng.chance(1, 4) {
+    let user_widths = widths(rng, size.values[0], size.full_values);
+    let mut object_widths = widths(rng, size.values[1], size.full_values);
+    if size.values[0] == size.values[1] && rng.chance(1, 4) {
         // Comparisons tell most apart where both sides have the same widths.
         object_widths.clone_from(&user_widths);
     }
@@ -146,9 +162,9 @@ pub fn valid(rng: &mut Rng, size: Size) -> Draft {
     }
 }
 
-/// Widths whose sum is at most the size's count of values.
-fn widths(rng: &mut Rng, size: Size) -> Vec<u32> {
-    let mut left = size.some(rng, size.values);
+/// Widths whose sum is at most so many values, or just so many.
+fn widths(rng: &mut Rng, values: u32, full: bool) -> Vec<u32> {
+    let mut left = if full { values } else { 1 + rng.below(values) };
     let mut widths = Vec::new();
     while left > 0 {
         // From one wide attribute to many narrow ones.

@@ -251,7 +251,7 @@ pub fn made_cases() -> Vec<u8> {
 /// A valid text of a form with two lists and the calls of the session alone, if wanted.
 fn made_case(case: u64, form: u32) -> Option<Vec<u8>> {
     let mut rng = Rng::new(SEED, case);
-    let text = cases::text(&mut rng, case);
+    let text = cases::text_without_form_3(&mut rng, case);
     let policy = read(&text)
         .ok()
         .filter(|policy| policy.form.number == form)?;
