@@ -60,27 +60,50 @@ pub extern "C" fn helvemoik_decide(policy: PolicyValue, action: u32, user: u32, 
     answer::decision(formula::decide(policy, action, user, object))
 }
 
-// Stores the tuples of an action.
+// Stores the tuples of an action, 16 bits each.
 #[no_mangle]
-pub extern "C" fn helvemoik_list(policy: PolicyValue, action: u32, buffer: &mut [u16]) -> Counted
-    ensures answer { λ r. ⌜ r ≡ counted (list policy action (now (buffer .entry))) ⌝ }
-    ensures tuples { λ r. ⌜ now (buffer .exit) ≡ listBuffer policy action (now (buffer .entry)) ⌝ }
+pub extern "C" fn helvemoik_list_16(policy: PolicyValue, action: u32, buffer: &mut [u16]) -> Counted
+    ensures answer { λ r. ⌜ r ≡ counted (list policy 16 action (now (buffer .entry))) ⌝ }
+    ensures tuples { λ r. ⌜ now (buffer .exit) ≡ listBuffer policy 16 action (now (buffer .entry)) ⌝ }
 {
-    answer::listed(tuples::list(policy, action, buffer))
+    answer::listed(tuples::list_16(policy, action, buffer))
 }
 
-// Decides by the first `count` tuples of a listing.
+// Stores the tuples of an action, 32 bits each.
 #[no_mangle]
-pub extern "C" fn helvemoik_decide_by_tuples(
+pub extern "C" fn helvemoik_list_32(policy: PolicyValue, action: u32, buffer: &mut [u32]) -> Counted
+    ensures answer { λ r. ⌜ r ≡ counted (list policy 32 action (now (buffer .entry))) ⌝ }
+    ensures tuples { λ r. ⌜ now (buffer .exit) ≡ listBuffer policy 32 action (now (buffer .entry)) ⌝ }
+{
+    answer::listed(tuples::list_32(policy, action, buffer))
+}
+
+// Decides by the first `count` tuples of a listing, 16 bits each.
+#[no_mangle]
+pub extern "C" fn helvemoik_decide_by_tuples_16(
     policy: PolicyValue,
     user: u32,
     object: u32,
     listing: &[u16],
     count: usize,
 ) -> u32
-    ensures { λ r. ⌜ r ≡ replyNumber (decideByTuples policy (at user object) (now (listing .entry)) count) ⌝ }
+    ensures { λ r. ⌜ r ≡ replyNumber (decideByTuples policy 16 (at user object) (now (listing .entry)) count) ⌝ }
 {
-    answer::decision(tuples::decide(policy, user, object, listing, count))
+    answer::decision(tuples::decide_16(policy, user, object, listing, count))
+}
+
+// Decides by the first `count` tuples of a listing, 32 bits each.
+#[no_mangle]
+pub extern "C" fn helvemoik_decide_by_tuples_32(
+    policy: PolicyValue,
+    user: u32,
+    object: u32,
+    listing: &[u32],
+    count: usize,
+) -> u32
+    ensures { λ r. ⌜ r ≡ replyNumber (decideByTuples policy 32 (at user object) (now (listing .entry)) count) ⌝ }
+{
+    answer::decision(tuples::decide_32(policy, user, object, listing, count))
 }
 
 // Fills the three buffers with labels and table, both in bytes.
@@ -109,6 +132,20 @@ pub extern "C" fn helvemoik_compile_8_16(
     ensures buffers { λ r. ⌜ lent (bits 8 16) (now (users .exit)) (now (objects .exit)) (now (table .exit)) ≡ compileBuffers policy (lent (bits 8 16) (now (users .entry)) (now (objects .entry)) (now (table .entry))) ⌝ }
 {
     answer::counts(labels::compile_8_16(policy, users, objects, table))
+}
+
+// Fills the three buffers with labels and entries of 16 bits.
+#[no_mangle]
+pub extern "C" fn helvemoik_compile_16_16(
+    policy: PolicyValue,
+    users: &mut [u16],
+    objects: &mut [u16],
+    table: &mut [u16],
+) -> CrossedCounts
+    ensures answer { λ r. ⌜ r ≡ crossedCounts (compile policy (lent (bits 16 16) (now (users .entry)) (now (objects .entry)) (now (table .entry)))) ⌝ }
+    ensures buffers { λ r. ⌜ lent (bits 16 16) (now (users .exit)) (now (objects .exit)) (now (table .exit)) ≡ compileBuffers policy (lent (bits 16 16) (now (users .entry)) (now (objects .entry)) (now (table .entry))) ⌝ }
+{
+    answer::counts(labels::compile_16_16(policy, users, objects, table))
 }
 
 // Whether something tells two user sets apart.
@@ -238,6 +275,35 @@ pub extern "C" fn helvemoik_request_8_16(
     ensures { λ r. ⌜ r ≡ crossedStep (boardStep policy (labelsOf (record { users = nu; objects = «no» }) (lent (bits 8 16) (now (users .entry)) (now (objects .entry)) (now (table .entry)))) (requests session action object) board) ⌝ }
 {
     answer::step(board::request_8_16(
+        board,
+        policy,
+        counts_of(nu, no),
+        users,
+        objects,
+        table,
+        session,
+        action,
+        object,
+    ))
+}
+
+// Grants or denies an action on an object by labels and entries of 16 bits.
+#[no_mangle]
+pub extern "C" fn helvemoik_request_16_16(
+    board: Board,
+    policy: PolicyValue,
+    nu: u32,
+    no: u32,
+    users: &[u16],
+    objects: &[u16],
+    table: &[u16],
+    session: u32,
+    action: u32,
+    object: u32,
+) -> CrossedStep
+    ensures { λ r. ⌜ r ≡ crossedStep (boardStep policy (labelsOf (record { users = nu; objects = «no» }) (lent (bits 16 16) (now (users .entry)) (now (objects .entry)) (now (table .entry)))) (requests session action object) board) ⌝ }
+{
+    answer::step(board::request_16_16(
         board,
         policy,
         counts_of(nu, no),
