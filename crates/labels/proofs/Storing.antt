@@ -1,10 +1,10 @@
 -- Compiling from a grid: the labels of its rows and columns are those of the policy's sets, and what the parts leave in
 -- the buffers is what compiling is to leave there.
-use Prim.Native.Nat.{ℕ, _+_, _*_, _/_, _%_, _≤_, _<_}
+use Prim.Native.Nat.{ℕ, _+_, _*_, _/_, _%_, _^_, _≤_, _<_}
 use mathlib.Core.Path.{_≡_, ap, _∙_}
 use mathlib.Core.Bool.{Bool, true, false, _||_, and-false}
 use mathlib.Core.List.{List}
-use native.Mathlib.Nat.{lt-of-lt-of-le}
+use native.Mathlib.Nat.{le-trans, lt-of-lt-of-le}
 use native.Mathlib.Omega.{arith}
 use lib.Dec.{eqb, ltb}
 use lib.ListN.{length, getD}
@@ -13,16 +13,19 @@ use borrow.Author.Tests.{eqb-true, lt-ltb, le-ltb}
 use Rattle.basis.specs.Choice.{firstBroken}
 use Rattle.basis.specs.Lists.{over}
 use Rattle.basis.specs.Numbers.{upTo}
-use Rattle.basis.proofs.Bools.{or-right, and-right}
-use Rattle.policy.specs.Limits.{actions, storedWidths, ownWidths}
-use Rattle.policy.specs.Policy.{Policy, sets}
+use Rattle.basis.proofs.Bools.{or-right, and-left, and-right}
+use Rattle.policy.specs.Limits.{values, actions, storedWidths, ownWidths}
+use Rattle.policy.specs.Policy.{Side, Policy, sets}
 use Rattle.policy.specs.Value.{policyOf}
 use Rattle.policy.specs.Valid.{valid}
 use Rattle.policy.specs.declared.limits.Widths.{Widths}
 use Rattle.policy.specs.declared.value.PolicyValue.{PolicyValue}
 use Rattle.policy.specs.declared.refusal.Refusal.the-variants.{InvalidState, BufferTooShort}
 use Rattle.sets.proofs.Laws.{setOf-lt}
-use Rattle.policy.proofs.Forms.{actions-stored}
+use Rattle.policy.proofs.Bounds.{total-most}
+use Rattle.policy.proofs.Forms.{actions-stored, values-stored}
+use Rattle.policy.proofs.Parts.{SideParts, parts}
+use Rattle.policy.proofs.Valid.{valid-whole}
 use Rattle.formula.specs.Truth.{grants}
 use Rattle.labels.specs.Compile.{entryOf}
 use Rattle.labels.specs.Compile.{likeUsers, likeObjects, NU, NO, entry, userLabel, objectLabel, userResult, objectResult, tableResult, lent, counts, stored, used, fitsWidths, tooShort, compile, compileBuffers, Compiles}
@@ -68,6 +71,17 @@ unfolding ownWidths entryOf
 narrow {p} w own G u o hu ho =
     let e = eqb-true (w .entry) (storedWidths (p .form) .entry) (and-right (eqb (w .label) (storedWidths (p .form) .label)) _ own) in
     rw (G .entries u o hu ho, e) (lt-of-lt-of-le (setOf-lt _ (actions (p .form))) (pow-mono (actions-stored (p .form))))
+
+-- and a side has at most as many sets as the width of a label has numbers
+pub sets-few : (v : PolicyValue) → valid v ≡ true → (w : Widths) → ownWidths (v .form) w ≡ true
+    → (sets (policyOf v .user) ≤ 2 ^ (w .label)) × (sets (policyOf v .object) ≤ 2 ^ (w .label))
+unfolding ownWidths policyOf
+sets-few v ok w own =
+    let e = eqb-true (w .label) (storedWidths (v .form) .label) (and-left _ _ own) in
+    let h = parts (policyOf v) (valid-whole v ok .lists) in
+    let few : (s : Side) → SideParts (values (v .form)) s → sets s ≤ 2 ^ (w .label) = λ s q.
+    rw e (pow-mono (le-trans (total-most (values (v .form)) s q) (values-stored (v .form)))) in
+    (few _ (h .user), few _ (h .object))
 
 -- ---- the buffers
 

@@ -1,9 +1,10 @@
 -- One turn of the labelling: the label whose leader a row is like says the row's own, and a row that is like none
 -- leads.
-use Prim.Native.Nat.{ℕ, _+_, _≤_, _<_, zero-le}
+use Prim.Native.Nat.{ℕ, _+_, _^_, _≤_, _<_, zero-le}
 use mathlib.Core.Path.{_≡_, refl, sym, ap, subst, _∙_}
 use mathlib.Core.Bool.{Bool, true, false}
 use mathlib.Core.List.{List}
+use native.Mathlib.Nat.{le-trans, lt-of-lt-of-le}
 use native.Mathlib.Numerals.{add-one}
 use native.Mathlib.Omega.{arith}
 use lib.ListN.{length, getD, set, length-set}
@@ -13,8 +14,8 @@ use Rattle.basis.proofs.Bools.{never, fails}
 use Rattle.basis.proofs.Counting.{Least, first-least}
 use Rattle.basis.proofs.Places.{stored-next}
 use Rattle.labels.specs.Labels.{lowestLike, leads, labelCount, label, leader}
-use Rattle.labels.specs.Inner.Grid.{Labelled, Leading}
-use Rattle.labels.proofs.Labels.{Equivalence, lowest-least, is-leads, labelCount-le, labelCount-mono, labelCount-strict, labelCount-same, label-same, leader-same, lowest-below, lowest-like, lowest-leads, label-iff, label-leads, leader-leads, leader-is}
+use Rattle.labels.specs.Inner.Grid.{Fit, Labelled, Leading}
+use Rattle.labels.proofs.Labels.{Equivalence, lowest-least, is-leads, labelCount-le, labelCount-mono, labelCount-strict, labelCount-same, label-same, leader-same, lowest-below, lowest-like, lowest-leads, label-iff, label-below, label-leads, leader-leads, leader-is}
 
 module _ (like : ℕ → ℕ → Bool) (u : ℕ) where
   labelCount-new : leads like u ≡ true → labelCount like (u + 1) ≡ labelCount like u + 1
@@ -136,6 +137,11 @@ labelled-same {like} {other} {m} h s =
 -- there are no more labels than sets
 pub labelled-few : {like : ℕ → ℕ → Bool} {m : ℕ} {labels leaders : List ℕ} {count : ℕ} → Labelled like m labels leaders count → count ≤ m
 labelled-few {like} {m} s = let q = s .counted in omega (arith, labelCount-le like m)
+
+-- so a label fits the bits that the number of sets does
+pub labelled-fit : {like : ℕ → ℕ → Bool} {m : ℕ} {labels leaders : List ℕ} {count : ℕ} (bits : ℕ) → Equivalence like m
+    → Labelled like m labels leaders count → m ≤ 2 ^ bits → Fit bits m labels
+labelled-fit {like} {m} bits E s h u l = rw (s .labels-are u l) (lt-of-lt-of-le (label-below E u l) (le-trans (labelCount-le like m) h))
 
 -- and the lowest set of a label is one of them and has the label
 pub labelled-leads : {like : ℕ → ℕ → Bool} {m : ℕ} {labels leaders : List ℕ} {count : ℕ} → Equivalence like m

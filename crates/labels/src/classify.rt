@@ -12,8 +12,8 @@ use policy::limits::MOST_TUPLES;
 
 // The label of each row, the lowest row of each label, and how many labels there are.
 pub struct Classes {
-    pub labels: [u8; MOST_SETS],
-    pub leaders: [u8; MOST_SETS],
+    pub labels: [u16; MOST_SETS],
+    pub leaders: [u16; MOST_SETS],
     pub count: usize,
 }
 
@@ -21,7 +21,7 @@ pub struct Classes {
 fn label_of(
     grid: &[u16; MOST_TUPLES],
     view: View,
-    leaders: &[u8; MOST_SETS],
+    leaders: &[u16; MOST_SETS],
     count: usize,
     u: usize,
 ) -> usize
@@ -46,14 +46,14 @@ pub fn classify(grid: &[u16; MOST_TUPLES], view: View) -> Classes
     ensures { λ r. ⌜ Labelled (likeRows (now (grid .entry)) view) (view .rows) (r .labels) (r .leaders) (r .count) ⌝ }
 {
     let rows = view.rows;
-    let mut labels = [0u8; MOST_SETS];
-    let mut leaders = [0u8; MOST_SETS];
+    let mut labels = [0u16; MOST_SETS];
+    let mut leaders = [0u16; MOST_SETS];
     let mut count: usize = 0;
     for u in 0..rows {
         let l = label_of(grid, view, &leaders, count, u);
-        labels[u] = l as u8;
+        labels[u] = l as u16;
         if l == count {
-            leaders[count] = u as u8;
+            leaders[count] = u as u16;
             count += 1;
         }
     }

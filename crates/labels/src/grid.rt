@@ -83,9 +83,9 @@ pub fn enter(grid: &mut [u16; MOST_TUPLES], policy: PolicyValue) -> View
     view
 }
 
-// A set that is kept in a byte.
-pub fn wide(x: u8) -> usize
-    ensures { λ r. ⌜ (r ≡ x) × (r < 256) ⌝ }
+// A set that is kept in 16 bits.
+pub fn wide(x: u16) -> usize
+    ensures { λ r. ⌜ (r ≡ x) × (r < 65536) ⌝ }
 {
     x as usize
 }

@@ -4,14 +4,14 @@ ghost use mathlib.Core.Path.{_≡_};
 ghost use Rattle.policy.specs.Limits.{bits};
 ghost use Rattle.labels.specs.Compile.{lent, stored, used, Compiles};
 ghost use Rattle.labels.specs.Apart.{Tells};
-ghost use Rattle.labels.specs.Inner.Table.{tableIn};
+ghost use Rattle.labels.specs.Inner.Lending.{lentAs};
 
 mod buffers;
 mod classify;
 mod grid;
+mod lending;
 mod rows;
 mod sorts;
-mod tables;
 mod telling;
 
 use policy::limits;
@@ -21,9 +21,9 @@ use policy::refusal::Refusal;
 use policy::value::PolicyValue;
 
 // The label of a user set, and that of an object set: two sorts, so that neither stands where the other is due.
-pub struct UserLabel(pub u8);
+pub struct UserLabel(pub u16);
 
-pub struct ObjectLabel(pub u8);
+pub struct ObjectLabel(pub u16);
 
 // How many labels are used on each side: NU and NO.
 pub struct Counts {
@@ -57,17 +57,19 @@ pub fn place(user: UserLabel, object: ObjectLabel, objects: u32) -> usize
     user.0 as usize * objects as usize + object.0 as usize
 }
 
-// Fills the lent buffers with the user labels, the object labels and the table of a policy. Of the two that a table may
-// be lent as, the one of these widths is the table.
+// Fills the lent buffers with the user labels, the object labels and the table of a policy. Each may be lent as bytes or
+// in 16 bits: of the two, the one of these widths is the buffer.
 fn compile(
     policy: PolicyValue,
     widths: Widths,
     users: &mut [u8],
     objects: &mut [u8],
-    bytes: &mut [u8],
-    wide: &mut [u16],
+    table: &mut [u8],
+    wide_users: &mut [u16],
+    wide_objects: &mut [u16],
+    wide_table: &mut [u16],
 ) -> Compiled
-    ensures { λ r. ⌜ Compiles policy (lent widths (now (users .entry)) (now (objects .entry)) (tableIn (widths .entry) (now (bytes .entry)) (now (wide .entry)))) r (lent widths (now (users .exit)) (now (objects .exit)) (tableIn (widths .entry) (now (bytes .exit)) (now (wide .exit)))) ⌝ }
+    ensures { λ r. ⌜ Compiles policy (lentAs widths (now (users .entry)) (now (objects .entry)) (now (table .entry)) (now («wide_users» .entry)) (now («wide_objects» .entry)) (now («wide_table» .entry))) r (lentAs widths (now (users .exit)) (now (objects .exit)) (now (table .exit)) (now («wide_users» .exit)) (now («wide_objects» .exit)) (now («wide_table» .exit))) ⌝ }
 {
     if !validity::check(policy) {
         return Compiled::Refused(Refusal::InvalidState);
@@ -77,7 +79,17 @@ fn compile(
     }
     let mut entries = [0u16; MOST_TUPLES];
     let view = grid::enter(&mut entries, policy);
-    buffers::store(&entries, view, widths, users, objects, bytes, wide)
+    buffers::store(
+        &entries,
+        view,
+        widths,
+        users,
+        objects,
+        table,
+        wide_users,
+        wide_objects,
+        wide_table,
+    )
 }
 
 // Fills the three lent buffers, labels and table in bytes, of a policy whose form has these widths.
@@ -89,8 +101,19 @@ pub fn compile_8_8(
 ) -> Compiled
     ensures { λ r. ⌜ Compiles policy (lent (bits 8 8) (now (users .entry)) (now (objects .entry)) (now (table .entry))) r (lent (bits 8 8) (now (users .exit)) (now (objects .exit)) (now (table .exit))) ⌝ }
 {
-    let mut none = [0u16; 0];
-    compile(policy, limits::WIDTHS_8_8, users, objects, table, &mut none)
+    let mut no_users = [0u16; 0];
+    let mut no_objects = [0u16; 0];
+    let mut no_table = [0u16; 0];
+    compile(
+        policy,
+        limits::WIDTHS_8_8,
+        users,
+        objects,
+        table,
+        &mut no_users,
+        &mut no_objects,
+        &mut no_table,
+    )
 }
 
 // The same with labels in bytes and a table of 16-bit entries.
@@ -102,13 +125,41 @@ pub fn compile_8_16(
 ) -> Compiled
     ensures { λ r. ⌜ Compiles policy (lent (bits 8 16) (now (users .entry)) (now (objects .entry)) (now (table .entry))) r (lent (bits 8 16) (now (users .exit)) (now (objects .exit)) (now (table .exit))) ⌝ }
 {
-    let mut none = [0u8; 0];
+    let mut no_users = [0u16; 0];
+    let mut no_objects = [0u16; 0];
+    let mut no_table = [0u8; 0];
     compile(
         policy,
         limits::WIDTHS_8_16,
         users,
         objects,
-        &mut none,
+        &mut no_table,
+        &mut no_users,
+        &mut no_objects,
+        table,
+    )
+}
+
+// The same with labels and entries of 16 bits.
+pub fn compile_16_16(
+    policy: PolicyValue,
+    users: &mut [u16],
+    objects: &mut [u16],
+    table: &mut [u16],
+) -> Compiled
+    ensures { λ r. ⌜ Compiles policy (lent (bits 16 16) (now (users .entry)) (now (objects .entry)) (now (table .entry))) r (lent (bits 16 16) (now (users .exit)) (now (objects .exit)) (now (table .exit))) ⌝ }
+{
+    let mut no_users = [0u8; 0];
+    let mut no_objects = [0u8; 0];
+    let mut no_table = [0u8; 0];
+    compile(
+        policy,
+        limits::WIDTHS_16_16,
+        &mut no_users,
+        &mut no_objects,
+        &mut no_table,
+        users,
+        objects,
         table,
     )
 }

@@ -14,7 +14,7 @@ pub struct UserClasses(pub Classes);
 pub struct ObjectClasses(pub Classes);
 
 // The label of a user set.
-pub fn user_label(labels: &[u8; MOST_SETS], u: usize) -> UserLabel
+pub fn user_label(labels: &[u16; MOST_SETS], u: usize) -> UserLabel
     requires { ⌜ u < mostSets ⌝ }
     ensures { λ r. ⌜ r .0 ≡ getD (now (labels .entry)) u 0 ⌝ }
 {
@@ -22,7 +22,7 @@ pub fn user_label(labels: &[u8; MOST_SETS], u: usize) -> UserLabel
 }
 
 // The label of an object set.
-pub fn object_label(labels: &[u8; MOST_SETS], o: usize) -> ObjectLabel
+pub fn object_label(labels: &[u16; MOST_SETS], o: usize) -> ObjectLabel
     requires { ⌜ o < mostSets ⌝ }
     ensures { λ r. ⌜ r .0 ≡ getD (now (labels .entry)) o 0 ⌝ }
 {

@@ -36,6 +36,17 @@ actions-stored form = stored (eqb form 1) (eqb form 3)
     stored false true = lit≤ tt
     stored false false = lit≤ tt
 
+-- a label is below the number of sets of its side
+pub values-stored : (form : ℕ) → values form ≤ storedWidths form .label
+unfolding values storedWidths
+values-stored form = stored (eqb form 1) (eqb form 3) (λ b c. omega (arith, eqb-true form 1 b, eqb-true form 3 c))
+  where
+    stored : (b c : Bool) → (b ≡ true → c ≡ true → ⊥) → cond c 9 7 ≤ cond b (bits 8 8) (cond c (bits 16 16) (bits 8 16)) .label
+    stored true true e = absurd (e refl refl)
+    stored true false e = lit≤ tt
+    stored false true e = lit≤ tt
+    stored false false e = lit≤ tt
+
 pub form-few : (form : ℕ) → isForm form ≡ true → form < 10 ^ mostDigits
 form-few form e = ⊎-elim (λ h. omega (arith, eqb-true form 1 h)) later (or-cases (eqb form 1) (eqb form 2 || eqb form 3) e)
   where

@@ -128,11 +128,7 @@ fn stored_widths(form: u32) -> Widths
 pub fn tuple_bits(form: u32) -> u32
     ensures { λ r. ⌜ r ≡ limits.tupleBits form ⌝ }
 {
-    if form == FORM_3 {
-        TUPLE_32
-    } else {
-        TUPLE_16
-    }
+    if form == FORM_3 { TUPLE_32 } else { TUPLE_16 }
 }
 
 // Whether a call that is made for these widths is made for the form's own.

@@ -8,7 +8,7 @@ use borrow.Author.Tests.{not-true, not-false}
 use Rattle.policy.specs.Limits.{mostTuples, ownWidths}
 use Rattle.policy.specs.Value.{policyOf}
 use Rattle.policy.specs.Valid.{valid}
-use Rattle.labels.proofs.Storing.{narrow, refused-value, refused-widths}
+use Rattle.labels.proofs.Storing.{narrow, sets-few, refused-value, refused-widths}
 use Rattle.labels.proofs.compile.Statement.{statement}
 use Rattle.labels.proofs.compile.Tie as tie
 
@@ -18,7 +18,7 @@ check-requires c κs = search needs
 returns : tie.Need-returns
 returns c = refused-value _ _ _ _ _ (sym (c .before .check .ensures) ∙ not-true (c .before .check .result) (c .if1 .taken))
 
-ok : (c : tie.Else1) → valid (c .before .before .before .before .before .before .args .policy) ≡ true
+ok : (c : tie.Else1) → valid (c .before .before .before .before .before .before .before .before .args .policy) ≡ true
 ok c = sym (c .before .check .ensures) ∙ not-false (c .before .check .result) (c .if1 .left)
 
 own-widths-requires : tie.Need-own-widths-requires
@@ -27,7 +27,7 @@ own-widths-requires c κs = search needs
 returns-2 : tie.Need-returns-2
 returns-2 c = refused-widths _ _ _ _ _ (sym (c .before .own-widths .ensures) ∙ not-true (c .before .own-widths .result) (c .if2 .taken))
 
-own : (c : tie.Else2) → let a = c .before .before .before .before .before .before .before .before .args in ownWidths (a .policy .form) (a .widths) ≡ true
+own : (c : tie.Else2) → let a = c .before .before .before .before .before .before .before .before .before .before .args in ownWidths (a .policy .form) (a .widths) ≡ true
 own c = sym (c .before .own-widths .ensures) ∙ not-false (c .before .own-widths .result) (c .if2 .left)
 
 enter-requires : tie.Need-enter-requires
@@ -36,7 +36,12 @@ enter-requires c κs = (ok (c .before .before .before), length-replicate {A = �
 store-requires : tie.Need-store-requires
 unfolding policyOf
 store-requires c κs =
-    let e = c .before .before .before .before .before in (e .enter .ensures .0, narrow _ (own (e .before .before)) (e .enter .ensures .1))
+    let e = c .before .before .before .before .before .before .before .enter .ensures in
+    let few = sets-few _ (ok (c .before .before .before .before .before .before .before .before .before .before .before)) _ (own (c .before .before .before .before .before .before .before .before .before)) in
+    (e .0, narrow _ (own (c .before .before .before .before .before .before .before .before .before)) (e .1), rw (e .1 .users) (few .0), rw (e .1 .objects) (few .1))
+
+returns-3 : tie.Need-returns-3
+returns-3 c = c .before .before .before .before .before .before .before .before .before .before .before .before .store .ensures _ (ok (c .before .before .before .before .before .before .before .before .before .before .before .before .before .before .before .before .before .before .before .before .before .before .before .before)) (own (c .before .before .before .before .before .before .before .before .before .before .before .before .before .before .before .before .before .before .before .before .before .before)) (c .before .before .before .before .before .before .before .before .before .before .before .before .before .before .before .before .before .before .before .before .enter .ensures .1)
 
 same-length : tie.Need-same-length
 same-length c = search needs
@@ -50,10 +55,11 @@ same-length-3 c = search needs
 same-length-4 : tie.Need-same-length-4
 same-length-4 c = search needs
 
-returns-3 : tie.Need-returns-3
-returns-3 c =
-    let e = c .before .before .before .before .before .before .before .before .before .before .before .before .before .before in
-    c .before .before .before .before .before .before .before .before .store .ensures _ (ok (e .before .before .before .before)) (own (e .before .before)) (e .enter .ensures .1)
+same-length-5 : tie.Need-same-length-5
+same-length-5 c = search needs
+
+same-length-6 : tie.Need-same-length-6
+same-length-6 c = search needs
 
 pub compile-spec : {M : Type 1} → statement M
 compile-spec =
@@ -69,4 +75,6 @@ compile-spec =
     same-length-2
     same-length-3
     same-length-4
+    same-length-5
+    same-length-6
     returns-3)

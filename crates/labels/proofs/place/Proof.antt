@@ -1,4 +1,4 @@
--- `labels::place` meets its contract: a label is below 2^8 and a count below 2^32, so nothing wraps.
+-- `labels::place` meets its contract: a label is below 2^16 and a count below 2^32, so nothing wraps.
 use Prim.Native.Nat.{_*_, _≤_}
 use native.Mathlib.Nat.{mul-le-mul}
 use native.Mathlib.Omega.{arith}
@@ -6,9 +6,9 @@ use borrow.Author.Needs.{needs}
 use Rattle.labels.proofs.place.Statement.{statement}
 use Rattle.labels.proofs.place.Tie as tie
 
-small : (c : tie.After-struct-known) → c .before .args .user .0 * c .before .args .objects ≤ 255 * 4294967295
+small : (c : tie.After-struct-known) → c .before .args .user .0 * c .before .args .objects ≤ 65535 * 4294967295
 small c =
-    let u : c .before .args .user .0 ≤ 255 = omega arith in
+    let u : c .before .args .user .0 ≤ 65535 = omega arith in
     let n : c .before .args .objects ≤ 4294967295 = omega arith in
     mul-le-mul u n
 

@@ -36,6 +36,10 @@ pub record Inside (view : View) : Type 0 where
 abbrev pub Narrow : ℕ → List ℕ → View → Type 0
 Narrow bits grid view = (u o : ℕ) → u < view .rows → o < view .columns → cell grid view u o < 2 ^ bits
 
+-- each of the first n labels fits so many bits
+abbrev pub Fit : ℕ → ℕ → List ℕ → Type 0
+Fit bits n labels = (u : ℕ) → u < n → getD labels u 0 < 2 ^ bits
+
 -- the user sets of a policy are the rows
 pub record ViewOf (p : Policy) (view : View) : Type 0 where
   pub users : view .rows ≡ sets (p .user)

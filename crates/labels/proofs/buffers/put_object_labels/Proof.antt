@@ -1,24 +1,31 @@
 -- `labels::buffers::put_object_labels` meets its contract, by the laws of putting.
 use Prim.Native.Nat.{_-_}
+use mathlib.Core.Path.{_≡_, refl}
+use lib.ListN.{length}
 use borrow.Author.Needs.{needs}
+use Rattle.labels.specs.Inner.Lending.{lentIn}
 use Rattle.labels.proofs.Putting.{Putting, putting-none, putting-room, putting-more, putting-all}
 use Rattle.labels.proofs.buffers.put_object_labels.Statement.{statement}
 use Rattle.labels.proofs.buffers.put_object_labels.Tie as tie
 
 abbrev Inv-loop : tie.InvT-loop
-Inv-loop buffer₀ n labels o₀ buffer o = Putting labels n o buffer₀ buffer
+Inv-loop width bytes₀ wide₀ n labels o₀ bytes wide o =
+    Putting labels n o (lentIn width bytes₀ wide₀) (lentIn width bytes wide)
+    × (length bytes ≡ length bytes₀) × (length wide ≡ length wide₀)
 
 abbrev μ-loop : tie.MeasureT-loop
-μ-loop buffer₀ n labels o₀ buffer o = n - o
+μ-loop width bytes₀ wide₀ n labels o₀ bytes wide o = n - o
 
 loop-holds : tie.Need-loop-holds Inv-loop μ-loop
-loop-holds c = search putting-none
+loop-holds c = (putting-none _ _ _ (c .before .before .before .pre .1), refl, refl)
 
 object-label-requires : tie.Need-object-label-requires Inv-loop μ-loop
 object-label-requires c κs = search needs
 
-slice-write-buffer : tie.Need-slice-write-buffer Inv-loop μ-loop
-slice-write-buffer c = search putting-room
+put-requires : tie.Need-put-requires Inv-loop μ-loop
+put-requires c κs =
+    let t = c .before .before .before .before in
+    (putting-room (t .before .loop .inv .0) (t .loop-test .taken), rw (c .before .before .object-label .ensures) (t .before .before .before .before .before .pre .2 _ (t .loop-test .taken)))
 
 add-o : tie.Need-add-o Inv-loop μ-loop
 add-o c = search needs
@@ -27,13 +34,19 @@ loop-less : tie.Need-loop-less Inv-loop μ-loop
 loop-less c = search needs
 
 loop-again : tie.Need-loop-again Inv-loop μ-loop
-loop-again c = search putting-more
+loop-again c =
+    let e = c .before .before .before .before .before .before .before in
+    let t = e .before .before in
+    (rw (← c .before .before .before .before .put .ensures) at (putting-more (t .before .loop .inv .0) (t .loop-test .taken) (e .object-label .ensures)), search needs, search needs)
 
 same-length : tie.Need-same-length Inv-loop μ-loop
-same-length c = c .before .loop .inv .filled .size
+same-length c = c .before .loop .inv .1
+
+same-length-2 : tie.Need-same-length-2 Inv-loop μ-loop
+same-length-2 c = c .before .loop .inv .2
 
 returns : tie.Need-returns Inv-loop μ-loop
-returns c = search putting-all
+returns c = putting-all (c .before .loop .inv .0) (c .loop-test .left)
 
 pub put-object-labels-spec : {M : Type 1} → statement M
 put-object-labels-spec =
@@ -43,9 +56,10 @@ put-object-labels-spec =
     μ-loop
     loop-holds
     object-label-requires
-    slice-write-buffer
+    put-requires
     add-o
     loop-less
     loop-again
     same-length
+    same-length-2
     returns)

@@ -10,7 +10,7 @@ use lib.ListN.{length, getD}
 use borrow.Author.Needs.{needs}
 use Rattle.basis.proofs.Filled.{Filled, filled-none, filled-count, filled-same, filled-over, in-row, Further, further-none, further-more, further-count}
 use Rattle.labels.specs.Inner.Grid.{cell}
-use Rattle.labels.specs.Inner.Table.{tableIn}
+use Rattle.labels.specs.Inner.Lending.{lentIn}
 use Rattle.labels.specs.declared.grid.View.{View}
 use Rattle.labels.proofs.Turn.{leading-row, leading-label}
 use Rattle.labels.proofs.buffers.put_table.Statement.{statement}
@@ -21,26 +21,29 @@ abbrev atPlace : List ℕ → View → List ℕ → List ℕ → ℕ → ℕ →
 atPlace grid view users objects n i = cell grid view (getD users (i / n) 0) (getD objects (i % n) 0)
 
 abbrev Inv-loop2 : tie.InvT-loop2
-Inv-loop2 entry bytes₀ wide₀ grid view user-labels users object-labels objects nu no' k u ul l₀ bytes wide l =
-    (l ≤ no') × Further (atPlace grid view users objects no') (k * no') (k * no' + l) (tableIn entry bytes₀ wide₀) (tableIn entry bytes wide)
+Inv-loop2 width bytes₀ wide₀ grid view user-labels users object-labels objects nu no' k u ul l₀ bytes wide l =
+    (l ≤ no') × Further (atPlace grid view users objects no') (k * no') (k * no' + l) (lentIn width bytes₀ wide₀) (lentIn width bytes wide)
     × (length bytes ≡ length bytes₀) × (length wide ≡ length wide₀)
 
 abbrev μ-loop2 : tie.MeasureT-loop2
-μ-loop2 entry bytes₀ wide₀ grid view user-labels users object-labels objects nu no' k u ul l₀ bytes wide l = no' - l
+μ-loop2 width bytes₀ wide₀ grid view user-labels users object-labels objects nu no' k u ul l₀ bytes wide l = no' - l
 
 abbrev Inv-loop : tie.InvT-loop
-Inv-loop entry bytes₀ wide₀ grid view user-labels users object-labels objects nu no' k₀ bytes wide k =
-    (k ≤ nu) × Filled (atPlace grid view users objects no') (k * no') (tableIn entry bytes₀ wide₀) (tableIn entry bytes wide)
+Inv-loop width bytes₀ wide₀ grid view user-labels users object-labels objects nu no' k₀ bytes wide k =
+    (k ≤ nu) × Filled (atPlace grid view users objects no') (k * no') (lentIn width bytes₀ wide₀) (lentIn width bytes wide)
     × (length bytes ≡ length bytes₀) × (length wide ≡ length wide₀)
 
 abbrev μ-loop : tie.MeasureT-loop
-μ-loop entry bytes₀ wide₀ grid view user-labels users object-labels objects nu no' k₀ bytes wide k = nu - k
+μ-loop width bytes₀ wide₀ grid view user-labels users object-labels objects nu no' k₀ bytes wide k = nu - k
 
 loop-holds : tie.Need-loop-holds Inv-loop2 μ-loop2 Inv-loop μ-loop
 loop-holds c = (search needs, filled-count (filled-none _ _) (omega arith), refl, refl)
 
 cast-wide : tie.Need-cast-wide Inv-loop2 μ-loop2 Inv-loop μ-loop
 cast-wide c = search needs
+
+mul-wide : tie.Need-mul-wide Inv-loop2 μ-loop2 Inv-loop μ-loop
+mul-wide c = search needs
 
 array-read-wide : tie.Need-array-read-wide Inv-loop2 μ-loop2 Inv-loop μ-loop
 array-read-wide c = search needs
@@ -59,6 +62,9 @@ loop2-holds c = (search needs, further-count (further-none _ _ _) (omega arith),
 
 cast-wide-2 : tie.Need-cast-wide-2 Inv-loop2 μ-loop2 Inv-loop μ-loop
 cast-wide-2 c = search needs
+
+mul-wide-2 : tie.Need-mul-wide-2 Inv-loop2 μ-loop2 Inv-loop μ-loop
+mul-wide-2 c = search needs
 
 array-read-wide-2 : tie.Need-array-read-wide-2 Inv-loop2 μ-loop2 Inv-loop μ-loop
 array-read-wide-2 c = search needs
@@ -102,7 +108,7 @@ next c =
 room : (c : tie.After-entry Inv-loop2 μ-loop2 Inv-loop μ-loop)
     → let t = c .before .before .before .before .before in let m = t .before .before .before .before .before .before in
     m .loop .k * m .before .before .before .before .before .before .before .args .counts .objects + t .before .loop2 .l
-    < length (tableIn (m .before .before .before .before .before .before .before .args .entry) (t .before .loop2 .bytes) (t .before .loop2 .wide))
+    < length (lentIn (m .before .before .before .before .before .before .before .args .width) (t .before .loop2 .bytes) (t .before .loop2 .wide))
 room c =
     let t = c .before .before .before .before .before in
     let l = t .before .before .before .before .before in
@@ -194,11 +200,13 @@ put-table-spec =
     μ-loop
     loop-holds
     cast-wide
+    mul-wide
     array-read-wide
     wide-requires
     user-label-requires
     loop2-holds
     cast-wide-2
+    mul-wide-2
     array-read-wide-2
     wide-requires-2
     object-label-requires

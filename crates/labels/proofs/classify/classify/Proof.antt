@@ -31,11 +31,17 @@ cast-labels c =
     let s = l .before .pre in
     omega (arith, s .few-rows, found-le (rows-equivalence _ _ _) (l .loop .inv) (c .before .before .loop-test .taken) _ (c .label-of .ensures))
 
+mul-labels : tie.Need-mul-labels Inv-loop μ-loop
+mul-labels c = search needs
+
 array-write-labels : tie.Need-array-write-labels Inv-loop μ-loop
 array-write-labels c = search needs
 
 cast-leaders : tie.Need-cast-leaders Inv-loop μ-loop
 cast-leaders c = search needs
+
+mul-leaders : tie.Need-mul-leaders Inv-loop μ-loop
+mul-leaders c = search needs
 
 array-write-leaders : tie.Need-array-write-leaders Inv-loop μ-loop
 array-write-leaders c = omega arith
@@ -71,8 +77,10 @@ classify-spec =
     loop-holds
     label-of-requires
     cast-labels
+    mul-labels
     array-write-labels
     cast-leaders
+    mul-leaders
     array-write-leaders
     add-count
     add-u

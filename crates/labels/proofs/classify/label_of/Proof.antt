@@ -24,6 +24,9 @@ abbrev μ-next : tie.MeasureT-next
 next-holds : tie.Need-next-holds Inv-loop μ-loop Inv-next μ-next
 next-holds c = record { within = search needs; before = below-none _ }
 
+mul-wide : tie.Need-mul-wide Inv-loop μ-loop Inv-next μ-next
+mul-wide c = search needs
+
 element-copy-out-wide : tie.Need-element-copy-out-wide Inv-loop μ-loop Inv-next μ-next
 element-copy-out-wide c = search needs
 
@@ -81,6 +84,7 @@ label-of-spec =
     Inv-next
     μ-next
     next-holds
+    mul-wide
     element-copy-out-wide
     wide-requires
     loop-holds

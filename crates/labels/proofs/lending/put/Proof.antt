@@ -1,10 +1,10 @@
--- `labels::tables::put` meets its contract: in either width, the place gets the entry.
+-- `labels::lending::put` meets its contract: in either width, the place gets the number.
 use mathlib.Core.Path.{refl}
 use native.Mathlib.Omega.{arith}
 use borrow.Author.Needs.{needs}
 use borrow.Author.Tests.{eq-eqb, ne-eqb}
-use Rattle.labels.proofs.tables.put.Statement.{statement}
-use Rattle.labels.proofs.tables.put.Tie as tie
+use Rattle.labels.proofs.lending.put.Statement.{statement}
+use Rattle.labels.proofs.lending.put.Tie as tie
 
 cast-bytes : tie.Need-cast-bytes
 cast-bytes c = let h = c .before .pre .1 in let b = rw (c .if1 .taken) at h in omega (arith, b)

@@ -1,8 +1,8 @@
--- `labels::tables::length` meets its contract.
+-- `labels::lending::length` meets its contract.
 use mathlib.Core.Path.{refl}
 use borrow.Author.Tests.{eq-eqb, ne-eqb}
-use Rattle.labels.proofs.tables.length.Statement.{statement}
-use Rattle.labels.proofs.tables.length.Tie as tie
+use Rattle.labels.proofs.lending.length.Statement.{statement}
+use Rattle.labels.proofs.lending.length.Tie as tie
 
 returns : tie.Need-returns
 returns c = rw (eq-eqb _ _ (c .if1 .taken)) refl
