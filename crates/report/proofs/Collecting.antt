@@ -8,9 +8,10 @@ use lib.ListN.{length, take, drop, set}
 use lib.Seq.{take-at}
 use Rattle.basis.specs.Lists.{over}
 use Rattle.basis.specs.Numbers.{select}
-use Rattle.basis.proofs.Counting.{count-le, length-select, select-skip}
+use Rattle.basis.proofs.Counting.{select-skip}
 use Rattle.policy.specs.Limits.{mostActions}
-use Rattle.tuples.proofs.Marked.{Stored, stored-next}
+use Rattle.tuples.specs.Inner.Marks.{Stored}
+use Rattle.tuples.proofs.Marked.{stored-below, stored-next}
 use Rattle.report.specs.Inner.Cursor.{Stores}
 
 module _ {f : ℕ → Bool} {old : List ℕ} where
@@ -20,7 +21,7 @@ module _ {f : ℕ → Bool} {old : List ℕ} where
 
   module _ {a c : ℕ} {xs : List ℕ} (s : Stored f a old c xs) where
     pub stored-few : c ≤ a
-    stored-few = omega (arith, s .number, length-select f a, count-le f a)
+    stored-few = stored-below f a old c xs s
 
     -- the next one passes, or does not
     pub stored-hit : f a ≡ true → c < length old → Stored f (a + 1) old (c + 1) (set xs c a)

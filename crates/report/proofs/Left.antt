@@ -10,28 +10,33 @@ use lib.Dec.{leb, ltb}
 use lib.ListN.{length, getD, take, drop, length-take, drop-of-length-le}
 use lib.Seq.{drop-drop, getD-take, take-add, take-at}
 use Rattle.basis.specs.Lists.{over}
-use Rattle.basis.specs.Numbers.{count, select}
-use Rattle.basis.proofs.Counting.{count-le, length-select}
+use Rattle.basis.proofs.Counting.{count-le}
 use Rattle.basis.proofs.Walk.{rest-next}
 use Rattle.text.specs.Parts.{lineFeed, textOf}
 use Rattle.policy.specs.Limits.{mostTuples}
 use Rattle.policy.specs.Policy.{Policy, total}
 use Rattle.formula.specs.Inner.Lane.{lanes}
+use Rattle.formula.specs.Inner.Source.{SourceOf}
+use Rattle.formula.specs.declared.blocks.Source.{Source}
 use Rattle.tuples.specs.Tuples.{tuples}
-use Rattle.tuples.specs.Inner.Marks.{mostBlocks, marked, passing}
+use Rattle.tuples.specs.Inner.Blocks.{mostBlocks, pairBlocks, tupleAt, StripOf}
+use Rattle.tuples.specs.Inner.Marks.{marked, passing}
 use Rattle.tuples.specs.declared.marks.Marks.{Marks}
-use Rattle.tuples.proofs.From.{passing-all, passing-none}
+use Rattle.tuples.proofs.From.{passing-all, passing-end}
+use Rattle.tuples.proofs.Numbering.{blocks-few}
+use Rattle.tuples.proofs.Pairs.{tuples-are, tuples-count}
 use Rattle.writer.specs.Inner.Put.{Room, Put, each, feed}
 use Rattle.writer.proofs.Putting.{put-long}
 use Rattle.report.specs.Report.{actionLine, tupleLine, blocks, listed}
 use Rattle.report.specs.Inner.Lines.{lineRoom, ended, tupleText, Some}
-use Rattle.report.specs.Inner.Cursor.{heldBytes, marksEnd, tuplesLeft, blocksLeft, leftOf, HeldFits, Standing, isOver, Handed, Same}
+use Rattle.report.specs.Inner.Cursor.{heldBytes, marksEnd, numbersEnd, nextNumber, tuplesLeft, blocksLeft, leftOf, HeldFits, Standing, isOver, Handed, Same}
 use Rattle.report.specs.declared.lines.Lines.{Lines}
 use Rattle.report.specs.declared.cursor.Chunk.{Chunk}
 use Rattle.report.specs.declared.cursor.Cursor.{Cursor}
 use Rattle.report.specs.declared.cursor.Held.{Held}
+use Rattle.report.proofs.Onward.{some-onward}
 
--- a cursor with other bytes held, and one with other tuples
+-- a cursor with other bytes held, one with other tuples of its strip, and one in its next strip
 abbrev pub holding : Cursor → Held → Cursor
 holding c h = record { source = c .source; grants = c .grants; listed = c .listed; done = c .done; tuples = c .tuples; held = h }
 
@@ -42,7 +47,32 @@ listing c from =
       grants = c .grants;
       listed = c .listed;
       done = c .done;
-      tuples = record { action = c .tuples .action; values = c .tuples .values; from = from; marks = c .tuples .marks };
+      tuples = record {
+        action = c .tuples .action;
+        values = c .tuples .values;
+        first = c .tuples .first;
+        end = c .tuples .end;
+        from = from;
+        marks = c .tuples .marks;
+      };
+      held = c .held;
+    }
+
+abbrev pub onward : Cursor → Marks → Cursor
+onward c m =
+    record {
+      source = c .source;
+      grants = c .grants;
+      listed = c .listed;
+      done = c .done;
+      tuples = record {
+        action = c .tuples .action;
+        values = c .tuples .values;
+        first = c .tuples .first + c .tuples .marks .count;
+        end = c .tuples .end;
+        from = 0;
+        marks = m;
+      };
       held = c .held;
     }
 
@@ -100,14 +130,24 @@ module _ {p : Policy} {c : Cursor} (s : Standing p c) where
             tuples = s .tuples;
             held = record { low = omega (arith, s .held .low); high = s .held .high; long = s .held .long };
           };
-          left = rw held-parts (append-assoc (take (c .held .from + k - c .held .from) (drop (c .held .from) (c .held .bytes))) (heldBytes less) (tuplesLeft (c .tuples) ++ blocksLeft p (c .done)));
+          left = rw held-parts (append-assoc (take (c .held .from + k - c .held .from) (drop (c .held .from) (c .held .bytes))) (heldBytes less) (tuplesLeft p (c .tuples) ++ blocksLeft p (c .done)));
         }
 
   -- ---- lines of tuples
 
+  -- there are few blocks, and a strip ends within them
+  pub end-few : c .tuples .end ≤ mostBlocks
+  end-few = omega (arith, s .tuples .end, blocks-few p (s .source .sides))
+
+  pub strip-within : c .tuples .first + c .tuples .marks .count ≤ c .tuples .end
+  strip-within = omega (arith, s .tuples .strip .within, s .tuples .end)
+
+  strip-inside : c .tuples .first * lanes + marksEnd (c .tuples) ≤ numbersEnd (c .tuples)
+  strip-inside = omega (arith, strip-within)
+
   module _ (h : c .held .to ≤ c .held .from) where
     pub tuples-handed : {entry exit : List ℕ} {r : Lines}
-        → Some (tupleText (c .tuples .action) (c .tuples .values)) (marked (c .tuples .marks .words)) (marksEnd (c .tuples)) (c .tuples .from) entry exit r
+        → Some (λ k. tupleText (c .tuples .action) (c .tuples .values) (c .tuples .first * lanes + k)) (marked (c .tuples .marks .words)) (marksEnd (c .tuples)) (c .tuples .from) entry exit r
         → Handed p c entry exit (record { count = r .at; next = listing c (r .next) })
     unfolding leftOf
     tuples-handed {entry} {exit} {r} y =
@@ -119,11 +159,30 @@ module _ {p : Policy} {c : Cursor} (s : Standing p c) where
             grants = s .grants;
             stored = s .stored;
             within = s .within;
-            tuples = record { values = s .tuples .values; blocks = s .tuples .blocks; within = y .high };
+            tuples = record { values = s .tuples .values; end = s .tuples .end; strip = s .tuples .strip; within = y .high };
             held = s .held;
           };
-          left = rw (held-none (c .held) h, y .left) (append-assoc (y .text) (tuplesLeft (listing c (r .next) .tuples)) (blocksLeft p (c .done)));
+          left = rw (held-none (c .held) h, some-onward (tupleText (c .tuples .action) (c .tuples .values)) (tupleAt p (c .tuples .action)) (c .tuples .first * lanes) (c .tuples .marks .words) (c .tuples .marks .count) (numbersEnd (c .tuples)) (s .tuples .strip .marks) strip-inside y) (append-assoc (y .text) (tuplesLeft p (listing c (r .next) .tuples)) (blocksLeft p (c .done)));
         }
+
+  -- ---- the next strip
+
+  pub strip-same : (m : Marks) → marksEnd (c .tuples) ≤ c .tuples .from
+      → StripOf p (c .tuples .action) (c .tuples .first + c .tuples .marks .count) (m .count) (m .words) → Same p c (onward c m)
+  unfolding leftOf
+  strip-same m h t =
+      let e : (c .tuples .first + c .tuples .marks .count) * lanes + 0 ≡ nextNumber (c .tuples) = omega (arith, s .tuples .within) in
+      record {
+        stands = record {
+          source = s .source;
+          grants = s .grants;
+          stored = s .stored;
+          within = s .within;
+          tuples = record { values = s .tuples .values; end = s .tuples .end; strip = t; within = omega arith };
+          held = s .held;
+        };
+        left = rw e;
+      }
 
 -- bytes that would be handed out are held
 pub handed-held : {p : Policy} {c : Cursor} {entry exit : List ℕ} {r : Chunk} → Handed p c entry exit r → lineRoom ≡ length entry
@@ -154,9 +213,8 @@ abbrev pub actionAt : Cursor → ℕ
 actionAt c = getD (c .listed .actions) (c .done) 0
 
 pub record Marking (p : Policy) (a : ℕ) (m : Marks) (n : ℕ) : Type 0 where
-  pub blocks : m .count ≤ mostBlocks
-  pub tuples : select (marked (m .words)) (m .count * lanes) ≡ tuples p a
-  pub number : n ≡ count (marked (m .words)) (m .count * lanes)
+  pub first : StripOf p a 0 (m .count) (m .words)
+  pub number : n ≡ length (tuples p a)
 
 -- the cursor in the block of its next action
 abbrev pub begun : Cursor → ℕ → Marks → Held → Cursor
@@ -166,16 +224,20 @@ begun c a m h =
       grants = c .grants;
       listed = c .listed;
       done = c .done + 1;
-      tuples = record { action = a; values = c .tuples .values; from = 0; marks = m };
+      tuples = record { action = a; values = c .tuples .values; first = 0; end = c .tuples .end; from = 0; marks = m };
       held = h;
     }
 
-module _ {p : Policy} {a : ℕ} {m : Marks} {n : ℕ} (k : Marking p a m n) where
-  marking-length : n ≡ length (tuples p a)
-  marking-length = k .number ∙ sym (length-select (marked (m .words)) (m .count * lanes)) ∙ ap length (k .tuples)
+-- they are no more than all pairs of sets
+pub tuples-few : (p : Policy) (a : ℕ) {x : Source} → SourceOf p x → length (tuples p a) ≤ mostTuples
+tuples-few p a s = omega (arith, tuples-count p a, count-le (tupleAt p a) (pairBlocks p * lanes), blocks-few p (s .sides))
 
-  pub marking-few : n ≤ mostTuples
-  marking-few = omega (arith, k .number, count-le (marked (m .words)) (m .count * lanes), k .blocks)
+-- no lines of tuples are left past the end of the numbers
+over-tuples : (p : Policy) (c : Cursor) → numbersEnd (c .tuples) ≤ nextNumber (c .tuples) → tuplesLeft p (c .tuples) ≡ []
+unfolding each
+over-tuples p c h =
+    let e : passing (tupleAt p (c .tuples .action)) (nextNumber (c .tuples)) (numbersEnd (c .tuples)) ≡ [] = passing-end (tupleAt p (c .tuples .action)) _ _ h in
+    rw e
 
 module _ {p : Policy} {c : Cursor} (s : Standing p c) (h : c .done < c .listed .count) where
   abbrev action : ℕ
@@ -199,17 +261,13 @@ module _ {p : Policy} {c : Cursor} (s : Standing p c) (h : c .done < c .listed .
       (rw (textOf-append ls rest, textOf-each (tupleLine action (total (p .object))) ts)
       (sym (append-assoc (actionLine action (length ts)) feed (each (tupleText action (total (p .object))) ts ++ textOf rest))))
 
-  module _ {m : Marks} {n : ℕ} (k : Marking p action m n) (held : c .held .to ≤ c .held .from) (over : marksEnd (c .tuples) ≤ c .tuples .from)
+  module _ {m : Marks} {n : ℕ} (k : Marking p action m n) (held : c .held .to ≤ c .held .from) (over : numbersEnd (c .tuples) ≤ nextNumber (c .tuples))
       {entry exit : List ℕ} {r : ℕ} (y : Put (ended (actionLine action n)) 0 entry exit r) (l : lineRoom ≡ length entry) where
-    all-tuples : tuplesLeft (begun c action m (heldIn exit r) .tuples) ≡ each (tupleText action (total (p .object))) (tuples p action)
-    all-tuples = rw (passing-all (marked (m .words)) (m .count * lanes), k .tuples, s .tuples .values)
+    all-tuples : tuplesLeft p (begun c action m (heldIn exit r) .tuples) ≡ each (tupleText action (total (p .object))) (tuples p action)
+    all-tuples = rw (passing-all (tupleAt p action) (c .tuples .end * lanes), s .tuples .end, tuples-are p action, s .tuples .values)
 
-    no-tuples : tuplesLeft (c .tuples) ≡ []
-    unfolding each
-    no-tuples =
-        let e : passing (marked (c .tuples .marks .words)) (c .tuples .from) (marksEnd (c .tuples)) ≡ [] =
-        passing-none (marked (c .tuples .marks .words)) (c .tuples .from) (marksEnd (c .tuples)) (s .tuples .within) (λ i x z. absurd (omega arith)) in
-        rw e
+    no-tuples : tuplesLeft p (c .tuples) ≡ []
+    no-tuples = over-tuples p c over
 
     pub action-same : Same p c (begun c action m (heldIn exit r))
     unfolding leftOf
@@ -220,10 +278,10 @@ module _ {p : Policy} {c : Cursor} (s : Standing p c) (h : c .done < c .listed .
             grants = s .grants;
             stored = s .stored;
             within = omega arith;
-            tuples = record { values = s .tuples .values; blocks = k .blocks; within = omega arith };
+            tuples = record { values = s .tuples .values; end = s .tuples .end; strip = k .first; within = omega arith };
             held = held-fits y l;
           };
-          left = rw (held-none (c .held) held, no-tuples, block-lines, held-put y, all-tuples, marking-length k);
+          left = rw (held-none (c .held) held, no-tuples, block-lines, held-put y, all-tuples, k .number);
         }
 
 -- ---- the end
@@ -238,29 +296,31 @@ module _ {p : Policy} {c : Cursor} (s : Standing p c) where
   pub over-none : isOver c ≡ true → leftOf p c ≡ []
   unfolding isOver leftOf each blocks textOf
   over-none e =
-      let t = passed (ltb (c .held .from) (c .held .to)) (ltb (c .tuples .from) (marksEnd (c .tuples))) (leb (c .listed .count) (c .done)) e in
+      let t = passed (ltb (c .held .from) (c .held .to)) (ltb (nextNumber (c .tuples)) (numbersEnd (c .tuples))) (leb (c .listed .count) (c .done)) e in
       let a : c .held .to ≤ c .held .from = ltb-false (c .held .from) (c .held .to) (t .0) in
-      let b : marksEnd (c .tuples) ≤ c .tuples .from = ltb-false (c .tuples .from) (marksEnd (c .tuples)) (t .1) in
+      let b : numbersEnd (c .tuples) ≤ nextNumber (c .tuples) = ltb-false (nextNumber (c .tuples)) (numbersEnd (c .tuples)) (t .1) in
       let d : c .listed .count ≤ c .done = leb-true (c .listed .count) (c .done) (t .2) in
-      let q : passing (marked (c .tuples .marks .words)) (c .tuples .from) (marksEnd (c .tuples)) ≡ [] =
-      passing-none (marked (c .tuples .marks .words)) (c .tuples .from) (marksEnd (c .tuples)) (s .tuples .within) (λ i x z. absurd (omega arith)) in
       let w : drop (c .done) (listed p) ≡ [] = drop-of-length-le (listed p) {i = c .done} (omega (arith, s .stored .number)) in
-      rw (held-none (c .held) a, q, w)
+      rw (held-none (c .held) a, over-tuples p c b, w)
 
 -- an action is left where nothing else is
-pub action-left : (c : Cursor) → isOver c ≡ false → c .held .to ≤ c .held .from → marksEnd (c .tuples) ≤ c .tuples .from → c .done < c .listed .count
+pub action-left : (c : Cursor) → isOver c ≡ false → c .held .to ≤ c .held .from → numbersEnd (c .tuples) ≤ nextNumber (c .tuples) → c .done < c .listed .count
 unfolding isOver
 action-left c e a b =
     leb-false (c .listed .count) (c .done)
-    (rw (le-ltb (c .held .from) (c .held .to) a, le-ltb (c .tuples .from) (marksEnd (c .tuples)) b) at e)
+    (rw (le-ltb (c .held .from) (c .held .to) a, le-ltb (nextNumber (c .tuples)) (numbersEnd (c .tuples)) b) at e)
 
 -- ---- the start
 
+-- no words mark no blocks
+pub no-strip : (p : Policy) (a end : ℕ) (m : Marks) → end ≡ pairBlocks p → m .count ≡ 0 → StripOf p a end (m .count) (m .words)
+no-strip p a end m e n =
+    record { few = omega (arith, n); within = omega (arith, e, n); some = λ h. absurd (omega (arith, e)); marks = λ x h. absurd (omega (arith, n)) }
+
 -- before the first tuple the line held and the blocks of all listed actions are left
-pub start-left : (p : Policy) (c : Cursor) {q : Policy} {line : List ℕ} → c .tuples .marks .count ≡ 0 → c .tuples .from ≡ 0 → c .done ≡ 0 → heldBytes (c .held) ≡ line
+pub start-left : (p : Policy) (c : Cursor) {q : Policy} {line : List ℕ} → c .tuples .end ≡ c .tuples .first → c .tuples .from ≡ 0 → c .done ≡ 0 → heldBytes (c .held) ≡ line
     → p ≡ q → line ++ textOf (blocks q (listed q)) ≡ leftOf p c
 unfolding leftOf each
 start-left p c n f i h e =
-    let z : passing (marked (c .tuples .marks .words)) (c .tuples .from) (marksEnd (c .tuples)) ≡ [] =
-    passing-none (marked (c .tuples .marks .words)) (c .tuples .from) (marksEnd (c .tuples)) (omega (arith, f)) (λ k x y. absurd (omega (arith, n))) in
+    let z : passing (tupleAt p (c .tuples .action)) (nextNumber (c .tuples)) (numbersEnd (c .tuples)) ≡ [] = passing-end (tupleAt p (c .tuples .action)) _ _ (omega (arith, n, f)) in
     rw (z, i, h, e)

@@ -2,6 +2,7 @@ pub mod Short
 pub mod Whole
 pub mod Rest
 pub mod Going
+pub mod Onward
 pub mod Left
 pub mod Collecting
 pub mod Falls

@@ -61,10 +61,13 @@ pub fn start(text: &[u8]) -> Cursor
     let sides = source.sides;
     let starts = sides.object;
     let values = attributes::total(starts);
+    let end = tuples::blocks::pair_blocks(sides);
     let marks = marks::none();
     let tuples = Tuples {
         action: 0,
         values,
+        first: end,
+        end,
         from: 0,
         marks,
     };

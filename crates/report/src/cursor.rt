@@ -5,7 +5,7 @@ ghost use mathlib.Core.Bool.{false};
 ghost use lib.ListN.{length};
 ghost use Rattle.policy.specs.Policy.{Policy};
 ghost use Rattle.report.specs.Inner.Lines.{lineRoom};
-ghost use Rattle.report.specs.Inner.Cursor.{Standing, Handed, Same, marksEnd, isOver, remaining};
+ghost use Rattle.report.specs.Inner.Cursor.{Standing, Handed, Same, marksEnd, numbersEnd, nextNumber, isOver, remaining};
 use crate::lines;
 use crate::lines::ROOM;
 use crate::listed::Listed;
@@ -14,8 +14,8 @@ use formula::grant;
 use formula::grant::Grants;
 use formula::side::LANES;
 use tuples::blocks;
-use tuples::marks;
 use tuples::marks::Marks;
+use tuples::strips;
 use writer::bytes;
 
 // Bytes that were worked out and not yet handed out: those from `from` on and before `to`.
@@ -25,10 +25,13 @@ pub struct Held {
     pub bytes: [u8; ROOM],
 }
 
-// The tuples of an action whose lines are left: those marked from `from` on. `values` is that of the object side.
+// The tuples of an action whose lines are left: of the strip that starts at block `first`, those marked from `from` on,
+// and those of the strips behind it, up to block `end`. `values` is that of the object side.
 pub struct Tuples {
     pub action: u32,
     pub values: u32,
+    pub first: usize,
+    pub end: usize,
     pub from: usize,
     pub marks: Marks,
 }
@@ -66,8 +69,7 @@ pub fn is_over(c: Cursor) -> bool
         return false;
     }
     let tuples = c.tuples;
-    let marks = tuples.marks;
-    if tuples.from < marks.count * LANES {
+    if tuples.first * LANES + tuples.from < tuples.end * LANES {
         return false;
     }
     let listed = c.listed;
@@ -111,6 +113,7 @@ fn hand_tuples(c: Cursor, buf: &mut [u8]) -> Chunk
     let lines = lines::tuple_lines(
         tuples.action,
         tuples.values,
+        tuples.first * LANES,
         &words,
         marks.count,
         tuples.from,
@@ -119,6 +122,8 @@ fn hand_tuples(c: Cursor, buf: &mut [u8]) -> Chunk
     let rest = Tuples {
         action: tuples.action,
         values: tuples.values,
+        first: tuples.first,
+        end: tuples.end,
         from: lines.next,
         marks,
     };
@@ -147,9 +152,33 @@ fn hold_tuples(c: Cursor) -> Cursor
     next
 }
 
+// The tuples of the next strip.
+fn with_strip(c: Cursor) -> Cursor
+    requires { ⌜ ((p : Policy) × Standing p c) × (marksEnd (c .tuples) ≤ c .tuples .from) × (c .tuples .first + c .tuples .marks .count < c .tuples .end) ⌝ }
+    ensures { λ r. ⌜ ((p : Policy) → Standing p c → Same p c r) × (remaining r < remaining c) ⌝ }
+{
+    let tuples = c.tuples;
+    let made = tuples.marks;
+    let first = tuples.first + made.count;
+    let source = c.source;
+    let grants = c.grants;
+    let marks = blocks::marks(source, grant::of_action(grants, tuples.action), first);
+    let strip = Tuples {
+        action: tuples.action,
+        values: tuples.values,
+        first,
+        end: tuples.end,
+        from: 0,
+        marks,
+    };
+    let mut next = c;
+    next.tuples = strip;
+    next
+}
+
 // The tuples of the next action, with the action's line held back.
 fn with_action(c: Cursor) -> Cursor
-    requires { ⌜ ((p : Policy) × Standing p c) × (c .held .to ≤ c .held .from) × (marksEnd (c .tuples) ≤ c .tuples .from) × (c .done < c .listed .count) ⌝ }
+    requires { ⌜ ((p : Policy) × Standing p c) × (c .held .to ≤ c .held .from) × (numbersEnd (c .tuples) ≤ nextNumber (c .tuples)) × (c .done < c .listed .count) ⌝ }
     ensures { λ r. ⌜ ((p : Policy) → Standing p c → Same p c r) × (remaining r < remaining c) ⌝ }
 {
     let listed = c.listed;
@@ -158,9 +187,10 @@ fn with_action(c: Cursor) -> Cursor
     let action = actions[i];
     let source = c.source;
     let grants = c.grants;
-    let marks = blocks::marks(source, grant::of_action(grants, action));
+    let grant = grant::of_action(grants, action);
+    let marks = blocks::marks(source, grant, 0);
     let words = marks.words;
-    let count = marks::count(&words, marks.count);
+    let count = strips::count(source, grant, &words, marks.count);
     let mut line = blank();
     let to = lines::action_line(action, count as u32, &mut line);
     let held = Held {
@@ -172,6 +202,8 @@ fn with_action(c: Cursor) -> Cursor
     let tuples = Tuples {
         action,
         values: before.values,
+        first: 0,
+        end: before.end,
         from: 0,
         marks,
     };
@@ -182,6 +214,20 @@ fn with_action(c: Cursor) -> Cursor
         done: i + 1,
         tuples,
         held,
+    }
+}
+
+// The tuples of the next strip, or of the next action.
+fn with_more(c: Cursor) -> Cursor
+    requires { ⌜ ((p : Policy) × Standing p c) × (isOver c ≡ false) × (c .held .to ≤ c .held .from) × (marksEnd (c .tuples) ≤ c .tuples .from) ⌝ }
+    ensures { λ r. ⌜ ((p : Policy) → Standing p c → Same p c r) × (remaining r < remaining c) ⌝ }
+{
+    let tuples = c.tuples;
+    let marks = tuples.marks;
+    if tuples.first + marks.count < tuples.end {
+        with_strip(c)
+    } else {
+        with_action(c)
     }
 }
 
@@ -197,7 +243,7 @@ pub fn step(c: Cursor, buf: &mut [u8]) -> Chunk
     let tuples = c.tuples;
     let marks = tuples.marks;
     if marks.count * LANES <= tuples.from {
-        let next = with_action(c);
+        let next = with_more(c);
         return Chunk { count: 0, next };
     }
     if buf.len() < ROOM {

@@ -1,9 +1,10 @@
 // The lines of a report, each put at the start of a lent buffer.
 ghost use mathlib.Core.Path.{_≡_};
-ghost use Prim.Native.Nat.{_*_, _/_, _%_, _^_, _<_, _≤_};
+ghost use Prim.Native.Nat.{_+_, _*_, _/_, _%_, _^_, _<_, _≤_};
 ghost use lib.ListN.{length};
+ghost use Rattle.policy.specs.Limits.{mostTuples};
 ghost use Rattle.formula.specs.Inner.Lane.{lanes};
-ghost use Rattle.tuples.specs.Inner.Marks.{mostBlocks, marked};
+ghost use Rattle.tuples.specs.Inner.Marks.{stripWords, marked};
 ghost use Rattle.writer.specs.Inner.Put.{Put};
 ghost use Rattle.report.specs.Report.{refusalLine, labelsLine, actionLine};
 ghost use Rattle.report.specs.Inner.Lines.{lineRoom, ended, tupleText, Some};
@@ -72,17 +73,19 @@ fn tuple_line(action: u32, values: u32, n: u32, buf: &mut [u8]) -> usize
     line::put_three(b"tuple", action, user, object, buf)
 }
 
-// The lines of an action's tuples from the number `from` on, as long as there is room for a line.
+// The lines of the tuples that the first n words mark from their bit `from` on, as long as there is room for a line.
+// The first bit of these words is number `start`.
 pub fn tuple_lines(
     action: u32,
     values: u32,
+    start: usize,
     words: &[u64; WORDS],
     n: usize,
     from: usize,
     buf: &mut [u8],
 ) -> Lines
-    requires { ⌜ (values < 32) × (n ≤ mostBlocks) × (from ≤ n * lanes) ⌝ }
-    ensures { λ r. ⌜ Some (tupleText action values) (marked (now (words .entry))) (n * lanes) from (now (buf .entry)) (now (buf .exit)) r ⌝ }
+    requires { ⌜ (values < 32) × (start ≤ mostTuples) × (n ≤ stripWords) × (from ≤ n * lanes) ⌝ }
+    ensures { λ r. ⌜ Some (λ k. tupleText action values (start + k)) (marked (now (words .entry))) (n * lanes) from (now (buf .entry)) (now (buf .exit)) r ⌝ }
 {
     let end = n * LANES;
     let mut at = 0;
@@ -95,7 +98,7 @@ pub fn tuple_lines(
         if end <= x {
             return Lines { at, next: x };
         }
-        let m = tuple_line(action, values, x as u32, &mut buf[at..]);
+        let m = tuple_line(action, values, (start + x) as u32, &mut buf[at..]);
         at += m;
         next = x + 1;
     }

@@ -11,7 +11,8 @@ use Rattle.policy.specs.Policy.{Policy, total}
 use Rattle.formula.specs.Inner.Grant.{GrantsOf}
 use Rattle.formula.specs.Inner.Lane.{lanes}
 use Rattle.formula.specs.Inner.Source.{SourceOf}
-use Rattle.tuples.specs.Inner.Marks.{mostBlocks, marked, passing}
+use Rattle.tuples.specs.Inner.Blocks.{mostBlocks, pairBlocks, tupleAt, StripOf}
+use Rattle.tuples.specs.Inner.Marks.{passing}
 use Rattle.writer.specs.Inner.Put.{Put, each}
 use Rattle.report.specs.Report.{blocks, listed}
 use Rattle.report.specs.Inner.Lines.{lineRoom, tupleText}
@@ -25,12 +26,20 @@ use Rattle.report.specs.declared.listed.Listed.{Listed}
 abbrev pub heldBytes : Held → List ℕ
 heldBytes h = take (h .to - h .from) (drop (h .from) (h .bytes))
 
--- the end of the marks, and the lines of the tuples from the next one on
+-- the end of the marks of a strip
 abbrev pub marksEnd : Tuples → ℕ
 marksEnd t = t .marks .count * lanes
 
-abbrev pub tuplesLeft : Tuples → List ℕ
-tuplesLeft t = each (tupleText (t .action) (t .values)) (passing (marked (t .marks .words)) (t .from) (marksEnd t))
+-- the end of all numbers, and the first of those whose lines are left
+abbrev pub numbersEnd : Tuples → ℕ
+numbersEnd t = t .end * lanes
+
+abbrev pub nextNumber : Tuples → ℕ
+nextNumber t = t .first * lanes + t .from
+
+-- the lines of the tuples from that one on
+abbrev pub tuplesLeft : Policy → Tuples → List ℕ
+tuplesLeft p t = each (tupleText (t .action) (t .values)) (passing (tupleAt p (t .action)) (nextNumber t) (numbersEnd t))
 
 -- the blocks of the listed actions from the next one on
 abbrev pub blocksLeft : Policy → ℕ → List ℕ
@@ -38,7 +47,7 @@ blocksLeft p i = textOf (blocks p (drop i (listed p)))
 
 -- what is left
 unfoldable pub leftOf : Policy → Cursor → List ℕ
-leftOf p c = heldBytes (c .held) ++ (tuplesLeft (c .tuples) ++ blocksLeft p (c .done))
+leftOf p c = heldBytes (c .held) ++ (tuplesLeft p (c .tuples) ++ blocksLeft p (c .done))
 
 -- these actions stand in the first places
 pub record Stores (xs : List ℕ) (l : Listed) : Type 0 where
@@ -53,7 +62,8 @@ pub record HeldFits (h : Held) : Type 0 where
 
 pub record TuplesFit (p : Policy) (t : Tuples) : Type 0 where
   pub values : t .values ≡ total (p .object)
-  pub blocks : t .marks .count ≤ mostBlocks
+  pub end : t .end ≡ pairBlocks p
+  pub strip : StripOf p (t .action) (t .first) (t .marks .count) (t .marks .words)
   pub within : t .from ≤ marksEnd t
 
 -- the cursor is one of this policy
@@ -71,14 +81,15 @@ Left c left = (p : Policy) × Standing p c × (left ≡ leftOf p c)
 
 -- nothing is left to work out or to hand out
 unfoldable pub isOver : Cursor → Bool
-isOver c = cond (ltb (c .held .from) (c .held .to)) false (cond (ltb (c .tuples .from) (marksEnd (c .tuples))) false (leb (c .listed .count) (c .done)))
+isOver c = cond (ltb (c .held .from) (c .held .to)) false (cond (ltb (nextNumber (c .tuples)) (numbersEnd (c .tuples))) false (leb (c .listed .count) (c .done)))
 
--- a number that falls as a report is handed out: a byte held back counts one, a pair that may be a tuple more than its
--- line, an action more than all pairs
+-- a number that falls as a report is handed out: a byte held back counts one, a block whose marks are not made one too,
+-- a pair that may be a tuple more than its line, an action more than all pairs and blocks
 unfoldable pub remaining : Cursor → ℕ
 remaining c =
     (c .held .to - c .held .from)
-    + (lineRoom + 1) * ((marksEnd (c .tuples) - c .tuples .from) + (1 + mostTuples) * (c .listed .count - c .done))
+    + (c .tuples .end - (c .tuples .first + c .tuples .marks .count))
+    + (lineRoom + 1) * ((numbersEnd (c .tuples) - nextNumber (c .tuples)) + (1 + mostBlocks + mostTuples) * (c .listed .count - c .done))
 
 -- the first of the bytes that are left at c are put at the start of a buffer, and the answer's cursor is behind them
 pub record Handed (p : Policy) (c : Cursor) (entry exit : List ℕ) (r : Chunk) : Type 0 where

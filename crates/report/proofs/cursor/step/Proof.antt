@@ -1,7 +1,6 @@
 -- `report::cursor::step` meets its contract: what is not over is handed out, held or brought up.
 use native.Mathlib.Omega.{arith}
 use Rattle.writer.proofs.Putting.{put-long}
-use Rattle.report.proofs.Left.{action-left}
 use Rattle.report.proofs.Handing.{handed-same}
 use Rattle.report.proofs.cursor.step.Statement.{statement}
 use Rattle.report.proofs.cursor.step.Tie as tie
@@ -18,17 +17,16 @@ returns : tie.Need-returns
 returns c = c .before .before .hand-held .ensures
 
 mul-if2 : tie.Need-mul-if2
-mul-if2 c = omega (arith, c .before .before .before .before .before .before .before .pre .0 .1 .tuples .blocks)
+mul-if2 c = omega (arith, c .before .before .before .before .before .before .before .pre .0 .1 .tuples .strip .few)
 
-with-action-requires : tie.Need-with-action-requires
-with-action-requires c κs =
+with-more-requires : tie.Need-with-more-requires
+with-more-requires c κs =
     let s = c .before .before .before .before .before .before .before .before .before in
-    let h = c .before .before .before .before .before .if1 .left in
-    (s .pre .0, h, c .if2 .taken, action-left (s .args .c) (s .pre .1) h (c .if2 .taken))
+    (s .pre .0, s .pre .1, c .before .before .before .before .before .if1 .left, c .if2 .taken)
 
 returns-2 : tie.Need-returns-2
 returns-2 c =
-    let y = c .with-action .ensures in
+    let y = c .with-more .ensures in
     ((λ p x. handed-same (c .before .before .before .before .before .before .before .before .before .before .args .buf .now) (y .0 p x)), y .1)
 
 hold-tuples-requires : tie.Need-hold-tuples-requires
@@ -56,7 +54,7 @@ step-spec =
     same-length
     returns
     mul-if2
-    with-action-requires
+    with-more-requires
     returns-2
     hold-tuples-requires
     returns-3

@@ -2,8 +2,9 @@
 use native.Mathlib.Omega.{arith}
 use borrow.Author.Needs.{needs}
 use Rattle.policy.specs.Policy.{Policy}
+use Rattle.tuples.specs.Inner.Blocks.{Begun}
 use Rattle.report.specs.Inner.Cursor.{Standing}
-use Rattle.report.proofs.Left.{actionAt, Marking, marking-few, action-same}
+use Rattle.report.proofs.Left.{end-few, actionAt, Marking, tuples-few, action-same}
 use Rattle.report.proofs.Falls.{action-falls}
 use Rattle.report.proofs.cursor.with_action.Statement.{statement}
 use Rattle.report.proofs.cursor.with_action.Tie as tie
@@ -20,17 +21,20 @@ of-action-requires c κs = let x = c .before .before .before .before .pre .0 in 
 marks-requires : tie.Need-marks-requires
 marks-requires c κs =
     let x = c .before .before .before .before .before .pre .0 in
-    (x .0, _, x .1 .source, c .of-action .ensures (x .0) (x .1 .grants))
+    (x .0, _, x .1 .source, c .of-action .ensures (x .0) (x .1 .grants), omega arith)
+
+-- the marks are those of the action's first strip, and the number is that of its tuples
+starting : (c : tie.After-marks) (p : Policy) → Standing p (c .before .before .before .before .before .before .args .c)
+    → Begun p (actionAt (c .before .before .before .before .before .before .args .c)) (c .before .before .before .before .before .before .args .c .source) (c .before .of-action .result) (c .marks .result .count) (c .marks .result .words)
+starting c p x =
+    let g = c .before .of-action .ensures p (x .grants) in
+    record { source = x .source; grants = g; first = c .marks .ensures p _ (x .source) g }
 
 count-requires : tie.Need-count-requires
-count-requires c κs = c .before .before .marks .ensures .0
+count-requires c κs = let x = c .before .before .before .before .before .before .before .before .pre .0 in (x .0, _, starting (c .before .before) (x .0) (x .1))
 
--- the marks and their number are those of the action
-marking : (c : tie.After-count) (p : Policy) → Standing p (c .before .before .before .before .before .before .before .before .before .args .c)
-    → Marking p (actionAt (c .before .before .before .before .before .before .before .before .before .args .c)) (c .before .before .before .marks .result) (c .count .result)
-marking c p x =
-    let m = c .before .before .before in
-    record { blocks = m .marks .ensures .0; tuples = m .marks .ensures .1 p _ (x .source) (m .before .of-action .ensures p (x .grants)); number = c .count .ensures }
+marking : (c : tie.After-count) (p : Policy) → Standing p (c .before .before .before .before .before .before .before .before .before .args .c) → Marking p (actionAt (c .before .before .before .before .before .before .before .before .before .args .c)) (c .before .before .before .marks .result) (c .count .result)
+marking c p x = let s = starting (c .before .before .before) p x in record { first = s .first; number = c .count .ensures p _ s }
 
 blank-requires : tie.Need-blank-requires
 blank-requires c κs = search needs
@@ -38,7 +42,7 @@ blank-requires c κs = search needs
 cast-action-line : tie.Need-cast-action-line
 cast-action-line c =
     let x = c .before .before .before .before .before .before .before .before .before .before .pre .0 in
-    omega (arith, marking-few (marking (c .before) (x .0) (x .1)))
+    omega (arith, marking (c .before) (x .0) (x .1) .number, tuples-few (x .0) (actionAt (c .before .before .before .before .before .before .before .before .before .before .args .c)) (x .1 .source))
 
 slice-aggregate-action-line : tie.Need-slice-aggregate-action-line
 slice-aggregate-action-line c = search needs
@@ -46,8 +50,8 @@ slice-aggregate-action-line c = search needs
 action-line-requires : tie.Need-action-line-requires
 action-line-requires c κs = omega (arith, c .before .blank .ensures)
 
-add-t16 : tie.Need-add-t16
-add-t16 c = let s = c .before .before .before .before .before .before .before .before .before .before .before .before .before .before in omega (arith, s .pre, s .pre .0 .1 .stored .most)
+add-t17 : tie.Need-add-t17
+add-t17 c = let s = c .before .before .before .before .before .before .before .before .before .before .before .before .before .before in omega (arith, s .pre, s .pre .0 .1 .stored .most)
 
 returns : tie.Need-returns
 returns c =
@@ -55,7 +59,7 @@ returns c =
     let y = c .before .before .action-line .ensures in
     let l = c .before .before .before .before .blank .ensures in (
       λ p x. action-same x (s .pre .3) (marking (c .before .before .before .before .before) p x) (s .pre .1) (s .pre .2) y l,
-      action-falls (s .args .c) _ (c .before .before .before .before .before .before .before .before .marks .result) _ _ (s .pre .3) (c .before .before .before .before .before .before .before .before .marks .ensures .0) (omega (arith, y .fits, l)),
+      action-falls (s .args .c) _ (c .before .before .before .before .before .before .before .before .marks .result) _ _ (s .pre .3) (end-few (s .pre .0 .1)) (omega (arith, y .fits, l)),
     )
 
 pub with-action-spec : {M : Type 1} → statement M
@@ -71,5 +75,5 @@ with-action-spec =
     cast-action-line
     slice-aggregate-action-line
     action-line-requires
-    add-t16
+    add-t17
     returns)

@@ -1,6 +1,6 @@
 -- `report::lines::tuple_lines` meets its contract: after each turn the lines of the tuples before the next number are
 -- put.
-use Prim.Native.Nat.{_*_, _-_}
+use Prim.Native.Nat.{_+_, _*_, _-_}
 use native.Mathlib.Omega.{arith}
 use borrow.Author.Needs.{needs}
 use Rattle.formula.specs.Inner.Lane.{lanes}
@@ -13,16 +13,16 @@ use Rattle.report.proofs.lines.tuple_lines.Statement.{statement}
 use Rattle.report.proofs.lines.tuple_lines.Tie as tie
 
 abbrev Inv-loop : tie.InvT-loop
-Inv-loop action values words n from buf₀ end at₀ next₀ buf at next = Going (tupleText action values) (marked words) (n * lanes) from buf₀ buf at next
+Inv-loop action values start words n from buf₀ end at₀ next₀ buf at next = Going (λ k. tupleText action values (start + k)) (marked words) (n * lanes) from buf₀ buf at next
 
 abbrev μ-loop : tie.MeasureT-loop
-μ-loop action values words n from buf₀ end at₀ next₀ buf at next = n * lanes - next
+μ-loop action values start words n from buf₀ end at₀ next₀ buf at next = n * lanes - next
 
 mul-end : tie.Need-mul-end Inv-loop μ-loop
 mul-end c = search needs
 
 loop-holds : tie.Need-loop-holds Inv-loop μ-loop
-loop-holds c = going-start (c .before .pre .2)
+loop-holds c = going-start (c .before .pre .3)
 
 sub-if1 : tie.Need-sub-if1 Inv-loop μ-loop
 sub-if1 c = going-fits (c .before .loop .inv)
@@ -34,7 +34,7 @@ returns : tie.Need-returns Inv-loop μ-loop
 returns c = going-full (c .before .before .loop .inv) (omega (arith, c .if1 .taken))
 
 next-requires : tie.Need-next-requires Inv-loop μ-loop
-next-requires c κs = (c .before .before .before .before .pre .1, c .before .loop-test .taken)
+next-requires c κs = (c .before .before .before .before .pre .2, c .before .loop-test .taken)
 
 same-length-2 : tie.Need-same-length-2 Inv-loop μ-loop
 same-length-2 c = put-long (c .before .before .before .before .loop .inv .put)
@@ -42,8 +42,11 @@ same-length-2 c = put-long (c .before .before .before .before .loop .inv .put)
 returns-2 : tie.Need-returns-2 Inv-loop μ-loop
 returns-2 c = going-over (c .before .before .before .before .loop .inv) (c .before .next .result) (c .before .next .ensures) (c .if2 .taken)
 
+add-tuple-line : tie.Need-add-tuple-line Inv-loop μ-loop
+add-tuple-line c = let s = c .before .before .before .before .before .before in omega (arith, c .if2 .left, s .pre .1, s .pre .2)
+
 cast-tuple-line : tie.Need-cast-tuple-line Inv-loop μ-loop
-cast-tuple-line c = omega (arith, c .if2 .left, c .before .before .before .before .before .before .pre .1)
+cast-tuple-line c = let s = c .before .before .before .before .before .before in omega (arith, c .if2 .left, s .pre .1, s .pre .2)
 
 sub-tuple-line : tie.Need-sub-tuple-line Inv-loop μ-loop
 sub-tuple-line c = going-fits (c .before .before .before .before .loop .inv)
@@ -100,6 +103,7 @@ tuple-lines-spec =
     next-requires
     same-length-2
     returns-2
+    add-tuple-line
     cast-tuple-line
     sub-tuple-line
     part-tuple-line-start

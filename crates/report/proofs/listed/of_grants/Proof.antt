@@ -8,7 +8,7 @@ use borrow.Author.Needs.{needs}
 use Rattle.policy.specs.Limits.{mostActions}
 use Rattle.policy.specs.Policy.{Policy, named}
 use Rattle.formula.specs.Inner.Grant.{GrantsOf}
-use Rattle.tuples.proofs.Marked.{Stored}
+use Rattle.tuples.specs.Inner.Marks.{Stored}
 use Rattle.report.proofs.Collecting.{stored-none, stored-few, stored-hit, stored-miss, stored-all}
 use Rattle.report.proofs.listed.of_grants.Statement.{statement}
 use Rattle.report.proofs.listed.of_grants.Tie as tie
