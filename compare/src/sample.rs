@@ -1,8 +1,8 @@
 //! The policies, boards and calls that are measured.
 
 use crate::boundary::{
-    Board, Counts, PolicyValue, Session, FORM_1_ACTIONS, FORM_2_ACTIONS, MOST_LABELS, MOST_TABLE,
-    SESSIONS, TEXT_BYTES,
+    Board, Counts, PolicyValue, Session, FORM_1_ACTIONS, FORM_2_ACTIONS, FORM_3_VALUES,
+    MOST_LABELS, MOST_TABLE, SESSIONS, TEXT_BYTES,
 };
 use crate::engine::{Archive, Engine};
 use crate::plain::policy::Policy;
@@ -27,6 +27,8 @@ pub struct Size {
     pub words: u32,
     /// Equally many of each action, and not more of one than there are pairs of values.
     pub pairs: u32,
+    /// Whether each set has a label of its own: the last rule is `q00`, and has no pairs.
+    pub all_apart: bool,
 }
 
 const SMALL: Size = Size {
@@ -38,28 +40,25 @@ const SMALL: Size = Size {
     rules: 2,
     words: 4,
     pairs: 0,
+    all_apart: false,
 };
 
 const MIDDLE: Size = Size {
-    form: 1,
     values: 4,
     users: 8,
     objects: 16,
-    conflicts: 0,
     rules: 4,
     words: 16,
-    pairs: 0,
+    ..SMALL
 };
 
 const LARGE: Size = Size {
-    form: 1,
     values: 7,
     users: 32,
     objects: 64,
-    conflicts: 0,
     rules: 8,
     words: 32,
-    pairs: 0,
+    ..SMALL
 };
 
 /// Of form 1: from a small policy to one at every limit but those of pairs and
@@ -104,7 +103,57 @@ pub const FORM_2_SIZES: [Size; 2] = [
     },
 ];
 
+const LARGE_3: Size = Size {
+    form: 3,
+    values: FORM_3_VALUES as u32,
+    ..LARGE_2
+};
+
+/// Of form 3, at the limits: as those of form 2, then with as many labels as there can be.
+pub const FORM_3_SIZES: [Size; 4] = [
+    LARGE_3,
+    Size {
+        pairs: 64,
+        ..LARGE_3
+    },
+    Size {
+        all_apart: true,
+        ..LARGE_3
+    },
+    Size {
+        pairs: 64,
+        all_apart: true,
+        ..LARGE_3
+    },
+];
+
+/// Of form 3, from few values to the most, and alike otherwise.
+pub fn growing() -> impl Iterator<Item = Size> {
+    (2..=LARGE_3.values).map(|values| Size { values, ..LARGE_3 })
+}
+
+/// Calls a function over widths with each of the sizes of all forms.
+#[macro_export]
+macro_rules! for_all_sizes {
+    ($call:ident) => {
+        $crate::sample::FORM_1_SIZES
+            .into_iter()
+            .for_each($call::<$crate::widths::Widths8x8>);
+        $crate::sample::FORM_2_SIZES
+            .into_iter()
+            .for_each($call::<$crate::widths::Widths8x16>);
+        $crate::sample::FORM_3_SIZES
+            .into_iter()
+            .for_each($call::<$crate::widths::Widths16x16>);
+    };
+}
+
 impl Size {
+    /// How many pairs of sets there are.
+    pub fn pairs_of_sets(&self) -> u64 {
+        1 << (2 * self.values)
+    }
+
     fn actions(&self) -> u32 {
         match self.form {
             1 => FORM_1_ACTIONS as u32,
@@ -119,7 +168,12 @@ impl Display for Size {
         if self.form != 1 {
             write!(f, ", form {}, {} rules", self.form, self.rules)?;
         }
-        for (count, kind) in [(self.pairs, "pairs"), (self.conflicts, "conflicts")] {
+        let labels = u32::from(self.all_apart) << self.values;
+        for (count, kind) in [
+            (self.pairs, "pairs"),
+            (self.conflicts, "conflicts"),
+            (labels, "labels"),
+        ] {
             if count > 0 {
                 write!(f, ", {count} {kind}")?;
             }
@@ -155,16 +209,16 @@ pub struct Sample<W: Widths> {
 /// What compiling gave, in buffers that are always long enough.
 struct Compiled<W: Widths> {
     counts: Counts,
-    users: [W::Label; MOST_LABELS],
-    objects: [W::Label; MOST_LABELS],
-    table: [W::Entry; MOST_TABLE],
+    users: Vec<W::Label>,
+    objects: Vec<W::Label>,
+    table: Vec<W::Entry>,
 }
 
 impl<W: Widths> Compiled<W> {
     fn of(policy: &PolicyValue) -> Self {
-        let mut users = [W::Label::default(); MOST_LABELS];
-        let mut objects = [W::Label::default(); MOST_LABELS];
-        let mut table = [W::Entry::default(); MOST_TABLE];
+        let mut users = vec![W::Label::default(); MOST_LABELS];
+        let mut objects = vec![W::Label::default(); MOST_LABELS];
+        let mut table = vec![W::Entry::default(); MOST_TABLE];
         let counts = W::compile(&Archive, policy, &mut users, &mut objects, &mut table);
         assert_eq!(counts.refusal, 0, "a sample of other widths");
         Compiled {
@@ -268,14 +322,14 @@ fn conflicts(size: Size) -> String {
 /// The pair lines, equally many of each action. Their user values are senior and
 /// their object values junior, which the fewest sets hold: much is left to formulas.
 fn pairs(size: Size) -> String {
-    let (actions, values) = (size.actions(), size.values);
-    let mut pairs = Vec::new();
-    for action in 0..actions {
-        for k in 0..size.pairs / actions {
-            let place = (action + k) % (values * values);
-            pairs.push((action, values - 1 - place % values, place / values));
-        }
-    }
+    let actions = size.actions() - u32::from(size.all_apart);
+    let values = size.values;
+    let pair = |k| {
+        let action = k % actions;
+        let place = (action + k / actions) % (values * values);
+        (action, values - 1 - place % values, place / values)
+    };
+    let mut pairs: Vec<_> = (0..size.pairs).map(pair).collect();
     pairs.sort();
     let lines = pairs.iter();
     lines
@@ -285,6 +339,9 @@ fn pairs(size: Size) -> String {
 
 /// Leaves two by two, each two joined; then all of these joined, and `n`.
 fn formula(size: Size, rule: u32) -> String {
+    if size.all_apart && rule == size.rules - 1 {
+        return only_same(size.words);
+    }
     let leaf = |k: u32| match (rule + k) % 8 {
         0 | 3 | 6 => format!("u{}", (rule + k / 2) % size.values),
         1 | 4 | 7 => format!("o{}", (rule + k / 3) % size.values),
@@ -304,6 +361,12 @@ fn formula(size: Size, rule: u32) -> String {
     words.extend((1..leaves.div_ceil(2)).map(|k| join(k + 1)));
     words.push("n".to_string());
     words.join(",")
+}
+
+/// `q00`, with words behind it that leave its truth; and `n`.
+fn only_same(words: u32) -> String {
+    let idle = (1..words / 2).map(|k| [",f,r", ",t,a"][k as usize % 2]);
+    format!("q00{},n", idle.collect::<String>())
 }
 
 /// The user that a session is opened for, and the user's assigned set.
@@ -374,8 +437,8 @@ fn calls(size: Size, policy: &Policy) -> Vec<Call> {
 #[cfg(test)]
 mod tests {
     use super::*;
+    use crate::for_all_sizes;
     use crate::value::sessions;
-    use crate::widths::{Widths8x16, Widths8x8};
     use reference::machine::{run, step, Answer};
     use reference::text::read;
 
@@ -383,18 +446,26 @@ mod tests {
         let policy = Sample::<W>::of(size).policy;
         assert_eq!(policy.form, size.form);
         assert_eq!(policy.rules().len(), size.rules as usize);
+        let mut rules = policy.rules().iter();
+        assert!(rules.all(|rule| rule.count == size.words as usize));
         assert_eq!(policy.pairs().len(), size.pairs as usize);
         assert_eq!(policy.conflicts().len(), size.conflicts as usize);
     }
 
     #[test]
     fn samples_have_the_lines_of_their_size() {
-        FORM_1_SIZES
-            .into_iter()
-            .for_each(has_its_lines::<Widths8x8>);
-        FORM_2_SIZES
-            .into_iter()
-            .for_each(has_its_lines::<Widths8x16>);
+        for_all_sizes!(has_its_lines);
+    }
+
+    fn has_its_labels<W: Widths>(size: Size) {
+        let Labels { nu, no, .. } = Sample::<W>::of(size).labels();
+        let most = 1 << size.values;
+        assert_eq!((nu, no) == (most, most), size.all_apart, "{size}: {nu}, {no}");
+    }
+
+    #[test]
+    fn samples_have_as_many_labels_as_sets_where_they_should() {
+        for_all_sizes!(has_its_labels);
     }
 
     fn none_refused_on_full<W: Widths>(size: Size) {
@@ -413,12 +484,7 @@ mod tests {
 
     #[test]
     fn no_call_on_the_full_board_is_refused() {
-        FORM_1_SIZES
-            .into_iter()
-            .for_each(none_refused_on_full::<Widths8x8>);
-        FORM_2_SIZES
-            .into_iter()
-            .for_each(none_refused_on_full::<Widths8x16>);
+        for_all_sizes!(none_refused_on_full);
     }
 
     fn none_refused<W: Widths>(size: Size) {
@@ -433,9 +499,6 @@ mod tests {
 
     #[test]
     fn no_call_of_a_sample_is_refused() {
-        FORM_1_SIZES.into_iter().for_each(none_refused::<Widths8x8>);
-        FORM_2_SIZES
-            .into_iter()
-            .for_each(none_refused::<Widths8x16>);
+        for_all_sizes!(none_refused);
     }
 }

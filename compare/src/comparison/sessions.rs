@@ -4,11 +4,12 @@ use super::buffers::{some_buffers, Buffers};
 use super::coverage::Cause;
 use super::known::Known;
 use super::{same, Outcome, Trial};
+use crate::at_widths;
 use crate::boundary::{Board, Session, Step, DENIED, DONE, GRANTED, OBJECT_NUMBERS, SESSIONS};
 use crate::damage::{board, damaged_board, odd};
 use crate::engine::Engine;
 use crate::value::sessions;
-use crate::widths::{at_widths, Labels, Widths};
+use crate::widths::{Labels, Widths};
 use reference::cases::{calls, Rng};
 use reference::form::{self, WIDTHS};
 use reference::formula::reach;
@@ -122,6 +123,9 @@ impl Trial<'_> {
         same(&what, &found.answer, &number(answer))?;
         if let Some(decided) = decided_on(policy, map, &call, answer) {
             self.count_decision(W::REQUEST, known, decided);
+            if known.by_wide_labels(policy, decided) {
+                self.coverage.count_cause(Cause::WideLabels, W::REQUEST);
+            }
         }
         same(&what, &sessions(&found.board), &after)?;
         same(
