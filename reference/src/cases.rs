@@ -155,15 +155,15 @@ fn size(round: usize) -> Size {
 }
 
 /// Three texts of form 3 in eight have more values than earlier forms have, most of these
-/// on one side alone, and one in 64 goes to the limits.
+/// on one side alone, and one in 32 goes to the limits.
 fn size_of_form_3(stream: &mut Rng, round: usize) -> Size {
-    let many = stream.pick(&[8, 9, 9]);
+    let many = 8 + stream.below(2);
     let few = 1 + stream.below(3);
     match stream.below(64) {
-        0 => LIMIT.with_values([FORM_3.values; 2]),
-        1..=3 => SMALL.with_values([many, many]),
-        4..=13 => SMALL.with_values([many, few]),
-        14..=23 => SMALL.with_values([few, many]),
+        0..=1 => LIMIT.with_values([FORM_3.values; 2]),
+        2..=5 => SMALL.with_values([many, many]),
+        6..=14 => SMALL.with_values([many, few]),
+        15..=23 => SMALL.with_values([few, many]),
         _ => size(round),
     }
 }

@@ -54,7 +54,7 @@ fn unions(values: u32, given: impl Fn(Set) -> Set) -> Vec<Set> {
 pub struct Formulas<'a> {
     policy: &'a Policy,
     /// For each user set, it and the juniors of its values: `uV` is true where V is among
-    /// them, and `d` where all places due are.
+    /// them, and `d` where all places due are, by what is held in its attribute.
     user_reach: Vec<Set>,
     /// For each object set, it and the seniors of its values: `oV` is true where V is
     /// among them.
@@ -111,7 +111,6 @@ impl<'a> Formulas<'a> {
 
     /// The truth values that a word other than a connective pushes.
     fn pushes(&self, word: &Word, user_set: Set, object_sets: &Range<Set>) -> Vec<bool> {
-        let policy = self.policy;
         let reach = self.user_reach[user_set as usize];
         let on_all = |truth| vec![truth; object_sets.len()];
         match *word {
@@ -123,25 +122,27 @@ impl<'a> Formulas<'a> {
                 reaches.map(|&reach| holds(reach, value)).collect()
             }
             Word::Within(i, j) if self.equal_width(i, j) => {
-                let (covered, due) = (
-                    places(&policy.user_widths, i),
-                    places(&policy.object_widths, j),
-                );
-                let covered = covered.of(reach);
+                let (own, due) = self.places_compared(i, j);
+                // Only seniors in I count, so what is held elsewhere is left out.
+                let held = user_set & own.all();
+                let covered = own.of(self.user_reach[held as usize]);
                 let sets = object_sets.clone();
                 sets.map(|set| due.of(set) & !covered == 0).collect()
             }
             Word::Same(i, j) if self.equal_width(i, j) => {
-                let (held, due) = (
-                    places(&policy.user_widths, i),
-                    places(&policy.object_widths, j),
-                );
-                let held = held.of(user_set);
+                let (own, due) = self.places_compared(i, j);
+                let held = own.of(user_set);
                 let sets = object_sets.clone();
                 sets.map(|set| due.of(set) == held).collect()
             }
             _ => on_all(false),
         }
+    }
+
+    /// The places of user attribute I and those of object attribute J.
+    fn places_compared(&self, i: u32, j: u32) -> (Places, Places) {
+        let users = places(&self.policy.user_widths, i);
+        (users, places(&self.policy.object_widths, j))
     }
 
     fn equal_width(&self, i: u32, j: u32) -> bool {
@@ -174,6 +175,11 @@ fn places(widths: &[u32], attribute: u32) -> Places {
 }
 
 impl Places {
+    /// All values of the attribute.
+    fn all(&self) -> Set {
+        ((1 << self.width) - 1) << self.first
+    }
+
     /// Those that a set holds, counted from the attribute's first value.
     fn of(&self, set: Set) -> Set {
         (set >> self.first) % (1 << self.width)

@@ -1,96 +1,104 @@
-//! Forms 1 and 2: laws that every made case obeys, and what comes up in them.
+//! The forms: laws that every made case obeys, and what comes up in them.
 
 mod made;
 
 use made::{accepted, made, SEED};
-use reference::case_file::{self, answered, answered_for_all_widths};
-use reference::cases::{calls, text_without_forms, Rng};
-use reference::form::{Form, FORMS, WIDTHS};
+use reference::case_file::{self, answered, answered_for_all_widths, answered_for_byte_labels};
+use reference::cases::{calls, text_without_form_3, text_without_forms, Rng};
+use reference::form::{Form, FORMS, TUPLE_BITS, WIDTHS};
 use reference::formula::decide;
-use reference::labels::{apart, compile, compile_for, grants};
+use reference::labels::{apart, compile, compile_for, grants, Labelling};
 use reference::lister::list;
 use reference::machine::{run, run_for, Answer, Call};
-use reference::policy::Policy;
+use reference::policy::{Policy, Word};
 use reference::text::{read, write, MOST_PAIRS};
-use reference::tuples::tuples;
+use reference::tuples::{decide_by_tuples, decide_by_tuples_for, tuples, tuples_for};
 use std::collections::BTreeSet;
 
 const CASES: u64 = 400;
 const THOUSAND: u64 = 1000;
 const FIRST: Form = FORMS[0];
-const SECOND: Form = FORMS[1];
+const THIRD: Form = FORMS[2];
 
 /// The accepted ones of a form.
 fn of_form(form: Form, cases: u64) -> impl Iterator<Item = (Rng, Policy)> {
     accepted(cases).filter(move |(_, policy)| policy.form == form)
 }
 
-/// A text of form 1 that says it is of form 2.
-fn renumbered(policy: &Policy) -> Policy {
+/// The forms that have all that a form has.
+fn later(form: Form) -> impl Iterator<Item = Form> {
+    FORMS.into_iter().filter(move |l| l.number > form.number)
+}
+
+/// What the first line of a form's texts is.
+fn first_line(form: Form) -> String {
+    format!("policy,{}\n", form.number)
+}
+
+/// The text of a policy with the first line of another form.
+fn renumbered(policy: &Policy, form: Form) -> Policy {
     let text = String::from_utf8(write(policy)).expect("a text");
-    let text = text.replacen("policy,1\n", "policy,2\n", 1);
+    let text = text.replacen(&first_line(policy.form), &first_line(form), 1);
     read(text.as_bytes()).expect("accepted")
 }
 
 #[test]
-fn a_text_of_form_1_grants_the_same_in_form_2() {
-    let mut tried = 0;
-    for (_, policy) in of_form(FIRST, CASES) {
-        let other = renumbered(&policy);
-        let form = policy.form;
-        assert_eq!(
-            Policy {
-                form,
-                ..other.clone()
-            },
-            policy
-        );
-        assert_eq!(grants(&other), grants(&policy));
-        assert_eq!(list(&write(&other)), list(&write(&policy)));
-        let (labelling, compiled) = (compile(&policy), compile(&other));
-        assert_eq!(compiled.widths, SECOND.widths);
-        let widths = labelling.widths;
-        assert_eq!(
-            reference::labels::Labelling { widths, ..compiled },
-            labelling
-        );
-        for action in 0..SECOND.actions {
-            match action < FIRST.actions {
-                true => assert_eq!(tuples(&other, action), tuples(&policy, action)),
-                false => {
-                    assert_eq!(tuples(&policy, action), Err(12));
-                    assert_eq!(tuples(&other, action), Ok(vec![]));
+fn a_text_grants_the_same_in_each_later_form() {
+    let mut tried = [0, 0];
+    for (_, policy) in accepted(CASES) {
+        for later in later(policy.form) {
+            let other = renumbered(&policy, later);
+            let form = policy.form;
+            let same = other.clone();
+            assert_eq!(Policy { form, ..same }, policy);
+            assert_eq!(grants(&other), grants(&policy));
+            assert_eq!(list(&write(&other)), list(&write(&policy)));
+            let (labelling, compiled) = (compile(&policy), compile(&other));
+            assert_eq!(compiled.widths, later.widths);
+            let widths = labelling.widths;
+            assert_eq!(Labelling { widths, ..compiled }, labelling);
+            for action in 0..later.actions {
+                match action < form.actions {
+                    true => assert_eq!(tuples(&other, action), tuples(&policy, action)),
+                    false => {
+                        assert_eq!(tuples(&policy, action), Err(12));
+                        assert_eq!(tuples(&other, action), Ok(vec![]));
+                    }
                 }
             }
+            tried[form.number as usize - 1] += 1;
         }
-        tried += 1;
     }
-    assert!(tried > 100, "{tried}");
+    assert!(tried[0] > 150 && tried[1] > 40, "{tried:?}");
 }
 
-/// Every answer to calls on a text of form 1 is the same in form 2, but for a request
-/// for an action that only form 2 has.
+/// Every answer to calls on a text is the same in each later form, but for a request for an
+/// action that only the later one has.
 #[test]
 fn calls_are_answered_the_same_but_for_the_new_actions() {
     let mut new = 0;
-    for (mut rng, policy) in of_form(FIRST, CASES) {
-        let other = renumbered(&policy);
+    for (mut rng, policy) in accepted(THOUSAND) {
         let calls = calls(&mut rng, &policy, 40, u32::MAX);
         let (answers, sessions) = run(&policy, &calls);
-        let (others, other_sessions) = run(&other, &calls);
-        assert_eq!(sessions, other_sessions);
-        for ((call, answer), other) in calls.iter().zip(answers).zip(others) {
-            match call {
-                Call::Request { action, .. } if (8..16).contains(action) => {
-                    assert_eq!(answer, Answer::Refused(12));
-                    assert_ne!(other, Answer::Granted);
-                    new += u32::from(other == Answer::Denied);
+        for later in later(policy.form) {
+            let other = renumbered(&policy, later);
+            let (others, other_sessions) = run(&other, &calls);
+            assert_eq!(sessions, other_sessions);
+            for ((call, answer), other) in calls.iter().zip(&answers).zip(others) {
+                match call {
+                    Call::Request { action, .. }
+                        if (policy.actions()..later.actions).contains(action) =>
+                    {
+                        assert_eq!(*answer, Answer::Refused(12));
+                        assert_ne!(other, Answer::Granted);
+                        new += u32::from(other == Answer::Denied);
+                    }
+                    _ => assert_eq!(*answer, other, "{call:?}"),
                 }
-                _ => assert_eq!(answer, other, "{call:?}"),
             }
         }
     }
-    assert!(new > 5, "{new}");
+    assert!(new > 10, "{new}");
 }
 
 #[test]
@@ -117,6 +125,31 @@ fn compile_and_request_for_other_widths_get_11_and_change_nothing() {
     }
 }
 
+/// Listing, and deciding by the listing, whatever else is wrong with the call.
+#[test]
+fn calls_for_tuples_of_other_bits_get_11() {
+    for (mut rng, policy) in accepted(CASES) {
+        let action = rng.below(policy.actions() + 2);
+        let (us, os) = (
+            rng.below(2 * policy.user_sets()),
+            rng.below(policy.object_sets()),
+        );
+        let listed = tuples(&policy, action);
+        let listing = listed.clone().unwrap_or_default();
+        let count = rng.index(listing.len() + 2);
+        for bits in TUPLE_BITS {
+            let found = decide_by_tuples_for(&policy, bits, us, os, &listing, count);
+            if bits == policy.form.tuple_bits {
+                assert_eq!(tuples_for(&policy, bits, action), listed);
+                assert_eq!(found, decide_by_tuples(&policy, us, os, &listing, count));
+            } else {
+                assert_eq!(tuples_for(&policy, bits, action), Err(11));
+                assert_eq!(found, Err(11));
+            }
+        }
+    }
+}
+
 #[test]
 fn an_action_is_refused_from_the_number_of_actions_on() {
     let limits = [7, 8, 9, 15, 16, 17, 255, 256, u32::MAX];
@@ -134,21 +167,23 @@ fn an_action_is_refused_from_the_number_of_actions_on() {
     }
 }
 
-/// One text in three says it is of form 2.
+/// One text in two says it is of form 1, and one in four of each other.
 #[test]
-fn both_forms_come_up() {
-    let says = |case: &u64| made(*case).1.starts_with(b"policy,2\n");
+fn all_forms_come_up() {
     let (even, odd): (Vec<u64>, Vec<u64>) = (0..THOUSAND).partition(|case| case % 2 == 0);
     for cases in [even, odd] {
-        let count = cases.iter().filter(|case| says(case)).count();
-        assert!((120..220).contains(&count), "{count}");
+        for (form, least) in FORMS.into_iter().zip([200, 90, 90]) {
+            let says = |case: &&u64| made(**case).1.starts_with(first_line(form).as_bytes());
+            let count = cases.iter().filter(says).count();
+            assert!((least..least + 80).contains(&count), "{form:?} {count}");
+        }
     }
 }
 
 #[test]
 fn every_refusal_comes_up_in_each_form() {
-    for form in ["policy,1\n", "policy,2\n"] {
-        let texts = (0..2 * THOUSAND).map(|case| made(case).1);
+    for form in FORMS.map(first_line) {
+        let texts = (0..4 * THOUSAND).map(|case| made(case).1);
         let of_form = texts.filter(|text| text.starts_with(form.as_bytes()));
         let refused: BTreeSet<u32> = of_form
             .filter_map(|text| Some(read(&text).err()?.refusal))
@@ -166,80 +201,113 @@ fn out_of_range(text: &[u8]) -> Option<Vec<String>> {
     Some(line.split(',').map(String::from).collect())
 }
 
-/// Forms that there are not, and in each form the first action that it lacks.
-#[test]
-fn forms_and_actions_just_out_of_range_come_up() {
+/// The first digit of what a text says it is, with the kind and the first number of the
+/// line that is out of range.
+fn all_out_of_range(cases: u64) -> BTreeSet<(char, String, String)> {
     let mut found = BTreeSet::new();
-    for case in 0..4 * THOUSAND {
+    for case in 0..cases {
         let text = made(case).1;
         if let Some(fields) = out_of_range(&text) {
-            let form = text.get(7).copied().map(char::from);
-            found.insert((form, fields[0].clone(), fields[1].clone()));
+            let form = text.get(7).copied().unwrap_or_default();
+            found.insert((char::from(form), fields[0].clone(), fields[1].clone()));
         }
     }
-    let comes = |form: char, kind: &str, number: &str| {
-        found.contains(&(Some(form), kind.to_string(), number.to_string()))
+    found
+}
+
+/// Forms that there are not, and in each form the first action and the first width that it
+/// lacks.
+#[test]
+fn forms_actions_and_widths_just_out_of_range_come_up() {
+    let found = all_out_of_range(8 * THOUSAND);
+    let comes = |form: char, kind: &str, number: u32| {
+        found.contains(&(form, kind.to_string(), number.to_string()))
     };
-    assert!(
-        comes('0', "policy", "0") && comes('5', "policy", "5") && comes('9', "policy", "99999")
-    );
-    for kind in ["rule", "pair"] {
-        assert!(comes('1', kind, "8") && comes('2', kind, "16"), "{kind}");
+    assert!(comes('0', "policy", 0) && comes('5', "policy", 5) && comes('9', "policy", 99_999));
+    for form in FORMS {
+        let digit = char::from_digit(form.number, 10).expect("a digit");
+        for kind in ["rule", "pair"] {
+            assert!(comes(digit, kind, form.actions), "{form:?} {kind}");
+        }
+        for kind in ["uattr", "oattr"] {
+            // A width past the last, and one that makes the sum so.
+            assert!(comes(digit, kind, form.values + 1), "{form:?} {kind}");
+            assert!(
+                (1..form.values).any(|width| comes(digit, kind, width)),
+                "{form:?} {kind}"
+            );
+        }
     }
-    // What form 2 has and form 1 has not.
-    let new = (9..16).map(|action| action.to_string());
-    let new = new.filter(|action| comes('1', "rule", action) || comes('1', "pair", action));
+    // What later forms have and an earlier one has not.
+    let new = (9..16).filter(|&action| comes('1', "rule", action) || comes('1', "pair", action));
     assert!(new.count() > 3);
+    for (form, kind) in [
+        ('1', "uattr"),
+        ('1', "oattr"),
+        ('2', "uattr"),
+        ('2', "oattr"),
+    ] {
+        assert!(comes(form, kind, 9), "{form} {kind}");
+    }
+}
+
+/// Texts that are as they are without a form, and those that are but for their first line.
+fn same_without(form: Form, without: fn(&mut Rng, u64) -> Vec<u8>) -> [u32; 2] {
+    let (mut same, mut but_first) = (0, 0);
+    for case in 0..CASES {
+        let text = made(case).1;
+        let without = without(&mut Rng::new(SEED, case), case);
+        same += u32::from(text == without);
+        if let Some(rest) = text.strip_prefix(first_line(form).as_bytes()) {
+            but_first += u32::from(text != without && without.ends_with(rest));
+        }
+    }
+    [same, but_first]
 }
 
 #[test]
-fn a_text_that_stays_in_form_1_is_as_it_is_without_forms() {
-    let (mut same, mut first_line) = (0, 0);
-    for case in 0..CASES {
-        let text = made(case).1;
-        let without = text_without_forms(&mut Rng::new(SEED, case), case);
-        same += u32::from(text == without);
-        if let Some(rest) = text.strip_prefix(b"policy,2\n") {
-            let renumbered = without.strip_prefix(b"policy,1\n") == Some(rest);
-            first_line += u32::from(renumbered);
-        }
-    }
-    assert!((220..320).contains(&same), "{same}");
-    assert!((15..60).contains(&first_line), "{first_line}");
+fn a_text_that_stays_in_an_earlier_form_is_as_it_is_without_later_ones() {
+    let [same, but_first] = same_without(THIRD, text_without_form_3);
+    assert!((260..340).contains(&same), "{same}");
+    assert!((10..40).contains(&but_first), "{but_first}");
+    let [same, but_first] = same_without(FORMS[1], text_without_forms);
+    assert!((160..240).contains(&same), "{same}");
+    assert!((10..50).contains(&but_first), "{but_first}");
+}
+
+/// The policies of a form among the first so many cases.
+fn policies(form: Form, cases: u64) -> Vec<Policy> {
+    of_form(form, cases).map(|(_, policy)| policy).collect()
 }
 
 #[test]
 fn actions_above_7_have_rules_and_pairs_and_grant() {
-    let all: Vec<Policy> = of_form(SECOND, THOUSAND)
-        .map(|(_, policy)| policy)
-        .collect();
-    let rules = || all.iter().flat_map(|policy| &policy.rules);
-    let pairs = || all.iter().flat_map(|policy| &policy.pairs);
-    for action in 0..SECOND.actions {
+    for form in later(FIRST) {
+        let all = policies(form, THOUSAND);
+        let rules = || all.iter().flat_map(|policy| &policy.rules);
+        let pairs = || all.iter().flat_map(|policy| &policy.pairs);
+        for action in 0..form.actions {
+            let ruled = rules().filter(|rule| rule.action == action).count();
+            let paired = pairs().filter(|pair| pair.action == action).count();
+            assert!(ruled > 15 && paired > 15, "{action}: {ruled} {paired}");
+        }
+        let counts: BTreeSet<usize> = all.iter().map(|policy| policy.rules.len()).collect();
+        let some = [0, 1, 2, 3, 4, 6, 16];
         assert!(
-            rules().filter(|rule| rule.action == action).count() > 20,
-            "{action}"
+            some.iter().all(|count| counts.contains(count)),
+            "{counts:?}"
         );
-        assert!(
-            pairs().filter(|pair| pair.action == action).count() > 20,
-            "{action}"
-        );
+        let bits = |policy: &Policy| {
+            let entries = grants(policy).concat();
+            entries.iter().fold(0, |all, bits| all | bits)
+        };
+        let bits: Vec<u16> = all.iter().map(bits).collect();
+        let of_bits = |wanted: fn(u16) -> bool| bits.iter().filter(|bits| wanted(**bits)).count();
+        // Granted by actions above 7 alone, by those below alone, and by both.
+        assert!(of_bits(|bits| bits > 255 && bits & 255 == 0) > 7);
+        assert!(of_bits(|bits| bits < 256 && bits > 0) > 7);
+        assert!(of_bits(|bits| bits > 255 && bits & 255 != 0) > 40);
     }
-    let counts: BTreeSet<usize> = all.iter().map(|policy| policy.rules.len()).collect();
-    assert!([0, 1, 2, 3, 4, 6, 16]
-        .iter()
-        .all(|count| counts.contains(count)));
-    let bits = |policy: &Policy| {
-        grants(policy)
-            .concat()
-            .iter()
-            .fold(0, |all, bits| all | bits)
-    };
-    let of_bits = |wanted: fn(u16) -> bool| all.iter().filter(|p| wanted(bits(p))).count();
-    // Granted by actions above 7 alone, by those below alone, and by both.
-    assert!(of_bits(|bits| bits > 255 && bits & 255 == 0) > 10);
-    assert!(of_bits(|bits| bits < 256 && bits > 0) > 10);
-    assert!(of_bits(|bits| bits > 255 && bits & 255 != 0) > 50);
 }
 
 /// What the policy would be without the actions that form 1 lacks.
@@ -253,46 +321,125 @@ fn without_new_actions(policy: &Policy) -> Policy {
 /// Sets that only an action above 7 tells apart.
 #[test]
 fn labels_are_parted_by_actions_above_7() {
-    let (mut more, mut told) = (0, 0);
-    for (mut rng, policy) in of_form(SECOND, CASES) {
-        let less = without_new_actions(&policy);
-        let (all, few) = (compile(&policy), compile(&less));
-        assert!(all.user_count >= few.user_count && all.object_count >= few.object_count);
-        more += u32::from(all.user_count > few.user_count);
-        for _ in 0..8 {
-            let (one, other) = (rng.below(policy.user_sets()), rng.below(policy.user_sets()));
-            if apart(&less, one, other) == Ok(None) {
-                if let Ok(Some((action, _))) = apart(&policy, one, other) {
-                    assert!(action >= FIRST.actions);
-                    told += 1;
+    for form in later(FIRST) {
+        let (mut more, mut told) = (0, 0);
+        for (mut rng, policy) in of_form(form, THOUSAND) {
+            let less = without_new_actions(&policy);
+            let (all, few) = (compile(&policy), compile(&less));
+            assert!(all.user_count >= few.user_count && all.object_count >= few.object_count);
+            more += u32::from(all.user_count > few.user_count);
+            for _ in 0..8 {
+                let (one, other) = (rng.below(policy.user_sets()), rng.below(policy.user_sets()));
+                if apart(&less, one, other) == Ok(None) {
+                    if let Ok(Some((action, _))) = apart(&policy, one, other) {
+                        assert!(action >= FIRST.actions);
+                        told += 1;
+                    }
                 }
             }
         }
+        assert!(more > 20 && told > 50, "{form:?} {more} {told}");
     }
-    assert!(more > 20 && told > 50, "{more} {told}");
+}
+
+/// Texts of form 3 with more values than other forms have: of users, of objects, of both.
+#[test]
+fn eight_and_nine_values_come_up_and_most_texts_are_small() {
+    let all = policies(THIRD, 2 * THOUSAND);
+    let count = |wanted: &dyn Fn(u32, u32) -> bool| {
+        let found = all
+            .iter()
+            .filter(|p| wanted(p.user_values(), p.object_values()));
+        found.count()
+    };
+    for many in [8, 9] {
+        assert!(count(&|users, objects| users == many && objects < 4) > 10);
+        assert!(count(&|users, objects| users < 4 && objects == many) > 10);
+        assert!(count(&|users, objects| users == many && objects == many) > 0);
+    }
+    assert!(count(&|users, objects| users + objects > 12) < all.len() / 6);
+    for width in [8, 9] {
+        assert!(all.iter().any(|p| p.user_widths == [width]));
+        assert!(all.iter().any(|p| p.object_widths == [width]));
+    }
+    assert!(all.iter().any(|p| p.user_seniority.len() == 36));
+    assert!(all.iter().any(|p| p.object_seniority.len() == 36));
+}
+
+/// Words, pairs and sets with the two highest values, comparisons of wide attributes, and
+/// what they make of labels and tuples.
+#[test]
+fn the_values_above_7_decide() {
+    let all = policies(THIRD, 2 * THOUSAND);
+    let words = || {
+        all.iter()
+            .flat_map(|p| &p.rules)
+            .flat_map(|rule| &rule.words)
+    };
+    for value in [7, 8] {
+        for word in [Word::User(value), Word::Object(value)] {
+            assert!(
+                words().filter(|found| **found == word).count() > 10,
+                "{word:?}"
+            );
+        }
+        let mut pairs = all.iter().flat_map(|p| &p.pairs);
+        assert!(pairs.any(|pair| pair.user == value));
+        assert!(pairs.any(|pair| pair.object == value));
+    }
+    let wide = |policy: &&Policy| {
+        let compares = |word: &Word| match *word {
+            Word::Within(i, _) | Word::Same(i, _) => policy.user_widths[i as usize] > 7,
+            _ => false,
+        };
+        policy
+            .rules
+            .iter()
+            .any(|rule| rule.words.iter().any(compares))
+    };
+    assert!(all.iter().filter(wide).count() > 2);
+    assert!(all.iter().flat_map(|p| &p.users).any(|user| user.1 > 255));
+    assert!(all
+        .iter()
+        .flat_map(|p| &p.objects)
+        .any(|object| object.1 > 255));
+    assert!(all
+        .iter()
+        .flat_map(|p| &p.conflicts)
+        .any(|conflict| conflict.set > 255));
+    let (mut labels, mut tuple) = ([0, 0], 0);
+    for policy in all
+        .iter()
+        .filter(|p| p.user_values() + p.object_values() > 9)
+    {
+        let labelling = compile(policy);
+        labels[0] = labels[0].max(labelling.user_count);
+        labels[1] = labels[1].max(labelling.object_count);
+        let last = (0..policy.actions()).filter_map(|a| tuples(policy, a).ok()?.last().copied());
+        tuple = last.fold(tuple, u32::max);
+    }
+    assert!(
+        labels.iter().all(|&count| count > 256) && tuple > 65_535,
+        "{labels:?} {tuple}"
+    );
 }
 
 #[test]
-fn the_limits_of_form_2_come_up() {
-    let largest = |policy: &Policy| {
-        (policy.user_values(), policy.object_values()) == (7, 7)
-            && policy.rules.len() == SECOND.actions as usize
-            && policy.rules.iter().all(|rule| rule.words.len() == 32)
-    };
-    let all: Vec<Policy> = of_form(SECOND, 2 * THOUSAND)
-        .map(|(_, policy)| policy)
-        .collect();
-    assert!(all.iter().any(largest));
-    let up_to_15 = |policy: &Policy| policy.pairs.last().is_some_and(|pair| pair.action == 15);
-    assert!(all
-        .iter()
-        .any(|policy| policy.pairs.len() == MOST_PAIRS && up_to_15(policy)));
+fn pairs_of_the_last_action_come_up_at_their_limit() {
+    for form in later(FIRST) {
+        let last = form.last_action();
+        let up_to_last = |policy: &Policy| {
+            let highest = policy.pairs.last().map(|pair| pair.action);
+            policy.pairs.len() == MOST_PAIRS && highest == Some(last)
+        };
+        assert!(policies(form, THOUSAND).iter().any(up_to_last), "{form:?}");
+    }
 }
 
 #[test]
 fn requests_for_every_action_are_granted_and_denied() {
     let mut found = BTreeSet::new();
-    for (mut rng, policy) in accepted(THOUSAND) {
+    for (mut rng, policy) in accepted(2 * THOUSAND) {
         let form = policy.form.number;
         let calls = calls(&mut rng, &policy, 40, u32::MAX);
         for (call, answer) in calls.iter().zip(run(&policy, &calls).0) {
@@ -311,28 +458,28 @@ fn requests_for_every_action_are_granted_and_denied() {
     }
 }
 
-/// The lines for the form's own widths go first, and are those there are without others.
+/// The lines for the form's own widths go first, and are those there are without others;
+/// behind them those for labels in bytes, and then all others.
 #[test]
 fn lines_for_other_widths_stand_behind_the_form_s_own() {
-    let (mut more, mut refused) = ([0, 0], 0);
+    // By form, and last for refused texts.
+    let mut more = [[0; 4], [0; 4]];
     for case in 0..CASES {
-        let (mut rng, text) = made(case);
-        let own = answered(&mut rng, case, &text, u32::MAX);
-        let (mut rng, _) = made(case);
-        let all = answered_for_all_widths(&mut rng, case, &text, u32::MAX);
-        assert!(all.starts_with(&own));
+        let text = made(case).1;
+        let [own, bytes, all] = [answered, answered_for_byte_labels, answered_for_all_widths]
+            .map(|answered| answered(&mut made(case).0, case, &text, u32::MAX));
+        assert!(all.starts_with(&bytes) && bytes.starts_with(&own));
         let lines = case_file::lines(&all);
-        let behind = &lines[case_file::lines(&own).len()..];
-        let other = behind
-            .iter()
-            .any(|line| line.starts_with(|c| "uUoOgGSZ".contains(c)));
-        match read(&text) {
-            Ok(policy) => more[policy.form.number as usize - 1] += u32::from(other),
-            Err(_) => refused += u32::from(other),
-        }
+        let ends = [&own, &bytes, &all].map(|lines| case_file::lines(lines).len());
+        let place = read(&text).map_or(3, |policy| policy.form.number as usize - 1);
+        let begins = |lines: &[String], tags: &str| {
+            let found = lines
+                .iter()
+                .any(|line| line.starts_with(|c| tags.contains(c)));
+            u32::from(found)
+        };
+        more[0][place] += begins(&lines[ends[0]..ends[1]], "uUoOgGSZ");
+        more[1][place] += begins(&lines[ends[1]..ends[2]], "vphXtbTB");
     }
-    assert!(
-        more[0] > 20 && more[1] > 10 && refused > 20,
-        "{more:?} {refused}"
-    );
+    assert!(more.iter().flatten().all(|&count| count > 7), "{more:?}");
 }

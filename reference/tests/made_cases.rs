@@ -5,6 +5,7 @@ mod made;
 use made::{accepted, made, SEED};
 use reference::cases::{calls, Rng};
 use reference::cases::{text_without_conflicts, text_without_dominance, text_without_pairs};
+use reference::form::FORMS;
 use reference::formula::{decide, holds, is_senior, Formulas};
 use reference::labels::{apart, compile, grants, grants_alike, Entry};
 use reference::machine::{run, step, Answer, Call, Sessions};
@@ -140,15 +141,25 @@ fn lengths_around_the_longest_come_up() {
 
 #[test]
 fn texts_at_every_limit_come_up() {
-    let full = accepted(CASES).any(|(_, policy)| {
-        (policy.user_values(), policy.object_values()) == (7, 7)
+    let full = |policy: &Policy| {
+        let values = policy.form.values;
+        (policy.user_values(), policy.object_values()) == (values, values)
             && (policy.users.len(), policy.objects.len()) == (32, 64)
-            && policy.rules.len() == 8
+            && policy.rules.len() == policy.actions() as usize
             && policy.rules.iter().all(|rule| rule.words.len() == 32)
-            && policy.pairs.len() == MOST_PAIRS
-            && policy.conflicts.len() == MOST_CONFLICTS
-    });
-    assert!(full);
+    };
+    let found = (0..8 * CASES).step_by(2);
+    let found: Vec<Policy> = found
+        .filter_map(|case| read(&made(case).1).ok().filter(full))
+        .collect();
+    for form in FORMS {
+        let count = found.iter().filter(|policy| policy.form == form).count();
+        assert!(count > 10, "{form:?} {count}");
+    }
+    let all = |policy: &Policy| {
+        (policy.pairs.len(), policy.conflicts.len()) == (MOST_PAIRS, MOST_CONFLICTS)
+    };
+    assert!(found.iter().any(all));
 }
 
 #[test]
@@ -241,7 +252,8 @@ fn tuples_are_the_pairs_granted() {
         let action = rng.below(policy.actions());
         let listing = tuples(&policy, action).expect("listed");
         assert!(listing.windows(2).all(|pair| pair[0] < pair[1]));
-        assert!(listing.iter().all(|&tuple| tuple < 1 << 14));
+        let end = policy.user_sets() * policy.object_sets();
+        assert!(listing.iter().all(|&tuple| tuple < end));
         for _ in 0..8 {
             let (us, os) = (
                 rng.below(policy.user_sets()),
@@ -454,6 +466,8 @@ fn conflicts_that_forbid_nothing_refuse_nothing() {
     for (policy, calls) in with_conflicts() {
         let plain = run(&changed(&policy, Vec::new()), &calls);
         let sets = policy.conflicts.iter().map(|conflict| conflict.set);
+        // Of more values than a line may let hold, some are always forbidden.
+        let sets = sets.filter(|set| set.count_ones() <= MOST_TOGETHER);
         let all = sets.clone().map(|set| Conflict {
             set,
             most: MOST_TOGETHER,
@@ -488,10 +502,14 @@ fn conflicts_of_every_number_and_size_come_up() {
         let count = conflicts.iter().filter(|c| c.most == most).count();
         assert!(count > if most < 3 { 200 } else { 20 }, "{most}: {count}");
     }
-    for size in 0..=7 {
+    for size in 0..=9 {
         let count = conflicts.iter().filter(|c| c.set.count_ones() == size);
-        assert!(count.count() > 10, "{size}");
+        assert!(count.count() > if size < 8 { 10 } else { 3 }, "{size}");
     }
+}
+
+fn first_line(policy: &Policy) -> String {
+    format!("policy,{}\n", policy.form.number)
 }
 
 /// Holdings follow chains once and for all; this asks the chains each time.
@@ -503,7 +521,7 @@ fn holdings_are_by_chains() {
         let head: String = text
             .lines()
             .filter(|l| l.contains("attr") || l.contains("sen"))
-            .fold("policy,1\n".to_string(), |head, line| head + line + "\n");
+            .fold(first_line(&policy), |head, line| head + line + "\n");
         let one = read(format!("{head}rule,0,u{value}\nend\n").as_bytes()).expect("accepted");
         for us in 0..one.user_sets() {
             let due = (0..one.user_values())

@@ -49,7 +49,7 @@ fn set(rng: &mut Rng, draft: &Draft) -> Set {
 
 /// A line of a text with so many. To forbid all of a set's values is rarer where
 /// there are more lines, or nothing could be held; one value less than the set
-/// has is the most that refuses at all.
+/// has is the most that refuses at all. More than a line may let hold is for none.
 fn line(rng: &mut Rng, set: Set, count: usize) -> String {
     let most = match rng.below(6) {
         0 if rng.index(count) < 2 => 0,
@@ -59,7 +59,7 @@ fn line(rng: &mut Rng, set: Set, count: usize) -> String {
         4 => set.count_ones(),
         _ => rng.below(MOST_TOGETHER + 1),
     };
-    format!("conflict,{set},{most}")
+    format!("conflict,{set},{}", most.min(MOST_TOGETHER))
 }
 
 fn beyond(draft: &Draft) -> Vec<String> {
