@@ -8,6 +8,7 @@ mod coverage;
 mod isolation;
 mod known;
 mod lent;
+mod many_values;
 mod sessions;
 mod texts;
 
@@ -132,6 +133,7 @@ impl Trial<'_> {
         let start = self.coverage.calls();
         self.writing_back(&known, &text)?;
         self.list_of_calls(&known, calls / 2)?;
+        self.by_many_values(&known)?;
         while self.coverage.calls() < start + u64::from(calls) {
             if self.rng.chance(1, 3) {
                 let damaged = Known::of(damaged(&mut self.rng, &known.value));

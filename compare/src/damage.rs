@@ -108,7 +108,9 @@ fn change_sum(rng: &mut Rng, value: &mut PolicyValue) {
     let sum = rng.pick(&[7, 8, 9, 9, 10]);
     let widths = side.widths.get_mut(..side.attributes);
     if let Some((last, others)) = widths.and_then(|widths| widths.split_last_mut()) {
-        *last = others.iter().fold(sum, |left, &width| left.saturating_sub(width));
+        *last = others
+            .iter()
+            .fold(sum, |left, &width| left.saturating_sub(width));
     }
 }
 

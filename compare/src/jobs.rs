@@ -247,7 +247,10 @@ mod tests {
             let mut left = Self::new();
             let (users, objects) = (&mut left.users, &mut left.objects);
             assert_eq!(engine.write(policy, &mut left.text).refusal, 0);
-            assert_eq!(W::Tuple::list(engine, policy, 0, &mut left.tuples).refusal, 0);
+            assert_eq!(
+                W::Tuple::list(engine, policy, 0, &mut left.tuples).refusal,
+                0
+            );
             let counts = W::compile(engine, policy, users, objects, &mut left.table);
             assert_eq!(counts.refusal, 0);
             left

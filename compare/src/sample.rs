@@ -27,7 +27,8 @@ pub struct Size {
     pub words: u32,
     /// Equally many of each action, and not more of one than there are pairs of values.
     pub pairs: u32,
-    /// Whether each set has a label of its own: the last rule is `q00`, and has no pairs.
+    /// Whether each set has a label of its own, and rows that are not alike begin alike:
+    /// every rule is true where `q00` is, and the last action has no pairs.
     pub all_apart: bool,
 }
 
@@ -109,7 +110,8 @@ const LARGE_3: Size = Size {
     ..LARGE_2
 };
 
-/// Of form 3, at the limits: as those of form 2, then with as many labels as there can be.
+/// Of form 3, at the limits: as those of form 2, and both once more with as many labels as
+/// there can be.
 pub const FORM_3_SIZES: [Size; 4] = [
     LARGE_3,
     Size {
@@ -296,7 +298,7 @@ fn text(size: Size) -> String {
     }
     text += &conflicts(size);
     for rule in 0..size.rules {
-        text += &format!("rule,{rule},{}\n", formula(size, rule));
+        text += &format!("rule,{rule},{}\n", words(size, rule));
     }
     text + &pairs(size) + "end\n"
 }
@@ -337,11 +339,16 @@ fn pairs(size: Size) -> String {
         .collect()
 }
 
-/// Leaves two by two, each two joined; then all of these joined, and `n`.
-fn formula(size: Size, rule: u32) -> String {
-    if size.all_apart && rule == size.rules - 1 {
-        return only_same(size.words);
+/// The words of a rule; where all sets are to be apart they end in `q00`, whatever it says.
+fn words(size: Size, rule: u32) -> String {
+    match size.all_apart {
+        true => formula(size, rule, size.words - 4) + ",f,a,q00,r",
+        false => formula(size, rule, size.words),
     }
+}
+
+/// Leaves two by two, each two joined; then all of these joined, and `n`.
+fn formula(size: Size, rule: u32, count: u32) -> String {
     let leaf = |k: u32| match (rule + k) % 8 {
         0 | 3 | 6 => format!("u{}", (rule + k / 2) % size.values),
         1 | 4 | 7 => format!("o{}", (rule + k / 3) % size.values),
@@ -349,7 +356,7 @@ fn formula(size: Size, rule: u32) -> String {
         _ => "q00".to_string(),
     };
     let join = |k: u32| ["a", "r"][(rule + k) as usize % 2].to_string();
-    let leaves = size.words / 2;
+    let leaves = count / 2;
     let mut words = Vec::new();
     for k in 0..leaves {
         words.push(leaf(k));
@@ -363,10 +370,29 @@ fn formula(size: Size, rule: u32) -> String {
     words.join(",")
 }
 
-/// `q00`, with words behind it that leave its truth; and `n`.
-fn only_same(words: u32) -> String {
-    let idle = (1..words / 2).map(|k| [",f,r", ",t,a"][k as usize % 2]);
-    format!("q00{},n", idle.collect::<String>())
+/// A text of nine values on each side that grants each of sixteen actions at every pair of
+/// sets.
+pub fn granting_all() -> Vec<u8> {
+    listed(|_| "t".to_string())
+}
+
+/// One that grants each at half of the pairs of sets: where just one of a user value and an
+/// object value is held.
+pub fn granting_half() -> Vec<u8> {
+    listed(|action| {
+        let (user, object) = (action % LARGE_3.values, (action / 2 + 3) % LARGE_3.values);
+        format!("u{user},o{object},n,a,u{user},n,o{object},a,r")
+    })
+}
+
+/// A text of the most values of form 3, with a rule for each action.
+fn listed(words: impl Fn(u32) -> String) -> Vec<u8> {
+    let values = LARGE_3.values;
+    let mut text = format!("policy,3\nuattr,{values}\noattr,{values}\n");
+    for action in 0..LARGE_3.actions() {
+        text += &format!("rule,{action},{}\n", words(action));
+    }
+    (text + "end\n").into_bytes()
 }
 
 /// The user that a session is opened for, and the user's assigned set.
@@ -437,7 +463,6 @@ fn calls(size: Size, policy: &Policy) -> Vec<Call> {
 #[cfg(test)]
 mod tests {
     use super::*;
-    use crate::for_all_sizes;
     use crate::value::sessions;
     use reference::machine::{run, step, Answer};
     use reference::text::read;
@@ -460,12 +485,24 @@ mod tests {
     fn has_its_labels<W: Widths>(size: Size) {
         let Labels { nu, no, .. } = Sample::<W>::of(size).labels();
         let most = 1 << size.values;
-        assert_eq!((nu, no) == (most, most), size.all_apart, "{size}: {nu}, {no}");
+        assert!(!size.all_apart || (nu, no) == (most, most), "{size}");
     }
 
     #[test]
     fn samples_have_as_many_labels_as_sets_where_they_should() {
         for_all_sizes!(has_its_labels);
+    }
+
+    /// All sixteen actions at every pair of sets, or at half of them.
+    #[test]
+    fn what_is_listed_has_its_tuples() {
+        for (text, count) in [(granting_all(), 1 << 18), (granting_half(), 1 << 17)] {
+            let policy = plain::reader::read(&text).expect("accepted");
+            let mut tuples = vec![0u32; 1 << 18];
+            for action in 0..16 {
+                assert_eq!(plain::by_64::list(&policy, action, &mut tuples), Ok(count));
+            }
+        }
     }
 
     fn none_refused_on_full<W: Widths>(size: Size) {

@@ -74,7 +74,9 @@ fn growth() {
                 format!("{} | {by_pair:.2} ns", shown(time))
             });
             let (values, ratio) = (size.values, times[0] / times[1]);
-            println!("| {name} | {values} + {values} | {pairs} | {engine} | {plain} | {ratio:.2} |");
+            println!(
+                "| {name} | {values} + {values} | {pairs} | {engine} | {plain} | {ratio:.2} |"
+            );
         }
     }
 }

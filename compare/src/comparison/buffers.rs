@@ -80,7 +80,10 @@ impl<W: Widths> Buffers<W> {
 
 /// Numbers as a buffer stores them, whatever bits they lose.
 pub fn cut<T: Element>(numbers: &[impl Copy + Into<u32>]) -> Vec<T> {
-    numbers.iter().map(|&number| T::cut(number.into())).collect()
+    numbers
+        .iter()
+        .map(|&number| T::cut(number.into()))
+        .collect()
 }
 
 /// Numbers as a buffer stores them that has bits enough.

@@ -31,7 +31,7 @@ fn due_listing(known: &Known, bits: u32, action: u32) -> Result<&[Stored], Refus
 }
 
 /// Whether 16 bits are too few for a tuple.
-fn is_wide(tuple: u32) -> bool {
+pub(super) fn is_wide(tuple: u32) -> bool {
     tuple > u16::MAX.into()
 }
 
@@ -122,9 +122,13 @@ impl Trial<'_> {
         at_tuples!(self.some_tuple_bits(known), T => self.list_in::<T>(known))
     }
 
-    /// Lists in tuples of a width, into a buffer of any length.
     fn list_in<T: Tuple>(&mut self, known: &Known) -> Outcome {
         let (action, ..) = self.decision_on(known);
+        self.list_action_in::<T>(known, action)
+    }
+
+    /// Lists an action in tuples of a width, into a buffer of any length.
+    pub(super) fn list_action_in<T: Tuple>(&mut self, known: &Known, action: u32) -> Outcome {
         let needed = match &known.policy {
             Some(policy) if action < policy.actions() => known.tuples(policy, action).len(),
             _ => 0,
@@ -170,9 +174,8 @@ impl Trial<'_> {
         at_tuples!(self.some_tuple_bits(known), T => self.decide_in::<T>(known))
     }
 
-    /// Decides by a listing in tuples of a width, and any count.
     fn decide_in<T: Tuple>(&mut self, known: &Known) -> Outcome {
-        let (user, object) = self.sets(known);
+        let sets = self.sets(known);
         let listing: Vec<T> = cut(&self.some_listing(known));
         let count = match self.rng.below(8) {
             0 => listing.len() + 1,
@@ -181,13 +184,24 @@ impl Trial<'_> {
             3 => 0,
             _ => listing.len(),
         };
-        let found = T::decide(self.engine, &known.value, user, object, &listing, count);
+        self.decide_on_in(known, sets, &listing, count)
+    }
+
+    /// Decides on two sets by so many of a listing in tuples of a width.
+    pub(super) fn decide_on_in<T: Tuple>(
+        &mut self,
+        known: &Known,
+        (user, object): (u32, u32),
+        listing: &[T],
+        count: usize,
+    ) -> Outcome {
+        let found = T::decide(self.engine, &known.value, user, object, listing, count);
         self.count(T::DECIDE, known, found);
         self.count_other_tuples::<T>(T::DECIDE, known);
         let due = match &known.policy {
             None => 11,
             Some(policy) => {
-                let listing: Vec<Stored> = cut(&listing);
+                let listing: Vec<Stored> = cut(listing);
                 let due = by_tuples(policy, T::BITS, user, object, &listing, count);
                 decision(due)
             }

@@ -1,6 +1,6 @@
 //! What a comparison covered.
 
-use crate::boundary::FORM_1_VALUES;
+use super::known::has_many_values;
 use reference::policy::Policy;
 use std::collections::BTreeMap;
 use std::fmt::{self, Display};
@@ -97,7 +97,7 @@ impl Coverage {
     pub(super) fn count_policy(&mut self, kind: &'static str, policy: &Policy) {
         let kinds = self.forms.entry(policy.form.number).or_default();
         *kinds.entry(kind).or_default() += 1;
-        if policy.user_values().max(policy.object_values()) > FORM_1_VALUES as u32 {
+        if has_many_values(policy) {
             *self.many_values.entry(kind).or_default() += 1;
         }
     }

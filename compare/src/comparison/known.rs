@@ -52,11 +52,7 @@ impl Known {
     }
 
     /// Whether an action is decided at two sets otherwise by labels cut to a byte.
-    pub fn by_wide_labels(
-        &self,
-        policy: &Policy,
-        (action, user, object): (u32, u32, u32),
-    ) -> bool {
+    pub fn by_wide_labels(&self, policy: &Policy, (action, user, object): (u32, u32, u32)) -> bool {
         let labelling = self.labelling(policy);
         let user = usize::from(labelling.user_labels[user as usize]);
         let object = usize::from(labelling.object_labels[object as usize]);
@@ -179,6 +175,11 @@ impl Known {
             alike(policy) != alike(by_places)
         })
     }
+}
+
+/// Whether some side has more values than forms 1 and 2 have.
+pub fn has_many_values(policy: &Policy) -> bool {
+    policy.user_values().max(policy.object_values()) > FORMS[0].values
 }
 
 /// Whether form 1 lacks an action.

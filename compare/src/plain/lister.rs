@@ -139,3 +139,21 @@ fn end(set: u32) -> End {
     end[..text.len()].copy_from_slice(text.as_bytes());
     (end, text.len())
 }
+
+#[cfg(test)]
+mod tests {
+    use super::*;
+    use reference::cases::{text, Rng};
+    use reference::lister::list;
+
+    /// Of texts of all forms, good and damaged.
+    #[test]
+    fn the_report_is_that_of_the_second_implementation() {
+        for case in 0..600 {
+            let text = text(&mut Rng::new(7, case), case);
+            let mut found = Vec::new();
+            report(&text, &mut found).expect("written");
+            assert!(found == list(&text).into_bytes(), "case {case}");
+        }
+    }
+}

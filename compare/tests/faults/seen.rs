@@ -26,6 +26,24 @@ impl Faulty {
             }
             TakesAction8InForm1 if seen.form == 1 => clamp_actions(&mut seen, 8),
             TakesAction16InForm2 if seen.form == 2 => clamp_actions(&mut seen, 16),
+            TakesEightValuesInForm2 if seen.form == 2 => seen.form = 3,
+            TakesTenValuesInForm3 if seen.form == 3 => {
+                for side in [&mut seen.user, &mut seen.object] {
+                    if let (10, Some(width)) = (side.values(), side.widths.iter_mut().max()) {
+                        *width -= 1;
+                    }
+                }
+            }
+            MissesALateWidth => {
+                let late = seen.user.attributes.clamp(FORM_1_VALUES, WIDTH_PLACES);
+                seen.user.widths[late..].fill(0);
+            }
+            MissesALateLine => {
+                let last = LINE_PLACES - 1;
+                if seen.user.lines <= last {
+                    seen.user.seniority[last] = Direct::default();
+                }
+            }
             TakesNumbersOfNoWord => {
                 for rule in &mut seen.rules.entries {
                     each(&mut rule.words, |number| {

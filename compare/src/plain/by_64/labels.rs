@@ -42,7 +42,9 @@ pub fn compile<W: Widths>(
     let short = Refusal::BufferTooShort;
     let users = users.get_mut(..user.labels.len()).ok_or(short)?;
     let objects = objects.get_mut(..object.labels.len()).ok_or(short)?;
-    let table = table.get_mut(..counts.users * counts.objects).ok_or(short)?;
+    let table = table
+        .get_mut(..counts.users * counts.objects)
+        .ok_or(short)?;
     store(users, &user.labels);
     store(objects, &object.labels);
     let rows = labelling.rows.rows();
