@@ -38,7 +38,7 @@ fn measure<W: Widths>(size: Size) {
     for (((name, engine), plain), behind) in NAMES.iter().zip(engine).zip(plain).zip(behind) {
         let row = match at_once.next_if(|(by_64, _)| *by_64 == name) {
             Some((_, by_64)) => row(race([engine, plain, behind, by_64])),
-            None => row(race([engine, plain, behind])) + "| | |",
+            None => row(race([engine, plain, behind])) + " | |",
         };
         println!("| {name} | {size} {row}");
     }
