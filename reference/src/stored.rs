@@ -1,23 +1,27 @@
 //! The case files that are stored with the product: the requirement's examples
 //! with the requirement's answers, made cases from one seed without pairs and
 //! conflicts and with them, lines that are wrong on purpose, made cases about
-//! dominance, the like about forms, and lists of calls in which those naming one session
-//! are the same.
+//! dominance, the like about forms, lists of calls in which those naming one session are
+//! the same, and all this in form 3.
 
 pub(crate) mod conflicts;
 mod dominance;
 pub(crate) mod forms;
 mod isolation;
 mod lists;
+pub(crate) mod nine_values;
 mod pairs;
 
-use crate::case_file::{answered, answered_for_byte_labels, case_of, lines};
+use crate::case_file::{answered, answered_for_all_widths, answered_for_byte_labels};
+use crate::case_file::{case_of, lines};
 use crate::cases::{self, Rng};
+use crate::form::FORMS;
 use crate::formula::reach;
-use crate::labels::grants;
+use crate::labels::{compile, grants};
 use crate::policy::Policy;
 use crate::spelled::a_senior_decides;
 use crate::text::{read, MOST_CONFLICTS, MOST_PAIRS};
+use crate::tuples::tuples;
 use crate::wrong;
 
 const SEED: u64 = 3;
@@ -34,6 +38,12 @@ const ALIKE_BY_SENIORITY: u64 = 690;
 const LABEL_PER_SET: u64 = 1810;
 /// A large case of form 2, with a file of its own.
 const LARGE_OF_FORM_2: u64 = 672;
+/// The most bytes of a case of form 3 with more values than other forms have, the most
+/// entries of its table and tuples of an action.
+const WIDE: usize = 12_000;
+const WIDE_ENTRIES: usize = 4_096;
+/// The most bytes of a file of small cases about form 3.
+const SMALL_FILE: usize = 34_000;
 
 /// The text of the requirement.
 pub(crate) const TEXT: &str = "policy,1
@@ -88,8 +98,8 @@ const EDGES: [(&str, &str, &str); 16] = [
 
 /// The files by their numbers: the examples, the made cases without pairs, those
 /// about pairs, the lines that are wrong on purpose, then the made cases about
-/// conflicts and those about dominance. What is about forms stands behind all these,
-/// and last what is about isolation of sessions.
+/// conflicts and those about dominance. What is about forms 1 and 2 stands behind all
+/// these, then what is about isolation of sessions, and last what is about form 3.
 pub fn files() -> Vec<Vec<u8>> {
     let mut files = vec![numbered(example_cases())];
     files.extend(without_pairs());
@@ -105,13 +115,7 @@ pub fn files() -> Vec<Vec<u8>> {
     files.push(about(of_form_1(cases::text_without_forms), |text, _| {
         read(text).is_ok_and(|policy| a_senior_decides(&policy))
     }));
-    files.push(numbered(forms::example_cases()));
-    files.push(wrong::file_of_forms());
-    files.push(about(of_both_forms, |text, _| {
-        read(text).is_ok_and(|policy| much_by_form_2(&policy))
-    }));
-    files.push(about(of_both_forms, much_between_forms));
-    files.push(of_both_forms(LARGE_OF_FORM_2).1);
+    files.extend(about_forms_1_and_2());
     files.push(
         [
             numbered(isolation::example_cases()),
@@ -119,7 +123,36 @@ pub fn files() -> Vec<Vec<u8>> {
         ]
         .concat(),
     );
+    files.extend(about_form_3());
     files
+}
+
+fn about_forms_1_and_2() -> [Vec<u8>; 5] {
+    let by_form_2 = |text: &[u8], _: &[u8]| read(text).is_ok_and(|p| much_by_form_2(&p));
+    [
+        numbered(forms::example_cases()),
+        wrong::file_of_forms(),
+        about(of_both_forms, by_form_2),
+        about(of_both_forms, much_between_forms),
+        of_both_forms(LARGE_OF_FORM_2).1,
+    ]
+}
+
+/// Examples with few values and with many, lines that are wrong on purpose, cases with few
+/// values, what is between the forms, and cases with many values.
+fn about_form_3() -> [Vec<u8>; 6] {
+    let few = |text: &[u8], _: &[u8]| {
+        read(text).is_ok_and(|policy| policy.form == FORMS[2] && !policy.rules.is_empty())
+    };
+    let many = |text: &[u8], _: &[u8]| read(text).is_ok_and(|p| much_by_nine_values(&p));
+    [
+        numbered(nine_values::example_cases_with_few_values()),
+        numbered(nine_values::example_cases_with_many_values()),
+        wrong::file_of_form_3(),
+        about_in([SMALL, SMALL_FILE], of_all_forms, few),
+        about_in([SMALL, SMALL_FILE], of_all_forms, much_between_form_3),
+        about_in([WIDE, FILE], of_all_forms, many),
+    ]
 }
 
 /// The text of a case.
@@ -140,6 +173,14 @@ fn of_both_forms(case: u64) -> (Vec<u8>, Vec<u8>) {
     let mut rng = Rng::new(SEED, case);
     let text = cases::text_without_form_3(&mut rng, case);
     let lines = answered_for_byte_labels(&mut rng, case, &text, u32::MAX);
+    (text, lines)
+}
+
+/// The text of a case of any form and all its lines, for all widths.
+fn of_all_forms(case: u64) -> (Vec<u8>, Vec<u8>) {
+    let mut rng = Rng::new(SEED, case);
+    let text = cases::text(&mut rng, case);
+    let lines = answered_for_all_widths(&mut rng, case, &text, u32::MAX);
     (text, lines)
 }
 
@@ -169,10 +210,19 @@ fn about(
     made: impl Fn(u64) -> (Vec<u8>, Vec<u8>),
     wanted: impl Fn(&[u8], &[u8]) -> bool,
 ) -> Vec<u8> {
+    about_in([SMALL, FILE], made, wanted)
+}
+
+/// The same with the most bytes of a case and of the file.
+fn about_in(
+    [small, most]: [usize; 2],
+    made: impl Fn(u64) -> (Vec<u8>, Vec<u8>),
+    wanted: impl Fn(&[u8], &[u8]) -> bool,
+) -> Vec<u8> {
     let mut file = Vec::new();
     for case in 0..CASES {
         let (text, lines) = made(case);
-        if lines.len() <= SMALL && file.len() + lines.len() <= FILE && wanted(&text, &lines) {
+        if lines.len() <= small && file.len() + lines.len() <= most && wanted(&text, &lines) {
             file.extend(lines);
         }
     }
@@ -228,6 +278,32 @@ fn much_between_forms(text: &[u8], case: &[u8]) -> bool {
     }
 }
 
+/// Of form 3, with more values on a side than other forms have, and few labels and tuples.
+fn much_by_nine_values(policy: &Policy) -> bool {
+    let most = policy.user_values().max(policy.object_values());
+    let listed = |action| tuples(policy, action).expect("an action").len();
+    most > FORMS[0].values
+        && compile(policy).table.len() <= WIDE_ENTRIES
+        && (0..policy.actions()).all(|action| listed(action) <= WIDE_ENTRIES)
+}
+
+/// Refused though it says it is of form 3, or for its values by an earlier form; or of an
+/// earlier form with calls made for the widths of form 3.
+fn much_between_form_3(text: &[u8], case: &[u8]) -> bool {
+    match read(text) {
+        Err(refused) => {
+            let mut lines = text.split(|&byte| byte == b'\n');
+            let line = lines.nth(refused.line).unwrap_or_default();
+            let attribute = line.starts_with(b"uattr,") || line.starts_with(b"oattr,");
+            text.starts_with(b"policy,3\n") || refused.refusal == 6 && attribute
+        }
+        Ok(policy) => {
+            let wide = |line: &String| line.starts_with("v,11,") || line.starts_with("t,11,");
+            policy.form != FORMS[2] && lines(case).iter().any(wide)
+        }
+    }
+}
+
 /// A file of these cases.
 fn numbered(cases: Vec<(String, String)>) -> Vec<u8> {
     let numbered = (0..).zip(cases);
@@ -263,8 +339,12 @@ pub(crate) fn example_cases() -> Vec<(String, String)> {
 /// The cases with answers by hand, of all files.
 #[cfg(test)]
 pub(crate) fn all_example_cases() -> Vec<(String, String)> {
-    let others = [forms::example_cases(), isolation::example_cases()];
-    [example_cases(), others.concat()].concat()
+    let mut cases = example_cases();
+    cases.extend(forms::example_cases());
+    cases.extend(isolation::example_cases());
+    cases.extend(nine_values::example_cases_with_few_values());
+    cases.extend(nine_values::example_cases_with_many_values());
+    cases
 }
 
 /// For each number of values, the same on both sides: the greatest sets there

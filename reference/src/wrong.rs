@@ -5,14 +5,16 @@
 //! Such a line has a mark behind its tag and stands after the line that it is
 //! made from.
 
-use crate::case_file::{case_of, WITHOUT_POLICY, WITHOUT_POLICY_16};
-use crate::stored::{conflicts, forms, ANSWERS, TEXT};
+use crate::case_file::{case_of, WITHOUT_POLICY, WITHOUT_POLICY_16, WITHOUT_POLICY_WIDE};
+use crate::stored::{conflicts, forms, nine_values, ANSWERS, TEXT};
 
 /// Behind the tag of a line that is wrong on purpose.
 pub const MARK: char = '!';
 
-/// A bit of an entry that a byte lacks.
+/// A bit of a label or an entry that a byte lacks.
 const HIGH_BIT: u32 = 256;
+/// A bit of a tuple that 16 bits lack.
+const HIGH_TUPLE_BIT: u32 = 65_536;
 
 /// Of more entries than these only the first and the last are changed.
 const FEW: usize = 16;
@@ -51,6 +53,14 @@ T,20,0,15,3
 F,12,0,16,0,0
 ";
 
+/// Right lines for the same example in form 3, beside its own.
+const MORE_OF_FORM_3: &str = "b,19,0,8,4,0,3,16384
+b,20,0,8,3,1,4,3
+";
+
+/// The most sets of form 3.
+const WIDE_OF_FORM_3: &str = "policy,3\nuattr,9\noattr,9\nrule,0,f\nend\n";
+
 /// Form 1: right lines, each with the wrong ones made from it.
 pub fn file() -> Vec<u8> {
     with_wrong_lines(right_cases())
@@ -59,6 +69,11 @@ pub fn file() -> Vec<u8> {
 /// The same of form 2, and of calls made for other widths than the form's.
 pub fn file_of_forms() -> Vec<u8> {
     with_wrong_lines(right_cases_of_forms())
+}
+
+/// The same of form 3, and of calls made for its widths.
+pub fn file_of_form_3() -> Vec<u8> {
+    with_wrong_lines(right_cases_of_form_3())
 }
 
 fn with_wrong_lines<const N: usize>(cases: [(String, String); N]) -> Vec<u8> {
@@ -116,6 +131,27 @@ fn right_cases_of_forms() -> [(String, String); 4] {
     ]
 }
 
+/// Texts of form 3 and one of form 1, each with right lines.
+fn right_cases_of_form_3() -> [(String, String); 4] {
+    let without_policy = WITHOUT_POLICY_WIDE.join("\n");
+    let labels = ",0".repeat(512);
+    let (text, answers) = forms::above_7();
+    let (text, answers) = nine_values::in_form_3((text, answers + MORE_ABOVE_7));
+    let for_16_bits = forms::for_tuples_of_16_bits();
+    [
+        (text, format!("{answers}{MORE_OF_FORM_3}{for_16_bits}")),
+        (TEXT.to_string(), format!("Y\n{}", forms::for_wide_labels())),
+        (
+            "policy,3\nuattr,10\n".to_string(),
+            format!("R,6,1\nV,11\n{without_policy}\n"),
+        ),
+        (
+            WIDE_OF_FORM_3.to_string(),
+            format!("Y\nv,0,1,512,512,1{labels}\np,0,1,512,512,1{labels}\nh,0,1,512,512,1,0\n"),
+        ),
+    ]
+}
+
 /// A right line, and the wrong ones made from it.
 fn with_wrong(right: &str) -> String {
     let (tag, fields) = right.split_at(1);
@@ -147,8 +183,18 @@ fn wrong_numbers(tag: &str, mut right: Vec<u32>) -> Vec<Vec<u32>> {
             wrong.extend(wrong_entries(&right, 5, 1));
             wrong.extend((5..right.len()).map(|i| changed(&right, i, right[i] ^ HIGH_BIT)));
         }
+        "v" | "p" | "h" => {
+            wrong.extend(wrong_entries(&right, 5, 1));
+            let places = changed_places(&right, 5);
+            wrong.extend(places.map(|i| changed(&right, i, right[i] ^ HIGH_BIT)));
+        }
         "T" => wrong.extend(wrong_entries(&right, 4, 2)),
-        "S" | "Z" => {
+        "t" => {
+            wrong.extend(wrong_entries(&right, 4, 2));
+            let places = changed_places(&right, 4);
+            wrong.extend(places.map(|i| changed(&right, i, right[i] ^ HIGH_TUPLE_BIT)));
+        }
+        "S" | "Z" | "X" => {
             let calls = right[7] as usize;
             let (answers, sessions) = (8 + 4 * calls, 8 + 5 * calls);
             wrong.extend((answers..sessions).map(|i| changed(&right, i, right[i] + 1)));
@@ -168,12 +214,19 @@ fn changed(right: &[u32], place: usize, value: u32) -> Vec<u32> {
 /// Wrong in the entries from a place on, each of so many numbers: one number
 /// changed, the last entry left out, or one entry more.
 fn wrong_entries(right: &[u32], from: usize, each: usize) -> Vec<Vec<u32>> {
-    let few = right.len() - from <= FEW;
-    let places = (from..right.len()).filter(|&i| few || i == from || i + 1 == right.len());
+    let places = changed_places(right, from);
     let mut wrong: Vec<_> = places.map(|i| changed(right, i, right[i] + 1)).collect();
     if right.len() > from {
         wrong.push(right[..right.len() - each].to_vec());
     }
     wrong.push([right, &vec![0; each]].concat());
     wrong
+}
+
+/// The places from one on that are changed: all if they are few, else the first and the
+/// last.
+fn changed_places(right: &[u32], from: usize) -> impl Iterator<Item = usize> {
+    let end = right.len();
+    let few = end - from <= FEW;
+    (from..end).filter(move |&i| few || i == from || i + 1 == end)
 }

@@ -1,13 +1,13 @@
 //! The examples of the requirement, in its order.
 
-use reference::form::{WIDTHS_8_16, WIDTHS_8_8};
+use reference::form::{WIDTHS_16_16, WIDTHS_8_16, WIDTHS_8_8};
 use reference::formula::{decide, is_senior};
 use reference::labels::{compile, compile_for};
 use reference::lister::list;
 use reference::machine::{run, run_for, Answer, Call, Sessions};
 use reference::policy::{Policy, Set};
 use reference::text::{read, write};
-use reference::tuples::{decide_by_tuples, tuples};
+use reference::tuples::{decide_by_tuples, decide_by_tuples_for, tuples, tuples_for};
 
 const TEXT: &str = "policy,1
 uattr,2
@@ -302,7 +302,12 @@ fn the_text_is_labelled_and_listed_the_same_in_form_2() {
 
 #[test]
 fn a_call_made_for_other_widths_gets_11() {
-    let forms = [(TEXT.to_string(), WIDTHS_8_16), (form_2(), WIDTHS_8_8)];
+    let forms = [
+        (TEXT.to_string(), WIDTHS_8_16),
+        (form_2(), WIDTHS_8_8),
+        (form_3(), WIDTHS_8_16),
+        (form_3(), WIDTHS_8_8),
+    ];
     for (text, other) in forms {
         let policy = policy(&text);
         assert_eq!(compile_for(&policy, other), Err(11));
@@ -311,4 +316,104 @@ fn a_call_made_for_other_widths_gets_11() {
         assert_eq!(answers, [Answer::Done, refused, refused]);
         assert_eq!(sessions, Sessions::from([(0, (0, 1))]));
     }
+}
+
+// Nine values a side.
+
+/// The text of the requirement in form 3.
+fn form_3() -> String {
+    TEXT.replace("policy,1", "policy,3")
+}
+
+#[test]
+fn form_3_has_widths_and_sums_from_1_to_9_and_actions_as_form_2() {
+    let text = |users: &str, objects: &str| format!("policy,3\n{users}{objects}end\n");
+    for width in 1..=9 {
+        let (users, objects) = (format!("uattr,{width}\n"), format!("oattr,{width}\n"));
+        assert_eq!(answer(&text(&users, &objects)), (0, 0));
+        let rest = 10 - width;
+        let (past_users, past_objects) = (format!("uattr,{rest}\n"), format!("oattr,{rest}\n"));
+        assert_eq!(
+            answer(&text(&(users.clone() + &past_users), &objects)),
+            (6, 2)
+        );
+        assert_eq!(answer(&text(&users, &(objects + &past_objects))), (6, 3));
+    }
+    for width in [0, 10] {
+        assert_eq!(
+            answer(&text(&format!("uattr,{width}\n"), "oattr,1\n")),
+            (6, 1)
+        );
+        assert_eq!(
+            answer(&text("uattr,1\n", &format!("oattr,{width}\n"))),
+            (6, 2)
+        );
+    }
+    for form in [1, 2] {
+        assert_eq!(answer(&format!("policy,{form}\nuattr,8\n")), (6, 1));
+    }
+    let action = |action: u32| form_3().replace("rule,3,", &format!("rule,{action},"));
+    assert_eq!((answer(&action(15)), answer(&action(16))), ((0, 0), (6, 7)));
+    assert_eq!(decide(&policy(&form_3()), 16, 0, 0), Err(12));
+}
+
+#[test]
+fn form_3_has_labels_of_16_bits_of_which_there_may_be_512() {
+    assert_eq!(compile(&policy(&form_3())).widths, WIDTHS_16_16);
+    let rules: String = (0..9).map(|v| format!("rule,{v},u{v}\n")).collect();
+    let text = format!("policy,3\nuattr,9\noattr,1\n{rules}end\n");
+    let labelling = compile(&policy(&text));
+    assert_eq!((labelling.user_count, labelling.object_count), (512, 1));
+    assert!(labelling.user_labels.iter().copied().eq(0..512));
+    assert!(labelling.table.iter().copied().eq(0..512));
+}
+
+#[test]
+fn form_3_has_tuples_of_32_bits() {
+    let text = "policy,3\nuattr,9\noattr,9\nrule,0,u8,o8,a,d00,n,a,u0,n,a,u1,n,a,o0,n,a\nend\n";
+    let policy = policy(text);
+    let listing = tuples(&policy, 0).expect("listed");
+    // Set 256 of users, and of objects one with value 8 and another.
+    assert_eq!(listing.first(), Some(&(256 * 512 + 256 + 2)));
+    assert_eq!(listing.last(), Some(&(508 * 512 + 510)));
+    let count = listing.len();
+    assert_eq!(tuples_for(&policy, 32, 0), Ok(listing.clone()));
+    assert_eq!(tuples_for(&policy, 16, 0), Err(11));
+    let decided = |bits| decide_by_tuples_for(&policy, bits, 256, 258, &listing, count);
+    assert_eq!((decided(32), decided(16)), (Ok(true), Err(11)));
+}
+
+#[test]
+fn forms_1_and_2_keep_their_stored_widths() {
+    for text in [TEXT.to_string(), form_2()] {
+        let policy = policy(&text);
+        assert_eq!(tuples_for(&policy, 16, 0), Ok(vec![3, 5, 7]));
+        assert_eq!(tuples_for(&policy, 32, 0), Err(11));
+        assert_eq!(compile_for(&policy, WIDTHS_16_16), Err(11));
+        let decided = |bits| decide_by_tuples_for(&policy, bits, 1, 1, &[3, 5, 7], 3);
+        assert_eq!((decided(16), decided(32)), (Ok(true), Err(11)));
+    }
+}
+
+#[test]
+fn the_text_is_labelled_and_listed_the_same_in_form_3() {
+    assert_eq!(list(form_3().as_bytes()), LISTING);
+    let labelling = compile(&policy(&form_3()));
+    assert_eq!(labelling.user_labels, [0, 1, 2, 2]);
+    assert_eq!(labelling.object_labels, [0, 1]);
+    assert_eq!(labelling.table, [8, 8, 8, 9, 0, 1]);
+    assert_eq!(write(&policy(&form_3())), form_3().as_bytes());
+}
+
+/// Nine values may all be held unless a conflict says otherwise; the most that one allows
+/// stays 7.
+#[test]
+fn the_other_limits_stay() {
+    let head = "policy,3\nuattr,9\noattr,9\n";
+    for line in ["user,32,0", "object,64,0", "conflict,511,8", "rule,16,t"] {
+        assert_eq!(answer(&format!("{head}{line}\nend\n")), (6, 3), "{line}");
+    }
+    assert_eq!(answer(&format!("{head}conflict,511,7\nend\n")), (0, 0));
+    let held = policy(&format!("{head}user,0,511\nend\n"));
+    assert_eq!(run(&held, &[open(511)]).0, [Answer::Done]);
 }

@@ -241,13 +241,8 @@ fn forms_actions_and_widths_just_out_of_range_come_up() {
     // What later forms have and an earlier one has not.
     let new = (9..16).filter(|&action| comes('1', "rule", action) || comes('1', "pair", action));
     assert!(new.count() > 3);
-    for (form, kind) in [
-        ('1', "uattr"),
-        ('1', "oattr"),
-        ('2', "uattr"),
-        ('2', "oattr"),
-    ] {
-        assert!(comes(form, kind, 9), "{form} {kind}");
+    for kind in ["uattr", "oattr"] {
+        assert!(comes('1', kind, 9) || comes('2', kind, 9), "{kind}");
     }
 }
 
@@ -366,62 +361,55 @@ fn eight_and_nine_values_come_up_and_most_texts_are_small() {
     assert!(all.iter().any(|p| p.object_seniority.len() == 36));
 }
 
-/// Words, pairs and sets with the two highest values, comparisons of wide attributes, and
-/// what they make of labels and tuples.
+/// Words, pairs and sets with the two highest values.
 #[test]
-fn the_values_above_7_decide() {
+fn the_values_above_7_come_up_in_every_line() {
     let all = policies(THIRD, 2 * THOUSAND);
-    let words = || {
-        all.iter()
-            .flat_map(|p| &p.rules)
-            .flat_map(|rule| &rule.words)
-    };
+    let rules = all.iter().flat_map(|p| &p.rules);
+    let words: Vec<&Word> = rules.flat_map(|rule| &rule.words).collect();
+    let pairs: Vec<_> = all.iter().flat_map(|p| &p.pairs).collect();
     for value in [7, 8] {
         for word in [Word::User(value), Word::Object(value)] {
-            assert!(
-                words().filter(|found| **found == word).count() > 10,
-                "{word:?}"
-            );
+            let count = words.iter().filter(|found| ***found == word).count();
+            assert!(count > 10, "{word:?} {count}");
         }
-        let mut pairs = all.iter().flat_map(|p| &p.pairs);
-        assert!(pairs.any(|pair| pair.user == value));
-        assert!(pairs.any(|pair| pair.object == value));
+        assert!(pairs.iter().any(|pair| pair.user == value));
+        assert!(pairs.iter().any(|pair| pair.object == value));
     }
-    let wide = |policy: &&Policy| {
-        let compares = |word: &Word| match *word {
-            Word::Within(i, _) | Word::Same(i, _) => policy.user_widths[i as usize] > 7,
-            _ => false,
-        };
-        policy
-            .rules
-            .iter()
-            .any(|rule| rule.words.iter().any(compares))
+    let mut users = all.iter().flat_map(|p| &p.users);
+    assert!(users.any(|user| user.1 > 255));
+    let mut objects = all.iter().flat_map(|p| &p.objects);
+    assert!(objects.any(|object| object.1 > 255));
+    let mut conflicts = all.iter().flat_map(|p| &p.conflicts);
+    assert!(conflicts.any(|conflict| conflict.set > 255));
+}
+
+/// Whether a policy compares attributes of more values than other forms have.
+fn compares_wide(policy: &Policy) -> bool {
+    let wide = |word: &Word| match *word {
+        Word::Within(i, _) | Word::Same(i, _) => policy.user_widths[i as usize] > 7,
+        _ => false,
     };
-    assert!(all.iter().filter(wide).count() > 2);
-    assert!(all.iter().flat_map(|p| &p.users).any(|user| user.1 > 255));
-    assert!(all
-        .iter()
-        .flat_map(|p| &p.objects)
-        .any(|object| object.1 > 255));
-    assert!(all
-        .iter()
-        .flat_map(|p| &p.conflicts)
-        .any(|conflict| conflict.set > 255));
+    let mut rules = policy.rules.iter();
+    rules.any(|rule| rule.words.iter().any(wide))
+}
+
+/// More labels than a byte tells, and tuples above 16 bits.
+#[test]
+fn the_values_above_7_decide() {
+    let mut all = policies(THIRD, 2 * THOUSAND);
+    assert!(all.iter().filter(|p| compares_wide(p)).count() > 2);
+    all.retain(|p| p.user_values() + p.object_values() > 9);
     let (mut labels, mut tuple) = ([0, 0], 0);
-    for policy in all
-        .iter()
-        .filter(|p| p.user_values() + p.object_values() > 9)
-    {
-        let labelling = compile(policy);
+    for policy in all {
+        let labelling = compile(&policy);
         labels[0] = labels[0].max(labelling.user_count);
         labels[1] = labels[1].max(labelling.object_count);
-        let last = (0..policy.actions()).filter_map(|a| tuples(policy, a).ok()?.last().copied());
-        tuple = last.fold(tuple, u32::max);
+        let last = |action| tuples(&policy, action).ok()?.last().copied();
+        tuple = (0..policy.actions()).filter_map(last).fold(tuple, u32::max);
     }
-    assert!(
-        labels.iter().all(|&count| count > 256) && tuple > 65_535,
-        "{labels:?} {tuple}"
-    );
+    assert!(labels.iter().all(|&count| count > 256), "{labels:?}");
+    assert!(tuple > 65_535, "{tuple}");
 }
 
 #[test]

@@ -22,6 +22,9 @@ const DOMINANCE: usize = 19;
 const FORMS: [usize; 5] = [20, 21, 22, 23, 24];
 /// The file about isolation of sessions.
 const ISOLATION: usize = 25;
+/// Form 3: examples with few values and with many, the lines about it that are wrong on
+/// purpose, cases with few values, what is between forms, and cases with many values.
+const FORM_3: [usize; 6] = [26, 27, 28, 29, 30, 31];
 
 /// What `vectors` counts, by the tags of lines, in the order of its output.
 const COUNTED: [(&str, &str); 10] = [
@@ -29,22 +32,19 @@ const COUNTED: [(&str, &str); 10] = [
     ("texts accepted alike", "Y"),
     ("checks of what was read alike", "V"),
     ("writings alike", "W"),
-    ("label buffers and tables alike", "uogUOG"),
-    ("listings alike", "T"),
+    ("label buffers and tables alike", "uogUOGvph"),
+    ("listings alike", "Tt"),
     ("decisions by policy alike", "F"),
-    ("decisions by tuples alike", "B"),
+    ("decisions by tuples alike", "Bb"),
     ("answers of Apart alike", "PD"),
-    ("lists of calls alike", "SZ"),
+    ("lists of calls alike", "SZX"),
 ];
 
 #[test]
 fn the_output_of_vectors_is_what_is_due() {
     let path = Path::new(env!("CARGO_MANIFEST_DIR")).join("../crates/vectors/stdout");
     let stored = std::fs::read_to_string(path).expect("a file");
-    let lines: Vec<String> = files()
-        .iter()
-        .flat_map(|file| reference::case_file::lines(file))
-        .collect();
+    let lines = case_lines();
     let (wrong, right): (Vec<&String>, _) =
         lines.iter().partition(|line| line[1..].starts_with(MARK));
     let mut due = String::new();
@@ -70,6 +70,13 @@ fn lines() -> Vec<String> {
         .collect()
 }
 
+/// The lines that follow texts.
+fn case_lines() -> Vec<String> {
+    let all = files().iter();
+    all.flat_map(|file| reference::case_file::lines(file))
+        .collect()
+}
+
 /// The numbers of a line with this tag.
 fn numbers(line: &str, tag: char) -> Option<Vec<u32>> {
     let fields = line.strip_prefix(tag)?.strip_prefix(',')?.split(',');
@@ -78,7 +85,7 @@ fn numbers(line: &str, tag: char) -> Option<Vec<u32>> {
 
 /// The numbers of a list of calls, whatever widths it is made for.
 fn list_numbers(line: &str) -> Option<Vec<u32>> {
-    numbers(line, 'S').or_else(|| numbers(line, 'Z'))
+    ['S', 'Z', 'X'].iter().find_map(|&tag| numbers(line, tag))
 }
 
 /// The answers of the lines with one of these tags.
@@ -118,7 +125,7 @@ fn the_stored_files_are_these() {
 fn a_buffer_of_64_kib_holds_each_file_and_all_are_small_together() {
     let files = files();
     assert!(files.iter().all(|file| file.len() <= 65_536));
-    assert!(files.iter().map(Vec::len).sum::<usize>() < 1_400_000);
+    assert!(files.iter().map(Vec::len).sum::<usize>() < 1_600_000);
 }
 
 #[test]
@@ -128,18 +135,20 @@ fn every_refusal_comes_up() {
         refused.iter().copied().eq((1..=10).chain([21, 22])),
         "{refused:?}"
     );
-    for tag in ['S', 'Z'] {
+    for tag in ['S', 'Z', 'X'] {
         let calls = call_answers(tag);
         let all = [0, 1, 2].into_iter().chain(11..=20).chain([23]);
         assert!(calls.iter().copied().eq(all), "{tag}: {calls:?}");
     }
     assert_eq!(answers("V"), BTreeSet::from([0, 11]));
-    for tag in ["u", "o", "g", "U", "O", "G", "W"] {
+    for tag in ["u", "o", "g", "U", "O", "G", "v", "p", "h", "W"] {
         assert_eq!(answers(tag), BTreeSet::from([0, 11, 20]), "{tag}");
     }
-    assert_eq!(answers("T"), BTreeSet::from([0, 11, 12, 20]));
+    for (list, decide) in [("T", "B"), ("t", "b")] {
+        assert_eq!(answers(list), BTreeSet::from([0, 11, 12, 20]));
+        assert_eq!(answers(decide), BTreeSet::from([1, 2, 11, 19, 20]));
+    }
     assert_eq!(answers("F"), BTreeSet::from([1, 2, 11, 12, 19]));
-    assert_eq!(answers("B"), BTreeSet::from([1, 2, 11, 19, 20]));
     assert_eq!(answers("P"), BTreeSet::from([3, 4, 11, 19]));
 }
 
@@ -147,7 +156,10 @@ fn every_refusal_comes_up() {
 fn the_limits_come_up() {
     let lines = lines();
     let begins = |start: &str| lines.iter().any(|line| line.starts_with(start));
-    for start in ["u,0,128,", "o,0,128,", "user,31,", "object,63,"] {
+    for start in ["u,0,128,", "o,0,128,", "v,0,512,", "p,0,512,"] {
+        assert!(begins(start), "{start}");
+    }
+    for start in ["user,31,", "object,63,"] {
         assert!(begins(start), "{start}");
     }
     let words = |line: &String| line.starts_with("rule,7,") && line.split(',').count() == 34;
@@ -233,105 +245,211 @@ fn a_file_has_dominance_beside_all_else() {
     assert!(count(|p| p.user_widths.len() > 1 && p.object_widths.len() > 1) > 5);
 }
 
+/// How many of a file's accepted texts are of a form, and how many there are.
+fn of_form(number: u32, file: usize) -> (usize, usize) {
+    let policies = policies(&files()[file]);
+    let count = policies.iter().filter(|p| p.form.number == number).count();
+    (count, policies.len())
+}
+
 #[test]
-fn texts_of_form_2_stand_behind_all_of_form_1() {
-    let of_form_2 = |file: usize| {
-        let policies = policies(&files()[file]);
-        let count = policies.iter().filter(|p| p.form.number == 2).count();
-        (count, policies.len())
-    };
-    assert!((0..=DOMINANCE).all(|file| of_form_2(file).0 == 0));
-    let found = FORMS.map(of_form_2);
-    assert_eq!(files().len(), ISOLATION + 1);
+fn texts_of_each_form_stand_behind_all_of_earlier_forms() {
+    assert!((0..=DOMINANCE).all(|file| of_form(2, file).0 == 0));
+    assert!((0..=ISOLATION).all(|file| of_form(3, file).0 == 0));
+    assert_eq!(files().len(), FORM_3[5] + 1);
+    let found = FORMS.map(|file| of_form(2, file));
     // By hand and wrong on purpose both forms; then form 2, form 1, form 2.
     assert!(found[0].0 > 25 && found[0].1 > found[0].0 + 10, "{found:?}");
     assert_eq!(found[1], (2, 3));
     assert!(found[2].0 == found[2].1 && found[2].0 > 30, "{found:?}");
     assert!(found[3].0 == 0 && found[3].1 > 15, "{found:?}");
     assert_eq!(found[4], (1, 1));
+    let found = FORM_3.map(|file| of_form(3, file));
+    // Some by hand, and those between the forms, are of forms 1 and 2.
+    assert!(found[0].0 > 30 && found[1].0 > 25, "{found:?}");
+    assert_eq!(found[2], (2, 3));
+    assert!(found[3].0 == found[3].1 && found[3].0 > 10, "{found:?}");
+    assert!(found[4].0 == 0 && found[4].1 > 5, "{found:?}");
+    assert!(found[5].0 == found[5].1 && found[5].0 > 5, "{found:?}");
+}
+
+/// The files about a form, the number of which the texts say.
+const ABOUT: [(u32, &[usize]); 2] = [(2, &FORMS), (3, &FORM_3)];
+
+/// The texts that say they are of a form, with their lines, of the files about it.
+fn cases_about(number: u32, files_about: &[usize]) -> Vec<(Vec<u8>, Vec<String>)> {
+    let first = format!("policy,{number}\n");
+    let cases = files_about
+        .iter()
+        .flat_map(|&file| texts_with_lines(&files()[file]));
+    cases
+        .filter(|(text, _)| text.starts_with(first.as_bytes()))
+        .collect()
 }
 
 #[test]
-fn a_refused_text_of_form_2_has_every_refusal_but_that_of_length() {
-    let cases = FORMS.map(|file| texts_with_lines(&files()[file])).concat();
-    let of_form_2 = cases
-        .iter()
-        .filter(|(text, _)| text.starts_with(b"policy,2\n"));
-    let refused = of_form_2.filter_map(|(text, _)| read(text).err());
-    let found: BTreeSet<u32> = refused.map(|refused| refused.refusal).collect();
-    assert!(
-        found.iter().copied().eq((2..=10).chain([21, 22])),
-        "{found:?}"
-    );
+fn a_refused_text_of_a_later_form_has_every_refusal_but_that_of_length() {
+    for (number, files_about) in ABOUT {
+        let cases = cases_about(number, files_about);
+        let refused = cases.iter().filter_map(|(text, _)| read(text).err());
+        let found: BTreeSet<u32> = refused.map(|refused| refused.refusal).collect();
+        let all = (2..=10).chain([21, 22]);
+        assert!(found.iter().copied().eq(all), "{number}: {found:?}");
+    }
 }
 
-/// Each action of form 2 is granted and denied by tuples, tables and requests, and past
-/// the last each call is refused.
+/// Each action of a form is granted and denied by tuples, tables and requests, and past the
+/// last each call is refused.
 #[test]
-fn each_action_of_form_2_decides() {
-    let cases = FORMS.map(|file| texts_with_lines(&files()[file])).concat();
-    let of_form_2 = cases
-        .iter()
-        .filter(|(text, _)| text.starts_with(b"policy,2\n"));
-    let lines: Vec<&String> = of_form_2.flat_map(|(_, lines)| lines).collect();
-    let mut found = BTreeSet::new();
-    let mut bits = 0;
-    for line in lines {
-        if let Some(f) = numbers(line, 'F') {
-            found.insert(('F', f[0], f[2]));
-        } else if let Some(t) = numbers(line, 'T') {
-            found.insert(('T', t[0].max(u32::from(t[1] > 0)), t[2]));
-        } else if let Some(g) = numbers(line, 'G') {
-            bits |= g[5..].iter().fold(0, |bits, entry| bits | entry);
-        } else if let Some(list) = numbers(line, 'Z') {
-            let calls = list[7] as usize;
-            let answers = &list[8 + 4 * calls..8 + 5 * calls];
-            let asked = list[8..].chunks(4).zip(answers);
-            let asked = asked.filter(|(call, _)| call[0] == 4);
-            found.extend(asked.map(|(call, answer)| ('Z', *answer, call[2])));
+fn each_action_of_a_later_form_decides() {
+    for ((number, files_about), [t, g, z]) in
+        ABOUT.into_iter().zip([['T', 'G', 'Z'], ['t', 'h', 'X']])
+    {
+        let cases = cases_about(number, files_about);
+        let mut found = BTreeSet::new();
+        let mut bits = 0;
+        for line in cases.iter().flat_map(|(_, lines)| lines) {
+            if let Some(f) = numbers(line, 'F') {
+                found.insert(('F', f[0], f[2]));
+            } else if let Some(listing) = numbers(line, t) {
+                let granted = u32::from(listing[1] > 0);
+                found.insert((t, listing[0].max(granted), listing[2]));
+            } else if let Some(table) = numbers(line, g) {
+                bits |= table[5..].iter().fold(0, |bits, entry| bits | entry);
+            } else if let Some(list) = numbers(line, z) {
+                let asked = answered(&list).into_iter().filter(|(call, _)| call[0] == 4);
+                found.extend(asked.map(|(call, answer)| (z, answer, call[2])));
+            }
         }
-    }
-    assert_eq!(bits, 65_535);
-    for action in 0..16 {
-        for due in [('F', 1), ('F', 2), ('T', 0), ('T', 1), ('Z', 0), ('Z', 1)] {
-            assert!(found.contains(&(due.0, due.1, action)), "{due:?} {action}");
+        assert_eq!(bits, 65_535);
+        for action in 0..16 {
+            for due in [('F', 1), ('F', 2), (t, 0), (t, 1), (z, 0), (z, 1)] {
+                assert!(found.contains(&(due.0, due.1, action)), "{due:?} {action}");
+            }
         }
-    }
-    for tag in ['F', 'T', 'Z'] {
-        assert!(found.contains(&(tag, 12, 16)), "{tag}");
-        assert!(
-            !found.iter().any(|f| f.0 == tag && f.1 == 12 && f.2 < 16),
-            "{tag}"
-        );
+        let mut refused = found.iter().filter(|f| f.1 == 12);
+        assert!(refused.all(|f| f.2 >= 16));
+        assert!(['F', t, z]
+            .iter()
+            .all(|&tag| found.contains(&(tag, 12, 16))));
     }
 }
 
-/// In each form, by compiling and by requests of lists in which other calls are done.
+/// The tags of compiling and of lists of calls, and of listing and deciding by tuples, by
+/// the widths they are made for, in the order of the forms.
+const WIDTH_TAGS: [(&str, char); 3] = [("uog", 'S'), ("UOG", 'Z'), ("vph", 'X')];
+const TUPLE_TAGS: [(&str, u32); 2] = [("TB", 16), ("tb", 32)];
+
+/// In each form, by compiling, by requests of lists in which other calls are done, and by
+/// tuples.
 #[test]
 fn calls_made_for_other_widths_get_11() {
-    let (mut compiled, mut asked) = ([0, 0], [0, 0]);
-    for (text, lines) in FORMS.map(|file| texts_with_lines(&files()[file])).concat() {
+    let (mut compiled, mut asked, mut listed) = ([0; 3], [0; 3], [0; 3]);
+    let files_about = FORMS.iter().chain(&FORM_3);
+    for (text, lines) in files_about.flat_map(|&file| texts_with_lines(&files()[file])) {
         let Ok(policy) = read(&text) else { continue };
         let form = policy.form.number as usize - 1;
-        let (tags, list) = [("UOG", 'Z'), ("uog", 'S')][form];
-        for line in lines {
-            if line.starts_with(|c| tags.contains(c)) && !line[1..].starts_with(MARK) {
-                assert!(line[2..].starts_with("11,0,"), "{line}");
-                compiled[form] += 1;
-            } else if let Some(list) = numbers(&line, list) {
-                let calls = list[7] as usize;
-                let answers = &list[8 + 4 * calls..8 + 5 * calls];
-                for (call, answer) in list[8..].chunks(4).zip(answers) {
-                    assert_eq!(call[0] == 4, *answer == 11, "{line}");
-                    asked[form] += u32::from(call[0] == 4);
+        let right = |line: &&String| !line[1..].starts_with(MARK);
+        for line in lines.iter().filter(right) {
+            let begins = |tags: &str| line.starts_with(|c| tags.contains(c));
+            for (_, (tags, list)) in (0..).zip(WIDTH_TAGS).filter(|(other, _)| *other != form) {
+                if begins(tags) {
+                    assert!(line[2..].starts_with("11,0,"), "{line}");
+                    compiled[form] += 1;
+                } else if let Some(list) = numbers(line, list) {
+                    for (call, answer) in answered(&list) {
+                        assert_eq!(call[0] == 4, answer == 11, "{line}");
+                        asked[form] += u32::from(call[0] == 4);
+                    }
+                }
+            }
+            let other = |(_, bits): &&(&str, u32)| *bits != policy.form.tuple_bits;
+            for (tags, _) in TUPLE_TAGS.iter().filter(other) {
+                if begins(tags) {
+                    assert!(line[2..].starts_with("11,0,"), "{line}");
+                    listed[form] += 1;
                 }
             }
         }
     }
-    assert!(
-        compiled.iter().chain(&asked).all(|&count| count > 20),
-        "{compiled:?} {asked:?}"
-    );
+    assert!(compiled.iter().chain(&asked).all(|&count| count > 20));
+    assert!(listed.iter().all(|&count| count > 10), "{listed:?}");
+}
+
+/// Attributes as wide as there may be and several, all lines of seniority, and sets that
+/// other forms have no room for.
+#[test]
+fn policies_that_only_form_3_has_come_up() {
+    let all = FORM_3.iter().flat_map(|&file| policies(&files()[file]));
+    let all: Vec<Policy> = all.collect();
+    let some = |wanted: &dyn Fn(&Policy) -> bool| all.iter().any(wanted);
+    assert!(some(&|p| p.user_widths == [9] && p.object_widths == [9]));
+    let nines = |p: &Policy| (p.user_values(), p.object_values()) == (9, 9);
+    assert!(some(&|p| nines(p)
+        && p.user_widths.len() > 2
+        && p.object_widths.len() > 2));
+    let lines = |p: &Policy| [p.user_seniority.len(), p.object_seniority.len()];
+    assert!(some(&|p| lines(p) == [36, 36]));
+    let high = |entry: &(u32, u32)| (256..512).contains(&entry.1);
+    assert!(some(&|p| p.users.iter().any(high)));
+    assert!(some(&|p| p.objects.iter().any(high)));
+}
+
+/// Labels and tuples that other forms have no room for, and requests by them.
+#[test]
+fn answers_that_only_form_3_has_come_up() {
+    let lines = case_lines();
+    let last = |tag| {
+        let found = lines.iter().filter_map(|line| numbers(line, tag));
+        let done = found.filter(|numbers| numbers[0] == 0);
+        done.filter_map(|numbers| numbers.last().copied()).max()
+    };
+    assert_eq!(['v', 'p', 't'].map(last), [511, 511, 262_143].map(Some));
+    let lists = lines.iter().filter_map(|line| numbers(line, 'X'));
+    let high = |(call, answer): &(&[u32], u32)| call[0] == 0 && call[3] > 255 && *answer == 2;
+    let granted = |(call, answer): &(&[u32], u32)| call[0] == 4 && *answer == 1;
+    let both = lists.filter(|list| {
+        let calls = answered(list);
+        calls.iter().any(high) && calls.iter().any(granted)
+    });
+    assert!(both.count() > 3);
+}
+
+/// Texts that only a later form would read, and forms that there are not.
+#[test]
+fn texts_out_of_a_form_s_range_come_up() {
+    let refused = |text: &str| {
+        let all = files().iter().flat_map(|file| texts_with_lines(file));
+        let mut begins = all.filter(|(found, _)| found.starts_with(text.as_bytes()));
+        begins.any(|(found, _)| read(&found).is_err_and(|refused| refused.refusal == 6))
+    };
+    for text in [
+        "policy,2\nuattr,8\n",
+        "policy,2\nuattr,4\nuattr,4\n",
+        "policy,4\n",
+    ] {
+        assert!(refused(text), "{text}");
+    }
+    for text in ["policy,3\nuattr,10\n", "policy,3\nuattr,5\nuattr,5\n"] {
+        assert!(refused(text), "{text}");
+    }
+}
+
+/// In form 3, so that a reader of the files needs no longer buffers.
+#[test]
+fn tables_and_tuples_of_form_3_are_few() {
+    for line in case_lines() {
+        if let Some(table) = numbers(&line, 'h') {
+            assert!(table.len() <= 5 + 4096 && table[2..5].iter().all(|&room| room <= 16_384));
+            assert!(table[2].max(table[3]) <= 512);
+        } else if let Some(listing) = numbers(&line, 't') {
+            assert!(listing[1] <= 4096 && listing[3] <= 16_384);
+        } else if let Some(decision) = numbers(&line, 'b') {
+            assert!(decision[6] <= 16_384);
+        } else if let Some(list) = numbers(&line, 'X') {
+            assert!(list[4].max(list[5]) <= 512 && list[6] <= 16_384 && list[7] < 64);
+        }
+    }
 }
 
 /// The session that a call in a list names.

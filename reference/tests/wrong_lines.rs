@@ -2,13 +2,13 @@
 //! kind of line has one for each thing that it compares.
 
 use reference::case_file::lines;
-use reference::wrong::{file, file_of_forms, MARK};
+use reference::wrong::{file, file_of_form_3, file_of_forms, MARK};
 use std::collections::BTreeSet;
 
 /// What the lines of each tag compare: an answer and a count; of entries also
-/// that the first and the last are as stored, and that none is missing or left; of
-/// 16-bit entries each byte.
-const COMPARED: [(char, &[&str]); 17] = [
+/// that the first and the last are as stored, and that none is missing or left; of labels
+/// and entries of 16 bits each byte, and of tuples of 32 bits each half.
+const COMPARED: [(char, &[&str]); 23] = [
     ('R', &["answer", "count"]),
     ('Y', &["answer", "count"]),
     ('V', &["answer", "count"]),
@@ -19,13 +19,22 @@ const COMPARED: [(char, &[&str]); 17] = [
     ('U', &["answer", "count", "label", "less", "more"]),
     ('O', &["answer", "count", "label", "less", "more"]),
     ('G', &["answer", "byte", "count", "high", "less", "more"]),
+    ('v', &["answer", "count", "high", "label", "less", "more"]),
+    ('p', &["answer", "count", "high", "label", "less", "more"]),
+    ('h', &["answer", "byte", "count", "high", "less", "more"]),
     ('T', &["answer", "count", "first", "last", "less", "more"]),
+    (
+        't',
+        &["answer", "count", "first", "high", "last", "less", "more"],
+    ),
     ('F', &["answer", "count"]),
     ('B', &["answer", "count"]),
+    ('b', &["answer", "count"]),
     ('P', &["answer", "count"]),
     ('D', &["answer", "count", "set"]),
     ('S', &LISTS),
     ('Z', &LISTS),
+    ('X', &LISTS),
 ];
 
 const LISTS: [&str; 8] = [
@@ -39,11 +48,12 @@ fn name(tag: char, right: &[u32], place: usize, bits: u32) -> &'static str {
         (_, 1) => "count",
         ('W', 3) => "bytes",
         ('D', 3) => "set",
-        ('u' | 'o' | 'U' | 'O', 5..) => "label",
-        ('G', 5..) if bits > 255 => "high",
-        ('g' | 'G', 5..) => "byte",
-        ('T', 4..) => ["first", "last"][place % 2],
-        ('S' | 'Z', 8..) => {
+        ('G' | 'v' | 'p' | 'h', 5..) if bits > 255 => "high",
+        ('u' | 'o' | 'U' | 'O' | 'v' | 'p', 5..) => "label",
+        ('g' | 'G' | 'h', 5..) => "byte",
+        ('t', 4..) if bits > 65_535 => "high",
+        ('T' | 't', 4..) => ["first", "last"][place % 2],
+        ('S' | 'Z' | 'X', 8..) => {
             let calls = right[7] as usize;
             match place.checked_sub(8 + 5 * calls) {
                 Some(past) => ["session", "user", "held"][past % 3],
@@ -74,8 +84,8 @@ fn parsed(line: &str) -> (char, bool, Vec<u32>) {
 /// The one thing in which a wrong line is not the right one.
 fn difference(tag: char, right: &[u32], wrong: &[u32]) -> &'static str {
     let entry = match tag {
-        'T' => 2,
-        'S' | 'Z' => 3,
+        'T' | 't' => 2,
+        'S' | 'Z' | 'X' => 3,
         _ => 1,
     };
     if wrong.len() + entry == right.len() && right.starts_with(wrong) {
@@ -96,7 +106,7 @@ fn difference(tag: char, right: &[u32], wrong: &[u32]) -> &'static str {
 fn differences() -> Vec<(char, u32, &'static str)> {
     let mut right = ('C', Vec::new());
     let mut all = Vec::new();
-    let files = [file(), file_of_forms()].concat();
+    let files = [file(), file_of_forms(), file_of_form_3()].concat();
     for (tag, wrong, numbers) in lines(&files).iter().map(|line| parsed(line)) {
         if !wrong {
             right = (tag, numbers);
@@ -130,7 +140,11 @@ fn refused_calls_have_one_that_stores_something() {
         ('U', "more"),
         ('O', "more"),
         ('G', "more"),
+        ('v', "more"),
+        ('p', "more"),
+        ('h', "more"),
         ('T', "more"),
+        ('t', "more"),
         ('W', "bytes"),
     ] {
         for refusal in [11, 20] {

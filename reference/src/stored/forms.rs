@@ -251,6 +251,19 @@ pub fn for_16_bits() -> String {
     refused_compile(['U', 'O', 'G']) + &list_for('Z', LENT, &OTHER_CALLS, &OTHER_HELD)
 }
 
+/// What is due to calls on a text of form 1 or 2 that are made for labels of 16 bits, and
+/// for tuples of 32.
+pub fn for_wide_labels() -> String {
+    let list = list_for('X', LENT, &OTHER_CALLS, &OTHER_HELD);
+    let tuples = "t,11,0,0,16384\nt,11,0,99,0\nb,11,0,0,3,1,0,16384\nb,11,0,0,4,0,1,0\n";
+    refused_compile(['v', 'p', 'h']) + &list + tuples
+}
+
+/// What is due to calls on a text of form 3 that are made for tuples of 16 bits.
+pub fn for_tuples_of_16_bits() -> String {
+    "T,11,0,0,16384\nT,11,0,99,0\nB,11,0,0,3,1,0\nB,11,0,0,4,0,16385\n".to_string()
+}
+
 fn sample_of_form_1() -> (String, String) {
     let list = list_for('S', LENT, &SAMPLE_CALLS_OF_FORM_1, &[[0, 0, 1]]);
     let answers = format!("{}{SAMPLE_OF_FORM_1}{list}{}", read_as("Y"), for_16_bits());
