@@ -65,15 +65,37 @@ pub fn of_engine<'a, E: Engine, W: Widths>(
     engine: &'a E,
     sample: &'a Sample<W>,
 ) -> [Job<'a>; NAMES.len()] {
-    let (value, board, set) = (&sample.value, &sample.board, sample.all_values());
-    let labels = sample.labels();
-    let on_full = |k: usize| {
-        let calls = &sample.on_full[k];
-        job(move || {
-            let board = *black_box(&sample.full);
-            list_by_engine(engine, board, black_box(value), &labels, calls)
-        })
-    };
+    all(
+        on_policy_by_engine(engine, sample),
+        on_board_by_engine(engine, sample),
+    )
+}
+
+/// The same jobs of plain Rust, with its own policy value by reference.
+pub fn by_reference<W: Widths>(sample: &Sample<W>) -> [Job<'_>; NAMES.len()] {
+    all(
+        on_policy_by_reference(sample),
+        on_board_by_reference(sample),
+    )
+}
+
+/// How many of the jobs are on a policy; those behind them are on a board.
+const ON_POLICY: usize = 11;
+const ON_BOARD: usize = NAMES.len() - ON_POLICY;
+
+fn all<'a>(
+    on_policy: [Job<'a>; ON_POLICY],
+    on_board: [Job<'a>; ON_BOARD],
+) -> [Job<'a>; NAMES.len()] {
+    let mut jobs = on_policy.into_iter().chain(on_board);
+    std::array::from_fn(|_| jobs.next().expect("a job for each name"))
+}
+
+fn on_policy_by_engine<'a, E: Engine, W: Widths>(
+    engine: &'a E,
+    sample: &'a Sample<W>,
+) -> [Job<'a>; ON_POLICY] {
+    let (value, set) = (&sample.value, sample.all_values());
     let Buffers {
         mut text,
         mut tuples,
@@ -97,6 +119,22 @@ pub fn of_engine<'a, E: Engine, W: Widths>(
         job(move || engine.decide(black_box(value), 0, set, set)),
         // Alike, so that every object set is looked at.
         job(move || engine.apart(black_box(value), set, set)),
+    ]
+}
+
+fn on_board_by_engine<'a, E: Engine, W: Widths>(
+    engine: &'a E,
+    sample: &'a Sample<W>,
+) -> [Job<'a>; ON_BOARD] {
+    let (value, board, labels) = (&sample.value, &sample.board, sample.labels());
+    let on_full = |k: usize| {
+        let calls = &sample.on_full[k];
+        job(move || {
+            let board = *black_box(&sample.full);
+            list_by_engine(engine, board, black_box(value), &labels, calls)
+        })
+    };
+    [
         job(move || engine.open(black_box(board), black_box(value), 0, LAST, 0)),
         job(move || {
             let (board, value) = (black_box(board), black_box(value));
@@ -113,17 +151,8 @@ pub fn of_engine<'a, E: Engine, W: Widths>(
     ]
 }
 
-/// The same jobs of plain Rust, with its own policy value by reference.
-pub fn by_reference<W: Widths>(sample: &Sample<W>) -> [Job<'_>; NAMES.len()] {
-    let (policy, board, set) = (&sample.policy, &sample.board, sample.all_values());
-    let labels = sample.labels();
-    let on_full = |k: usize| {
-        let calls = &sample.on_full[k];
-        job(move || {
-            let board = *black_box(&sample.full);
-            list_by_reference(board, black_box(policy), &labels, calls)
-        })
-    };
+fn on_policy_by_reference<W: Widths>(sample: &Sample<W>) -> [Job<'_>; ON_POLICY] {
+    let (policy, set) = (&sample.policy, sample.all_values());
     let Buffers {
         mut text,
         mut tuples,
@@ -146,6 +175,19 @@ pub fn by_reference<W: Widths>(sample: &Sample<W>) -> [Job<'_>; NAMES.len()] {
         job(move || plain::tuples::list(black_box(policy), 0, &mut tuples)),
         job(move || plain::formula::decide(black_box(policy), 0, set, set)),
         job(move || plain::labels::apart(black_box(policy), set, set)),
+    ]
+}
+
+fn on_board_by_reference<W: Widths>(sample: &Sample<W>) -> [Job<'_>; ON_BOARD] {
+    let (policy, board, labels) = (&sample.policy, &sample.board, sample.labels());
+    let on_full = |k: usize| {
+        let calls = &sample.on_full[k];
+        job(move || {
+            let board = *black_box(&sample.full);
+            list_by_reference(board, black_box(policy), &labels, calls)
+        })
+    };
+    [
         job(move || {
             let mut board = *black_box(board);
             let answer = plain::board::open(&mut board, black_box(policy), 0, LAST, 0);

@@ -26,6 +26,27 @@ impl Faulty {
             }
             TakesAction8InForm1 if seen.form == 1 => clamp_actions(&mut seen, 8),
             TakesAction16InForm2 if seen.form == 2 => clamp_actions(&mut seen, 16),
+            TakesNumbersOfNoWord => {
+                for rule in &mut seen.rules.entries {
+                    each(&mut rule.words, |number| {
+                        if matches!(*number, 5..=9 | 30..=49 | 250..) {
+                            *number = 0;
+                        }
+                    });
+                }
+            }
+            _ => {
+                self.see_sides(&mut seen);
+                self.see_conflicts(&mut seen);
+                self.see_pairs(&mut seen);
+            }
+        }
+        seen
+    }
+
+    /// The same for faults in what values and lines of seniority the sides have.
+    fn see_sides(&self, seen: &mut PolicyValue) {
+        match self.0 {
             TakesEightValuesInForm2 if seen.form == 2 => seen.form = 3,
             TakesTenValuesInForm3 if seen.form == 3 => {
                 for side in [&mut seen.user, &mut seen.object] {
@@ -44,21 +65,8 @@ impl Faulty {
                     seen.user.seniority[last] = Direct::default();
                 }
             }
-            TakesNumbersOfNoWord => {
-                for rule in &mut seen.rules.entries {
-                    each(&mut rule.words, |number| {
-                        if matches!(*number, 5..=9 | 30..=49 | 250..) {
-                            *number = 0;
-                        }
-                    });
-                }
-            }
-            _ => {
-                self.see_conflicts(&mut seen);
-                self.see_pairs(&mut seen);
-            }
+            _ => {}
         }
-        seen
     }
 
     /// The same for faults in what conflicts there are.
