@@ -2,7 +2,8 @@
 
 /// The limits of documents 01 and 02.
 pub const TEXT_BYTES: usize = 8192;
-pub const MOST_VALUES: usize = 7;
+pub const FORM_1_VALUES: usize = 7;
+pub const FORM_3_VALUES: usize = 9;
 pub const FORM_1_ACTIONS: usize = 8;
 pub const FORM_2_ACTIONS: usize = 16;
 pub const MOST_WORDS: usize = 32;
@@ -14,7 +15,8 @@ pub const OBJECT_NUMBERS: usize = 64;
 /// The entries of a board.
 pub const SESSIONS: usize = 32;
 
-/// Actions of any form.
+/// Values of a side, and actions, of any form.
+pub const MOST_VALUES: usize = FORM_3_VALUES;
 pub const MOST_ACTIONS: usize = FORM_2_ACTIONS;
 
 /// The places of each array of a policy value.
@@ -26,9 +28,11 @@ pub const RULE_PLACES: usize = MOST_ACTIONS;
 pub const CONFLICT_PLACES: usize = MOST_CONFLICTS;
 pub const PAIR_PLACES: usize = MOST_PAIRS;
 
-/// Room for the labels of a side, and for the entries of a table, in any form.
+/// Room for the labels of a side, the entries of a table and the tuples of an action, in
+/// any form.
 pub const MOST_LABELS: usize = 1 << MOST_VALUES;
 pub const MOST_TABLE: usize = MOST_LABELS * MOST_LABELS;
+pub const MOST_TUPLES: usize = MOST_LABELS * MOST_LABELS;
 
 /// A direct line of seniority.
 #[repr(C)]
@@ -39,12 +43,23 @@ pub struct Direct {
 }
 
 #[repr(C)]
-#[derive(Debug, Clone, Copy, Default, PartialEq, Eq)]
+#[derive(Debug, Clone, Copy, PartialEq, Eq)]
 pub struct SideValue {
     pub attributes: usize,
     pub widths: [u32; WIDTH_PLACES],
     pub lines: usize,
     pub seniority: [Direct; LINE_PLACES],
+}
+
+impl Default for SideValue {
+    fn default() -> Self {
+        SideValue {
+            attributes: 0,
+            widths: [0; WIDTH_PLACES],
+            lines: 0,
+            seniority: [Direct::default(); LINE_PLACES],
+        }
+    }
 }
 
 impl SideValue {

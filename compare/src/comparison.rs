@@ -8,6 +8,7 @@ mod coverage;
 mod isolation;
 mod known;
 mod lent;
+mod many_values;
 mod sessions;
 mod texts;
 
@@ -17,7 +18,7 @@ use crate::damage::damaged;
 use crate::engine::Engine;
 use known::Known;
 use reference::cases::{text, Rng};
-use reference::form::{Widths, WIDTHS};
+use reference::form::{Widths, TUPLE_BITS, WIDTHS};
 use std::fmt::Debug;
 use std::fmt::{self, Display};
 
@@ -132,6 +133,7 @@ impl Trial<'_> {
         let start = self.coverage.calls();
         self.writing_back(&known, &text)?;
         self.list_of_calls(&known, calls / 2)?;
+        self.by_many_values(&known)?;
         while self.coverage.calls() < start + u64::from(calls) {
             if self.rng.chance(1, 3) {
                 let damaged = Known::of(damaged(&mut self.rng, &known.value));
@@ -148,7 +150,7 @@ impl Trial<'_> {
     fn count(&mut self, kind: &'static str, known: &Known, answer: u32) {
         self.coverage.count_call(kind, answer);
         if let Some(policy) = &known.policy {
-            self.coverage.count_form(kind, policy.form.number);
+            self.coverage.count_policy(kind, policy);
         }
     }
 
@@ -157,6 +159,14 @@ impl Trial<'_> {
         match &known.policy {
             Some(policy) if self.rng.chance(2, 3) => policy.form.widths,
             _ => self.rng.pick(&WIDTHS),
+        }
+    }
+
+    /// The bits of a tuple that a call is made for: mostly those of the policy's form.
+    fn some_tuple_bits(&mut self, known: &Known) -> u32 {
+        match &known.policy {
+            Some(policy) if self.rng.chance(3, 4) => policy.form.tuple_bits,
+            _ => self.rng.pick(&TUPLE_BITS),
         }
     }
 

@@ -7,6 +7,7 @@ pub use boards::{board, damaged_board};
 use crate::boundary::*;
 use crate::value::word_number;
 use reference::cases::Rng;
+use reference::form::FORMS;
 use reference::policy::Word;
 
 /// A number at or around the limits, or far past them.
@@ -19,6 +20,7 @@ pub fn odd(rng: &mut Rng) -> u32 {
         7,
         8,
         9,
+        10,
         15,
         16,
         17,
@@ -27,6 +29,8 @@ pub fn odd(rng: &mut Rng) -> u32 {
         31,
         32,
         33,
+        36,
+        37,
         63,
         64,
         65,
@@ -34,6 +38,9 @@ pub fn odd(rng: &mut Rng) -> u32 {
         128,
         255,
         256,
+        257,
+        511,
+        512,
         65_535,
         65_536,
         99_999,
@@ -64,7 +71,7 @@ pub fn odd_count(rng: &mut Rng) -> usize {
 pub fn damaged(rng: &mut Rng, value: &PolicyValue) -> PolicyValue {
     let mut damaged = *value;
     for _ in 0..1 + u32::from(rng.chance(1, 5)) {
-        match rng.below(9) {
+        match rng.below(11) {
             0 => change_form(rng, &mut damaged),
             1 => change_count(rng, &mut damaged),
             2 => leave_over(rng, &mut damaged),
@@ -73,17 +80,60 @@ pub fn damaged(rng: &mut Rng, value: &PolicyValue) -> PolicyValue {
             5 => break_order(rng, &mut damaged),
             6 => widen(rng, &mut damaged),
             7 => change_last_action(rng, &mut damaged),
+            8 => change_sum(rng, &mut damaged),
+            9 => change_set(rng, &mut damaged),
             _ => flip_bit(rng, &mut damaged),
         }
     }
     damaged
 }
 
-/// Another form, good or not; one of those that there are may lack an action of the value.
+/// Another form, good or not; one of those that there are may lack an action or a value.
 fn change_form(rng: &mut Rng, value: &mut PolicyValue) {
-    let other = if value.form == 1 { 2 } else { 1 };
-    let none = rng.pick(&[0, 3, 4, 5, 257, 258, 65_537, 65_538, u32::MAX]);
-    value.form = rng.pick(&[other, other, none]);
+    let mut forms = FORMS.map(|form| form.number).to_vec();
+    forms.retain(|&form| form != value.form);
+    let none = rng.pick(&[0, 4, 5, 257, 258, 259, 65_537, 65_538, u32::MAX]);
+    value.form = match rng.chance(2, 3) {
+        true => rng.pick(&forms),
+        false => none,
+    };
+}
+
+/// A side gets as many values as some form allows, or one more, by its last attribute.
+fn change_sum(rng: &mut Rng, value: &mut PolicyValue) {
+    let side = match rng.chance(1, 2) {
+        true => &mut value.user,
+        false => &mut value.object,
+    };
+    let sum = rng.pick(&[7, 8, 9, 9, 10]);
+    let widths = side.widths.get_mut(..side.attributes);
+    if let Some((last, others)) = widths.and_then(|widths| widths.split_last_mut()) {
+        *last = others
+            .iter()
+            .fold(sum, |left, &width| left.saturating_sub(width));
+    }
+}
+
+/// A registered set, or that of a conflict, becomes the greatest of its side or of a form,
+/// or the number past it.
+fn change_set(rng: &mut Rng, value: &mut PolicyValue) {
+    let [users, objects] = [&value.user, &value.object].map(|side| side.values() % u32::BITS);
+    let (values, set) = match rng.below(3) {
+        0 => {
+            let place = place(rng, value.users.count, ENTRY_PLACES);
+            (users, &mut value.users.entries[place].set)
+        }
+        1 => {
+            let place = place(rng, value.objects.count, ENTRY_PLACES);
+            (objects, &mut value.objects.entries[place].set)
+        }
+        _ => {
+            let place = place(rng, value.conflicts.count, CONFLICT_PLACES);
+            (users, &mut value.conflicts.entries[place].set)
+        }
+    };
+    let past = 1 << rng.pick(&[values, values, 7, 8, 9]);
+    *set = past - u32::from(rng.chance(1, 2));
 }
 
 /// An action at the limits of the forms.
@@ -314,7 +364,7 @@ fn disorder<T: Copy>(rng: &mut Rng, entries: &mut [T], count: usize) {
 
 /// One more entry at the end of a list, small numbers in it.
 fn widen(rng: &mut Rng, value: &mut PolicyValue) {
-    let (one, other) = (rng.below(8), rng.below(8));
+    let (one, other) = (rng.below(10), rng.below(10));
     let user = rng.chance(1, 2);
     let (side, register) = match user {
         true => (&mut value.user, &mut value.users),

@@ -1,12 +1,14 @@
 //! The jobs that are measured: one call each, on one sample, or a list of calls.
 
-use crate::boundary::{Board, PolicyValue, DONE, MOST_LABELS, MOST_TABLE, SESSIONS, TEXT_BYTES};
+use crate::boundary::{
+    Board, PolicyValue, DONE, MOST_LABELS, MOST_TABLE, MOST_TUPLES, SESSIONS, TEXT_BYTES,
+};
 use crate::engine::Engine;
 use crate::plain;
 use crate::plain::policy::Policy;
 use crate::sample::Sample;
 use crate::timing::{job, Job};
-use crate::widths::{Labels, Widths};
+use crate::widths::{Labels, Tuple, Widths};
 use reference::machine::Call;
 use std::hint::black_box;
 
@@ -32,25 +34,75 @@ pub const NAMES: [&str; 18] = [
     "a thousand calls",
 ];
 
+/// The jobs that plain Rust does by 64 pairs of sets at once too.
+pub const NAMES_BY_64: [&str; 2] = ["compile", "list"];
+
+/// What jobs write into.
+#[derive(PartialEq)]
+struct Buffers<W: Widths> {
+    text: Vec<u8>,
+    tuples: Vec<W::Tuple>,
+    users: Vec<W::Label>,
+    objects: Vec<W::Label>,
+    table: Vec<W::Entry>,
+}
+
+impl<W: Widths> Buffers<W> {
+    /// Long enough for all results.
+    fn new() -> Self {
+        Buffers {
+            text: vec![0; TEXT_BYTES],
+            tuples: vec![W::Tuple::default(); MOST_TUPLES],
+            users: vec![W::Label::default(); MOST_LABELS],
+            objects: vec![W::Label::default(); MOST_LABELS],
+            table: vec![W::Entry::default(); MOST_TABLE],
+        }
+    }
+}
+
 /// The jobs of an engine behind the boundary.
 pub fn of_engine<'a, E: Engine, W: Widths>(
     engine: &'a E,
     sample: &'a Sample<W>,
 ) -> [Job<'a>; NAMES.len()] {
-    let (value, board, set) = (&sample.value, &sample.board, sample.all_values());
-    let labels = sample.labels();
-    let on_full = |k: usize| {
-        let calls = &sample.on_full[k];
-        job(move || {
-            let board = *black_box(&sample.full);
-            list_by_engine(engine, board, black_box(value), &labels, calls)
-        })
-    };
-    let mut text = [0; TEXT_BYTES];
-    let mut tuples = [0; MOST_TABLE];
-    let mut users = [W::Label::default(); MOST_LABELS];
-    let mut objects = [W::Label::default(); MOST_LABELS];
-    let mut table = [W::Entry::default(); MOST_TABLE];
+    all(
+        on_policy_by_engine(engine, sample),
+        on_board_by_engine(engine, sample),
+    )
+}
+
+/// The same jobs of plain Rust, with its own policy value by reference.
+pub fn by_reference<W: Widths>(sample: &Sample<W>) -> [Job<'_>; NAMES.len()] {
+    all(
+        on_policy_by_reference(sample),
+        on_board_by_reference(sample),
+    )
+}
+
+/// How many of the jobs are on a policy; those behind them are on a board.
+const ON_POLICY: usize = 11;
+const ON_BOARD: usize = NAMES.len() - ON_POLICY;
+
+fn all<'a>(
+    on_policy: [Job<'a>; ON_POLICY],
+    on_board: [Job<'a>; ON_BOARD],
+) -> [Job<'a>; NAMES.len()] {
+    let mut jobs = on_policy.into_iter().chain(on_board);
+    std::array::from_fn(|_| jobs.next().expect("a job for each name"))
+}
+
+fn on_policy_by_engine<'a, E: Engine, W: Widths>(
+    engine: &'a E,
+    sample: &'a Sample<W>,
+) -> [Job<'a>; ON_POLICY] {
+    let (value, set) = (&sample.value, sample.all_values());
+    let Buffers {
+        mut text,
+        mut tuples,
+        mut users,
+        mut objects,
+        mut table,
+    } = Buffers::<W>::new();
     [
         job(move || engine.read(black_box(&sample.text))),
         job(move || engine.read(black_box(&sample.misspelt))),
@@ -63,10 +115,26 @@ pub fn of_engine<'a, E: Engine, W: Widths>(
             let value = black_box(value);
             W::compile(engine, value, &mut users, &mut objects, &mut table)
         }),
-        job(move || engine.list(black_box(value), 0, &mut tuples)),
+        job(move || W::Tuple::list(engine, black_box(value), 0, &mut tuples)),
         job(move || engine.decide(black_box(value), 0, set, set)),
         // Alike, so that every object set is looked at.
         job(move || engine.apart(black_box(value), set, set)),
+    ]
+}
+
+fn on_board_by_engine<'a, E: Engine, W: Widths>(
+    engine: &'a E,
+    sample: &'a Sample<W>,
+) -> [Job<'a>; ON_BOARD] {
+    let (value, board, labels) = (&sample.value, &sample.board, sample.labels());
+    let on_full = |k: usize| {
+        let calls = &sample.on_full[k];
+        job(move || {
+            let board = *black_box(&sample.full);
+            list_by_engine(engine, board, black_box(value), &labels, calls)
+        })
+    };
+    [
         job(move || engine.open(black_box(board), black_box(value), 0, LAST, 0)),
         job(move || {
             let (board, value) = (black_box(board), black_box(value));
@@ -83,22 +151,15 @@ pub fn of_engine<'a, E: Engine, W: Widths>(
     ]
 }
 
-/// The same jobs of plain Rust, with its own policy value by reference.
-pub fn by_reference<W: Widths>(sample: &Sample<W>) -> [Job<'_>; NAMES.len()] {
-    let (policy, board, set) = (&sample.policy, &sample.board, sample.all_values());
-    let labels = sample.labels();
-    let on_full = |k: usize| {
-        let calls = &sample.on_full[k];
-        job(move || {
-            let board = *black_box(&sample.full);
-            list_by_reference(board, black_box(policy), &labels, calls)
-        })
-    };
-    let mut text = [0; TEXT_BYTES];
-    let mut tuples = [0; MOST_TABLE];
-    let mut users = [W::Label::default(); MOST_LABELS];
-    let mut objects = [W::Label::default(); MOST_LABELS];
-    let mut table = [W::Entry::default(); MOST_TABLE];
+fn on_policy_by_reference<W: Widths>(sample: &Sample<W>) -> [Job<'_>; ON_POLICY] {
+    let (policy, set) = (&sample.policy, sample.all_values());
+    let Buffers {
+        mut text,
+        mut tuples,
+        mut users,
+        mut objects,
+        mut table,
+    } = Buffers::<W>::new();
     [
         job(move || plain::reader::read(black_box(&sample.text))),
         job(move || plain::reader::read(black_box(&sample.misspelt))),
@@ -114,6 +175,19 @@ pub fn by_reference<W: Widths>(sample: &Sample<W>) -> [Job<'_>; NAMES.len()] {
         job(move || plain::tuples::list(black_box(policy), 0, &mut tuples)),
         job(move || plain::formula::decide(black_box(policy), 0, set, set)),
         job(move || plain::labels::apart(black_box(policy), set, set)),
+    ]
+}
+
+fn on_board_by_reference<W: Widths>(sample: &Sample<W>) -> [Job<'_>; ON_BOARD] {
+    let (policy, board, labels) = (&sample.policy, &sample.board, sample.labels());
+    let on_full = |k: usize| {
+        let calls = &sample.on_full[k];
+        job(move || {
+            let board = *black_box(&sample.full);
+            list_by_reference(board, black_box(policy), &labels, calls)
+        })
+    };
+    [
         job(move || {
             let mut board = *black_box(board);
             let answer = plain::board::open(&mut board, black_box(policy), 0, LAST, 0);
@@ -125,6 +199,23 @@ pub fn by_reference<W: Widths>(sample: &Sample<W>) -> [Job<'_>; NAMES.len()] {
         on_full(2),
         on_full(3),
         job(move || list_by_reference(Board::default(), black_box(policy), &labels, &sample.calls)),
+    ]
+}
+
+/// Compile and list by 64 pairs of sets at once, of plain Rust by reference.
+pub fn by_64<W: Widths>(sample: &Sample<W>) -> [Job<'_>; NAMES_BY_64.len()] {
+    use plain::by_64::{compile, list};
+    let policy = &sample.policy;
+    let Buffers {
+        mut tuples,
+        mut users,
+        mut objects,
+        mut table,
+        ..
+    } = Buffers::<W>::new();
+    [
+        job(move || compile::<W>(black_box(policy), &mut users, &mut objects, &mut table)),
+        job(move || list(black_box(policy), 0, &mut tuples)),
     ]
 }
 
@@ -188,66 +279,47 @@ fn list_by_reference<W: Widths>(
 mod tests {
     use super::*;
     use crate::engine::Archive;
-    use crate::plain::Plain;
-    use crate::sample::{Size, FORM_1_SIZES, FORM_2_SIZES};
-    use crate::widths::{Widths8x16, Widths8x8};
+    use crate::for_all_sizes;
+    use crate::plain::{Peer, Plain, PlainBy64};
+    use crate::sample::Size;
 
-    /// What writing, listing and compiling leave in their buffers.
-    #[derive(PartialEq)]
-    struct Left<W: Widths> {
-        text: Vec<u8>,
-        tuples: Vec<u16>,
-        users: Vec<W::Label>,
-        objects: Vec<W::Label>,
-        table: Vec<W::Entry>,
-    }
-
-    impl<W: Widths> Left<W> {
-        fn nothing() -> Self {
-            Left {
-                text: vec![0; TEXT_BYTES],
-                tuples: vec![0; MOST_TABLE],
-                users: vec![W::Label::default(); MOST_LABELS],
-                objects: vec![W::Label::default(); MOST_LABELS],
-                table: vec![W::Entry::default(); MOST_TABLE],
-            }
-        }
-
+    impl<W: Widths> Buffers<W> {
+        /// What writing, listing and compiling leave.
         fn by_engine(engine: &dyn Engine, policy: &PolicyValue) -> Self {
-            let mut left = Self::nothing();
+            let mut left = Self::new();
             let (users, objects) = (&mut left.users, &mut left.objects);
             assert_eq!(engine.write(policy, &mut left.text).refusal, 0);
-            assert_eq!(engine.list(policy, 0, &mut left.tuples).refusal, 0);
+            assert_eq!(
+                W::Tuple::list(engine, policy, 0, &mut left.tuples).refusal,
+                0
+            );
             let counts = W::compile(engine, policy, users, objects, &mut left.table);
             assert_eq!(counts.refusal, 0);
             left
         }
 
-        fn by_reference(policy: &Policy) -> Self {
-            let mut left = Self::nothing();
+        fn by_reference<P: Peer>(policy: &Policy) -> Self {
+            let mut left = Self::new();
             let (users, objects) = (&mut left.users, &mut left.objects);
             assert!(plain::writer::write(policy, &mut left.text).is_ok());
-            assert!(plain::tuples::list(policy, 0, &mut left.tuples).is_ok());
-            assert!(plain::labels::compile::<W>(policy, users, objects, &mut left.table).is_ok());
+            assert!(P::list_by_reference(policy, 0, &mut left.tuples).is_ok());
+            let table = &mut left.table;
+            assert!(P::compile_by_reference::<W>(policy, users, objects, table).is_ok());
             left
         }
     }
 
-    fn leave_the_same<W: Widths + PartialEq>(size: Size) {
+    fn leave_the_same<W: Widths>(size: Size) {
         let sample = Sample::<W>::of(size);
-        let due = Left::<W>::by_reference(&sample.policy);
-        assert!(Left::by_engine(&Archive, &sample.value) == due);
-        assert!(Left::by_engine(&Plain, &sample.value) == due);
+        let due = Buffers::<W>::by_reference::<Plain>(&sample.policy);
+        assert!(Buffers::by_reference::<PlainBy64>(&sample.policy) == due);
+        assert!(Buffers::by_engine(&Archive, &sample.value) == due);
+        assert!(Buffers::by_engine(&Plain, &sample.value) == due);
     }
 
     #[test]
     fn all_sides_leave_the_same_in_buffers() {
-        FORM_1_SIZES
-            .into_iter()
-            .for_each(leave_the_same::<Widths8x8>);
-        FORM_2_SIZES
-            .into_iter()
-            .for_each(leave_the_same::<Widths8x16>);
+        for_all_sizes!(leave_the_same);
     }
 
     /// All sides answer a list of calls from a board on alike.
@@ -268,12 +340,7 @@ mod tests {
 
     #[test]
     fn all_sides_answer_every_list_alike() {
-        FORM_1_SIZES
-            .into_iter()
-            .for_each(lists_answered_alike::<Widths8x8>);
-        FORM_2_SIZES
-            .into_iter()
-            .for_each(lists_answered_alike::<Widths8x16>);
+        for_all_sizes!(lists_answered_alike);
     }
 
     fn refused_as_called<W: Widths>(size: Size) {
@@ -293,11 +360,6 @@ mod tests {
 
     #[test]
     fn refused_texts_are_refused_as_they_are_called() {
-        FORM_1_SIZES
-            .into_iter()
-            .for_each(refused_as_called::<Widths8x8>);
-        FORM_2_SIZES
-            .into_iter()
-            .for_each(refused_as_called::<Widths8x16>);
+        for_all_sizes!(refused_as_called);
     }
 }

@@ -1,8 +1,8 @@
 //! The policies, boards and calls that are measured.
 
 use crate::boundary::{
-    Board, Counts, PolicyValue, Session, FORM_1_ACTIONS, FORM_2_ACTIONS, MOST_LABELS, MOST_TABLE,
-    SESSIONS, TEXT_BYTES,
+    Board, Counts, PolicyValue, Session, FORM_1_ACTIONS, FORM_2_ACTIONS, FORM_3_VALUES,
+    MOST_LABELS, MOST_TABLE, SESSIONS, TEXT_BYTES,
 };
 use crate::engine::{Archive, Engine};
 use crate::plain::policy::Policy;
@@ -27,6 +27,9 @@ pub struct Size {
     pub words: u32,
     /// Equally many of each action, and not more of one than there are pairs of values.
     pub pairs: u32,
+    /// Whether each set has a label of its own, and rows that are not alike begin alike:
+    /// every rule is true where `q00` is, and the last action has no pairs.
+    pub all_apart: bool,
 }
 
 const SMALL: Size = Size {
@@ -38,28 +41,25 @@ const SMALL: Size = Size {
     rules: 2,
     words: 4,
     pairs: 0,
+    all_apart: false,
 };
 
 const MIDDLE: Size = Size {
-    form: 1,
     values: 4,
     users: 8,
     objects: 16,
-    conflicts: 0,
     rules: 4,
     words: 16,
-    pairs: 0,
+    ..SMALL
 };
 
 const LARGE: Size = Size {
-    form: 1,
     values: 7,
     users: 32,
     objects: 64,
-    conflicts: 0,
     rules: 8,
     words: 32,
-    pairs: 0,
+    ..SMALL
 };
 
 /// Of form 1: from a small policy to one at every limit but those of pairs and
@@ -104,7 +104,58 @@ pub const FORM_2_SIZES: [Size; 2] = [
     },
 ];
 
+const LARGE_3: Size = Size {
+    form: 3,
+    values: FORM_3_VALUES as u32,
+    ..LARGE_2
+};
+
+/// Of form 3, at the limits: as those of form 2, and both once more with as many labels as
+/// there can be.
+pub const FORM_3_SIZES: [Size; 4] = [
+    LARGE_3,
+    Size {
+        pairs: 64,
+        ..LARGE_3
+    },
+    Size {
+        all_apart: true,
+        ..LARGE_3
+    },
+    Size {
+        pairs: 64,
+        all_apart: true,
+        ..LARGE_3
+    },
+];
+
+/// Of form 3, from few values to the most, and alike otherwise.
+pub fn growing() -> impl Iterator<Item = Size> {
+    (2..=LARGE_3.values).map(|values| Size { values, ..LARGE_3 })
+}
+
+/// Calls a function over widths with each of the sizes of all forms.
+#[macro_export]
+macro_rules! for_all_sizes {
+    ($call:ident) => {
+        $crate::sample::FORM_1_SIZES
+            .into_iter()
+            .for_each($call::<$crate::widths::Widths8x8>);
+        $crate::sample::FORM_2_SIZES
+            .into_iter()
+            .for_each($call::<$crate::widths::Widths8x16>);
+        $crate::sample::FORM_3_SIZES
+            .into_iter()
+            .for_each($call::<$crate::widths::Widths16x16>);
+    };
+}
+
 impl Size {
+    /// How many pairs of sets there are.
+    pub fn pairs_of_sets(&self) -> u64 {
+        1 << (2 * self.values)
+    }
+
     fn actions(&self) -> u32 {
         match self.form {
             1 => FORM_1_ACTIONS as u32,
@@ -119,7 +170,12 @@ impl Display for Size {
         if self.form != 1 {
             write!(f, ", form {}, {} rules", self.form, self.rules)?;
         }
-        for (count, kind) in [(self.pairs, "pairs"), (self.conflicts, "conflicts")] {
+        let labels = u32::from(self.all_apart) << self.values;
+        for (count, kind) in [
+            (self.pairs, "pairs"),
+            (self.conflicts, "conflicts"),
+            (labels, "labels"),
+        ] {
             if count > 0 {
                 write!(f, ", {count} {kind}")?;
             }
@@ -155,16 +211,16 @@ pub struct Sample<W: Widths> {
 /// What compiling gave, in buffers that are always long enough.
 struct Compiled<W: Widths> {
     counts: Counts,
-    users: [W::Label; MOST_LABELS],
-    objects: [W::Label; MOST_LABELS],
-    table: [W::Entry; MOST_TABLE],
+    users: Vec<W::Label>,
+    objects: Vec<W::Label>,
+    table: Vec<W::Entry>,
 }
 
 impl<W: Widths> Compiled<W> {
     fn of(policy: &PolicyValue) -> Self {
-        let mut users = [W::Label::default(); MOST_LABELS];
-        let mut objects = [W::Label::default(); MOST_LABELS];
-        let mut table = [W::Entry::default(); MOST_TABLE];
+        let mut users = vec![W::Label::default(); MOST_LABELS];
+        let mut objects = vec![W::Label::default(); MOST_LABELS];
+        let mut table = vec![W::Entry::default(); MOST_TABLE];
         let counts = W::compile(&Archive, policy, &mut users, &mut objects, &mut table);
         assert_eq!(counts.refusal, 0, "a sample of other widths");
         Compiled {
@@ -242,7 +298,7 @@ fn text(size: Size) -> String {
     }
     text += &conflicts(size);
     for rule in 0..size.rules {
-        text += &format!("rule,{rule},{}\n", formula(size, rule));
+        text += &format!("rule,{rule},{}\n", words(size, rule));
     }
     text + &pairs(size) + "end\n"
 }
@@ -268,14 +324,14 @@ fn conflicts(size: Size) -> String {
 /// The pair lines, equally many of each action. Their user values are senior and
 /// their object values junior, which the fewest sets hold: much is left to formulas.
 fn pairs(size: Size) -> String {
-    let (actions, values) = (size.actions(), size.values);
-    let mut pairs = Vec::new();
-    for action in 0..actions {
-        for k in 0..size.pairs / actions {
-            let place = (action + k) % (values * values);
-            pairs.push((action, values - 1 - place % values, place / values));
-        }
-    }
+    let actions = size.actions() - u32::from(size.all_apart);
+    let values = size.values;
+    let pair = |k| {
+        let action = k % actions;
+        let place = (action + k / actions) % (values * values);
+        (action, values - 1 - place % values, place / values)
+    };
+    let mut pairs: Vec<_> = (0..size.pairs).map(pair).collect();
     pairs.sort();
     let lines = pairs.iter();
     lines
@@ -283,8 +339,16 @@ fn pairs(size: Size) -> String {
         .collect()
 }
 
+/// The words of a rule; where all sets are to be apart they end in `q00`, whatever it says.
+fn words(size: Size, rule: u32) -> String {
+    match size.all_apart {
+        true => formula(size, rule, size.words - 4) + ",f,a,q00,r",
+        false => formula(size, rule, size.words),
+    }
+}
+
 /// Leaves two by two, each two joined; then all of these joined, and `n`.
-fn formula(size: Size, rule: u32) -> String {
+fn formula(size: Size, rule: u32, count: u32) -> String {
     let leaf = |k: u32| match (rule + k) % 8 {
         0 | 3 | 6 => format!("u{}", (rule + k / 2) % size.values),
         1 | 4 | 7 => format!("o{}", (rule + k / 3) % size.values),
@@ -292,7 +356,7 @@ fn formula(size: Size, rule: u32) -> String {
         _ => "q00".to_string(),
     };
     let join = |k: u32| ["a", "r"][(rule + k) as usize % 2].to_string();
-    let leaves = size.words / 2;
+    let leaves = count / 2;
     let mut words = Vec::new();
     for k in 0..leaves {
         words.push(leaf(k));
@@ -304,6 +368,31 @@ fn formula(size: Size, rule: u32) -> String {
     words.extend((1..leaves.div_ceil(2)).map(|k| join(k + 1)));
     words.push("n".to_string());
     words.join(",")
+}
+
+/// A text of nine values on each side that grants each of sixteen actions at every pair of
+/// sets.
+pub fn granting_all() -> Vec<u8> {
+    listed(|_| "t".to_string())
+}
+
+/// One that grants each at half of the pairs of sets: where just one of a user value and an
+/// object value is held.
+pub fn granting_half() -> Vec<u8> {
+    listed(|action| {
+        let (user, object) = (action % LARGE_3.values, (action / 2 + 3) % LARGE_3.values);
+        format!("u{user},o{object},n,a,u{user},n,o{object},a,r")
+    })
+}
+
+/// A text of the most values of form 3, with a rule for each action.
+fn listed(words: impl Fn(u32) -> String) -> Vec<u8> {
+    let values = LARGE_3.values;
+    let mut text = format!("policy,3\nuattr,{values}\noattr,{values}\n");
+    for action in 0..LARGE_3.actions() {
+        text += &format!("rule,{action},{}\n", words(action));
+    }
+    (text + "end\n").into_bytes()
 }
 
 /// The user that a session is opened for, and the user's assigned set.
@@ -375,7 +464,6 @@ fn calls(size: Size, policy: &Policy) -> Vec<Call> {
 mod tests {
     use super::*;
     use crate::value::sessions;
-    use crate::widths::{Widths8x16, Widths8x8};
     use reference::machine::{run, step, Answer};
     use reference::text::read;
 
@@ -383,18 +471,38 @@ mod tests {
         let policy = Sample::<W>::of(size).policy;
         assert_eq!(policy.form, size.form);
         assert_eq!(policy.rules().len(), size.rules as usize);
+        let mut rules = policy.rules().iter();
+        assert!(rules.all(|rule| rule.count == size.words as usize));
         assert_eq!(policy.pairs().len(), size.pairs as usize);
         assert_eq!(policy.conflicts().len(), size.conflicts as usize);
     }
 
     #[test]
     fn samples_have_the_lines_of_their_size() {
-        FORM_1_SIZES
-            .into_iter()
-            .for_each(has_its_lines::<Widths8x8>);
-        FORM_2_SIZES
-            .into_iter()
-            .for_each(has_its_lines::<Widths8x16>);
+        for_all_sizes!(has_its_lines);
+    }
+
+    fn has_its_labels<W: Widths>(size: Size) {
+        let Labels { nu, no, .. } = Sample::<W>::of(size).labels();
+        let most = 1 << size.values;
+        assert!(!size.all_apart || (nu, no) == (most, most), "{size}");
+    }
+
+    #[test]
+    fn samples_have_as_many_labels_as_sets_where_they_should() {
+        for_all_sizes!(has_its_labels);
+    }
+
+    /// All sixteen actions at every pair of sets, or at half of them.
+    #[test]
+    fn what_is_listed_has_its_tuples() {
+        for (text, count) in [(granting_all(), 1 << 18), (granting_half(), 1 << 17)] {
+            let policy = plain::reader::read(&text).expect("accepted");
+            let mut tuples = vec![0u32; 1 << 18];
+            for action in 0..16 {
+                assert_eq!(plain::by_64::list(&policy, action, &mut tuples), Ok(count));
+            }
+        }
     }
 
     fn none_refused_on_full<W: Widths>(size: Size) {
@@ -413,12 +521,7 @@ mod tests {
 
     #[test]
     fn no_call_on_the_full_board_is_refused() {
-        FORM_1_SIZES
-            .into_iter()
-            .for_each(none_refused_on_full::<Widths8x8>);
-        FORM_2_SIZES
-            .into_iter()
-            .for_each(none_refused_on_full::<Widths8x16>);
+        for_all_sizes!(none_refused_on_full);
     }
 
     fn none_refused<W: Widths>(size: Size) {
@@ -433,9 +536,6 @@ mod tests {
 
     #[test]
     fn no_call_of_a_sample_is_refused() {
-        FORM_1_SIZES.into_iter().for_each(none_refused::<Widths8x8>);
-        FORM_2_SIZES
-            .into_iter()
-            .for_each(none_refused::<Widths8x16>);
+        for_all_sizes!(none_refused);
     }
 }

@@ -274,6 +274,46 @@ mod tests {
         assert_eq!(yielded(&value), None);
     }
 
+    /// A text with all values of form 3, in these user widths, and each two of them senior
+    /// where they may be.
+    fn all_values(widths: &[u32]) -> String {
+        let attributes: String = widths.iter().map(|w| format!("uattr,{w}\n")).collect();
+        let lines: String = match widths {
+            [_] => (1..9)
+                .flat_map(|v| (0..v).map(move |j| format!("usen,{v},{j}\n")))
+                .collect(),
+            _ => String::new(),
+        };
+        format!("policy,3\n{attributes}oattr,9\n{lines}user,0,511\nobject,0,511\nend\n")
+    }
+
+    #[test]
+    fn form_3_fills_every_place_of_a_side() {
+        let one = all_values(&[9]);
+        let value_of_one = value(&one);
+        let last = Direct {
+            senior: 8,
+            junior: 7,
+        };
+        assert_eq!(value_of_one.user.lines, LINE_PLACES);
+        assert_eq!(value_of_one.user.seniority[LINE_PLACES - 1], last);
+        let nine = all_values(&[1; 9]);
+        let value_of_nine = value(&nine);
+        assert_eq!(value_of_nine.user.attributes, WIDTH_PLACES);
+        assert_eq!(value_of_nine.user.widths, [1; WIDTH_PLACES]);
+        for (text, value) in [(one, value_of_one), (nine, value_of_nine)] {
+            assert_eq!(yielded(&value), read(text.as_bytes()).ok());
+            let form_2 = PolicyValue { form: 2, ..value };
+            assert_eq!(yielded(&form_2), None);
+            let mut past = value;
+            past.objects.entries[0].set = 512;
+            assert_eq!(yielded(&past), None);
+            let mut tenth = value;
+            tenth.user.widths[0] += 1;
+            assert_eq!(yielded(&tenth), None);
+        }
+    }
+
     #[test]
     fn a_number_is_one_words_or_none() {
         let words = (0..=u8::MAX).filter_map(|number| Some((number, word(number)?)));

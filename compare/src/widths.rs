@@ -1,7 +1,7 @@
-//! The stored widths that compile and request are made for: the bits of a label, then
-//! those of an entry of the table.
+//! The stored widths that calls are made for. Of compile and request: the bits of a label,
+//! then those of an entry of the table; of listing and deciding by tuples: those of a tuple.
 
-use crate::boundary::{Board, Counts, PolicyValue, Step};
+use crate::boundary::{Board, Counted, Counts, PolicyValue, Step};
 use crate::engine::Engine;
 use reference::form;
 use std::fmt::Debug;
@@ -41,7 +41,7 @@ macro_rules! elements {
     };
 }
 
-elements!(u8 u16);
+elements!(u8 u16 u32);
 
 /// What a request is lent: NU, NO and the three buffers.
 #[derive(Debug, Clone, Copy)]
@@ -53,10 +53,12 @@ pub struct Labels<'a, W: Widths> {
     pub table: &'a [W::Entry],
 }
 
-/// Stored widths, and the two calls that are made for them.
+/// The stored widths of a form, and the two calls that are made for them.
 pub trait Widths: Copy + Debug + PartialEq + 'static {
     type Label: Element;
     type Entry: Element;
+    /// A tuple of the same form.
+    type Tuple: Tuple;
     const COMPILE: &'static str;
     const REQUEST: &'static str;
 
@@ -87,8 +89,30 @@ pub trait Widths: Copy + Debug + PartialEq + 'static {
     }
 }
 
+/// A tuple as it is stored, and the two calls that are made for its width.
+pub trait Tuple: Element {
+    const LIST: &'static str;
+    const DECIDE: &'static str;
+
+    fn list<E: Engine + ?Sized>(
+        engine: &E,
+        policy: &PolicyValue,
+        action: u32,
+        buffer: &mut [Self],
+    ) -> Counted;
+
+    fn decide<E: Engine + ?Sized>(
+        engine: &E,
+        policy: &PolicyValue,
+        user: u32,
+        object: u32,
+        listing: &[Self],
+        count: usize,
+    ) -> u32;
+}
+
 macro_rules! widths {
-    ($($(#[$doc:meta])* $name:ident: $label:ty, $entry:ty, $compile:ident, $request:ident;)*) => {
+    ($($(#[$doc:meta])* $name:ident: $label:ty, $entry:ty, $compile:ident, $request:ident, $tuple:ty;)*) => {
         $(
             $(#[$doc])*
             #[derive(Debug, Clone, Copy, PartialEq, Eq)]
@@ -97,6 +121,7 @@ macro_rules! widths {
             impl Widths for $name {
                 type Label = $label;
                 type Entry = $entry;
+                type Tuple = $tuple;
                 const COMPILE: &'static str = stringify!($compile);
                 const REQUEST: &'static str = stringify!($request);
 
@@ -126,14 +151,51 @@ macro_rules! widths {
     };
 }
 
+macro_rules! tuples {
+    ($($tuple:ty: $list:ident, $decide:ident;)*) => {
+        $(impl Tuple for $tuple {
+            const LIST: &'static str = stringify!($list);
+            const DECIDE: &'static str = stringify!($decide);
+
+            fn list<E: Engine + ?Sized>(
+                engine: &E,
+                policy: &PolicyValue,
+                action: u32,
+                buffer: &mut [$tuple],
+            ) -> Counted {
+                engine.$list(policy, action, buffer)
+            }
+
+            fn decide<E: Engine + ?Sized>(
+                engine: &E,
+                policy: &PolicyValue,
+                user: u32,
+                object: u32,
+                listing: &[$tuple],
+                count: usize,
+            ) -> u32 {
+                engine.$decide(policy, user, object, listing, count)
+            }
+        })*
+    };
+}
+
 widths! {
     /// Bytes for labels and table: form 1.
-    Widths8x8: u8, u8, compile_8_8, request_8_8;
+    Widths8x8: u8, u8, compile_8_8, request_8_8, u16;
     /// Bytes for labels, and a table of 16-bit entries: form 2.
-    Widths8x16: u8, u16, compile_8_16, request_8_16;
+    Widths8x16: u8, u16, compile_8_16, request_8_16, u16;
+    /// Labels of 16 bits, and a table of 16-bit entries: form 3.
+    Widths16x16: u16, u16, compile_16_16, request_16_16, u32;
+}
+
+tuples! {
+    u16: list_16, decide_by_tuples_16;
+    u32: list_32, decide_by_tuples_32;
 }
 
 /// What an expression gives with a name for the widths of these bits.
+#[macro_export]
 macro_rules! at_widths {
     ($bits:expr, $widths:ident => $given:expr) => {
         match $bits {
@@ -145,9 +207,29 @@ macro_rules! at_widths {
                 type $widths = $crate::widths::Widths8x16;
                 $given
             }
+            reference::form::WIDTHS_16_16 => {
+                type $widths = $crate::widths::Widths16x16;
+                $given
+            }
             bits => unreachable!("no call is made for {bits:?}"),
         }
     };
 }
 
-pub(crate) use at_widths;
+/// What an expression gives with a name for a tuple of so many bits.
+#[macro_export]
+macro_rules! at_tuples {
+    ($bits:expr, $tuple:ident => $given:expr) => {
+        match $bits {
+            16 => {
+                type $tuple = u16;
+                $given
+            }
+            32 => {
+                type $tuple = u32;
+                $given
+            }
+            bits => unreachable!("no call is made for tuples of {bits} bits"),
+        }
+    };
+}

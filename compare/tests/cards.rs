@@ -2,9 +2,10 @@
 
 use helvemoik_compare::boundary::*;
 use helvemoik_compare::engine::{Archive, Engine};
-use helvemoik_compare::widths::{Labels, Widths, Widths8x16, Widths8x8};
+use helvemoik_compare::widths::{Labels, Tuple, Widths};
+use helvemoik_compare::{at_tuples, at_widths};
 use reference::card_calls::{call_file, CardCall};
-use reference::form;
+use reference::form::{self, Form};
 use reference::machine::{Answer, Call};
 use std::fs;
 use std::path::{Path, PathBuf};
@@ -16,22 +17,27 @@ fn top() -> PathBuf {
 /// Labels and table of a card, as a compile of some widths fills them, or refuses to.
 struct Compiled<W: Widths> {
     counts: Counts,
-    users: [W::Label; MOST_LABELS],
-    objects: [W::Label; MOST_LABELS],
-    table: [W::Entry; MOST_TABLE],
+    users: Vec<W::Label>,
+    objects: Vec<W::Label>,
+    table: Vec<W::Entry>,
 }
 
 impl<W: Widths> Compiled<W> {
+    /// In buffers of these lengths.
+    fn into_rooms(policy: &PolicyValue, rooms: [usize; 3]) -> Self {
+        let [mut users, mut objects] = [0, 1].map(|side| vec![W::Label::default(); rooms[side]]);
+        let mut table = vec![W::Entry::default(); rooms[2]];
+        let counts = W::compile(&Archive, policy, &mut users, &mut objects, &mut table);
+        Compiled {
+            counts,
+            users,
+            objects,
+            table,
+        }
+    }
+
     fn of(policy: &PolicyValue) -> Self {
-        let mut compiled = Compiled {
-            counts: Counts::default(),
-            users: [W::Label::default(); MOST_LABELS],
-            objects: [W::Label::default(); MOST_LABELS],
-            table: [W::Entry::default(); MOST_TABLE],
-        };
-        let (users, objects) = (&mut compiled.users, &mut compiled.objects);
-        compiled.counts = W::compile(&Archive, policy, users, objects, &mut compiled.table);
-        compiled
+        Self::into_rooms(policy, [MOST_LABELS, MOST_LABELS, MOST_TABLE])
     }
 
     /// The answer by the labels of two sets; none where compiling was refused.
@@ -58,56 +64,56 @@ impl<W: Widths> Compiled<W> {
     }
 }
 
-/// The refusal of compiling for some widths into buffers of these lengths.
-fn compile<W: Widths>(policy: &PolicyValue, rooms: [usize; 3]) -> u32 {
-    let [mut users, mut objects] = [0, 1].map(|side| vec![W::Label::default(); rooms[side]]);
-    let mut table = vec![W::Entry::default(); rooms[2]];
-    W::compile(&Archive, policy, &mut users, &mut objects, &mut table).refusal
+/// The answer by the tuples of an action.
+fn by_tuples<T: Tuple>(policy: &PolicyValue, action: u32, user_set: u32, object_set: u32) -> u32 {
+    let mut listing = vec![T::default(); MOST_TUPLES];
+    let count = T::list(&Archive, policy, action, &mut listing).count;
+    T::decide(&Archive, policy, user_set, object_set, &listing, count)
 }
 
-/// The engine with a card, its labels in all widths, and a board.
+/// The refusal of listing into a buffer of this length.
+fn list<T: Tuple>(policy: &PolicyValue, action: u32, room: usize) -> u32 {
+    T::list(&Archive, policy, action, &mut vec![T::default(); room]).refusal
+}
+
+/// The engine with a card and a board.
 struct Screen {
     policy: PolicyValue,
-    bytes: Compiled<Widths8x8>,
-    wide: Compiled<Widths8x16>,
     board: Board,
 }
 
 impl Screen {
     fn new(card: &[u8]) -> Self {
-        let policy = Archive.read(card).policy;
         Screen {
-            policy,
-            bytes: Compiled::of(&policy),
-            wide: Compiled::of(&policy),
+            policy: Archive.read(card).policy,
             board: Archive.fresh(),
         }
     }
 
-    /// The widths of the card's form; of a card that is refused, any.
-    fn widths(&self) -> form::Widths {
-        form::Form::numbered(self.policy.form).map_or(form::WIDTHS_8_8, |form| form.widths)
+    /// The card's form; of a card that is refused, any.
+    fn form(&self) -> Form {
+        Form::numbered(self.policy.form).unwrap_or_default()
     }
 
     fn answer(&mut self, call: CardCall) -> u32 {
-        let policy = &self.policy;
+        let (policy, form) = (&self.policy, self.form());
         match call {
             CardCall::Decide {
                 action,
                 user_set,
                 object_set,
             } => self.decide(action, user_set, object_set),
-            CardCall::Session(call) => self.session(self.widths(), call),
+            CardCall::Session(call) => self.session(form.widths, call),
             CardCall::RequestFor { widths, request } => self.session(widths, request),
-            CardCall::List { action, room } => {
-                done(Archive.list(policy, action, &mut vec![0; room]).refusal)
+            CardCall::List { bits, action, room } => {
+                let bits = bits.unwrap_or(form.tuple_bits);
+                done(at_tuples!(bits, T => list::<T>(policy, action, room)))
             }
             CardCall::Write { room } => done(Archive.write(policy, &mut vec![0; room]).refusal),
             CardCall::Compile { widths, rooms } => {
-                done(match widths.unwrap_or_else(|| self.widths()) {
-                    form::WIDTHS_8_8 => compile::<Widths8x8>(policy, rooms),
-                    _ => compile::<Widths8x16>(policy, rooms),
-                })
+                done(at_widths!(widths.unwrap_or(form.widths), W => {
+                    Compiled::<W>::into_rooms(policy, rooms).counts.refusal
+                }))
             }
             CardCall::Board {
                 session,
@@ -122,17 +128,16 @@ impl Screen {
 
     /// By formula and pairs; where it decides, tuples and labels must say the same.
     fn decide(&self, action: u32, user_set: u32, object_set: u32) -> u32 {
-        let answer = Archive.decide(&self.policy, action, user_set, object_set);
+        let (policy, form) = (&self.policy, self.form());
+        let answer = Archive.decide(policy, action, user_set, object_set);
         if answer <= GRANTED {
-            let mut listing = vec![0; MOST_TABLE];
-            let count = Archive.list(&self.policy, action, &mut listing).count;
-            let by_tuples =
-                Archive.decide_by_tuples(&self.policy, user_set, object_set, &listing, count);
+            let by_tuples = at_tuples!(form.tuple_bits, T => {
+                by_tuples::<T>(policy, action, user_set, object_set)
+            });
             assert_eq!(by_tuples, answer, "by tuples");
-            let by_labels = match self.widths() {
-                form::WIDTHS_8_8 => self.bytes.decide(action, user_set, object_set),
-                _ => self.wide.decide(action, user_set, object_set),
-            };
+            let by_labels = at_widths!(form.widths, W => {
+                Compiled::<W>::of(policy).decide(action, user_set, object_set)
+            });
             assert_eq!(by_labels, Some(answer), "by labels");
         }
         answer
@@ -150,13 +155,9 @@ impl Screen {
                 session,
                 action,
                 object,
-            } => {
-                let asked = [session, action, object];
-                match widths {
-                    form::WIDTHS_8_8 => self.bytes.request(board, policy, asked),
-                    _ => self.wide.request(board, policy, asked),
-                }
-            }
+            } => at_widths!(widths, W => {
+                Compiled::<W>::of(policy).request(board, policy, [session, action, object])
+            }),
         };
         self.board = step.board;
         step.answer

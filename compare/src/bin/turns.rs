@@ -7,9 +7,9 @@
 
 use helvemoik_compare::engine::Archive;
 use helvemoik_compare::jobs::{of_engine, NAMES};
-use helvemoik_compare::sample::{Sample, FORM_1_SIZES, FORM_2_SIZES};
+use helvemoik_compare::sample::{Sample, FORM_1_SIZES, FORM_2_SIZES, FORM_3_SIZES};
 use helvemoik_compare::timing::{time, Job};
-use helvemoik_compare::widths::{Widths, Widths8x16, Widths8x8};
+use helvemoik_compare::widths::{Widths, Widths16x16, Widths8x16, Widths8x8};
 use std::io::{stdin, BufRead};
 
 /// Names the jobs on some samples, and adds them to the list.
@@ -25,9 +25,11 @@ fn add<'a, W: Widths>(jobs: &mut Vec<Job<'a>>, samples: &'a [Sample<W>]) {
 fn main() {
     let form_1 = FORM_1_SIZES.map(Sample::<Widths8x8>::of);
     let form_2 = FORM_2_SIZES.map(Sample::<Widths8x16>::of);
+    let form_3 = FORM_3_SIZES.map(Sample::<Widths16x16>::of);
     let mut jobs = Vec::new();
     add(&mut jobs, &form_1);
     add(&mut jobs, &form_2);
+    add(&mut jobs, &form_3);
     println!();
     for line in stdin().lock().lines() {
         let line = line.expect("readable input");

@@ -21,14 +21,12 @@ pub struct Buffers<W: Widths> {
 impl<W: Widths> Buffers<W> {
     /// A labelling, whatever bits it loses in these widths.
     pub fn cut(labelling: &Labelling) -> Self {
-        let label = |&label: &u8| W::Label::cut(label.into());
-        let entry = |&entry: &u16| W::Entry::cut(entry.into());
         Buffers {
             nu: labelling.user_count as u32,
             no: labelling.object_count as u32,
-            users: labelling.user_labels.iter().map(label).collect(),
-            objects: labelling.object_labels.iter().map(label).collect(),
-            table: labelling.table.iter().map(entry).collect(),
+            users: cut(&labelling.user_labels),
+            objects: cut(&labelling.object_labels),
+            table: cut(&labelling.table),
         }
     }
 
@@ -78,6 +76,25 @@ impl<W: Widths> Buffers<W> {
             Some(entry) => (entry >> action & 1) as u32,
         }
     }
+}
+
+/// Numbers as a buffer stores them, whatever bits they lose.
+pub fn cut<T: Element>(numbers: &[impl Copy + Into<u32>]) -> Vec<T> {
+    numbers
+        .iter()
+        .map(|&number| T::cut(number.into()))
+        .collect()
+}
+
+/// Numbers as a buffer stores them that has bits enough.
+pub fn stored<T: Element>(numbers: &[impl Copy + Into<u32>]) -> Vec<T> {
+    let stored = |&number: &_| {
+        let number: u32 = Into::into(number);
+        let stored = T::cut(number);
+        assert_eq!(Into::<u32>::into(stored), number, "bits enough");
+        stored
+    };
+    numbers.iter().map(stored).collect()
 }
 
 /// The number at a place of a buffer.
@@ -148,7 +165,7 @@ fn overwrite<W: Widths>(rng: &mut Rng, buffers: &mut Buffers<W>) {
 }
 
 fn any_numbers<T: Element>(rng: &mut Rng, length: usize) -> Vec<T> {
-    let most = rng.pick(&[2, 256, 1 << 16]);
+    let most = rng.pick(&[2, 256, 512, 1 << 16]);
     let number = |_| T::cut(rng.below(most));
     (0..length).map(number).collect()
 }

@@ -1,20 +1,38 @@
 //! Deciding, listing and telling apart.
 
+use super::buffers::{cut, stored};
 use super::coverage::Cause;
 use super::known::{is_above_7, Known};
 use super::lent::{length_for, Lent};
 use super::{same, Outcome, Trial, What};
-use crate::boundary::{Counted, Separation, ALIKE, APART, DENIED, GRANTED, MOST_LABELS};
+use crate::at_tuples;
+use crate::boundary::*;
 use crate::damage::{odd, odd_count};
+use crate::widths::Tuple;
 use reference::cases::{action, set};
 use reference::formula::{decide, reach, Formulas};
 use reference::labels::apart;
 use reference::policy::{Policy, Refusal};
-use reference::tuples::decide_by_tuples;
+use reference::tuples::{decide_by_tuples_for as by_tuples, stored as tuple, Stored};
 
 /// A decision as the header numbers it.
 fn decision(answer: Result<bool, Refusal>) -> u32 {
     answer.map_or_else(|refusal| refusal, u32::from)
+}
+
+/// The tuples of an action by a call made for tuples of these bits, or its refusal.
+fn due_listing(known: &Known, bits: u32, action: u32) -> Result<&[Stored], Refusal> {
+    let policy = known.policy.as_ref().ok_or(11u32)?;
+    policy.form.check_tuples(bits)?;
+    match action < policy.actions() {
+        true => Ok(known.tuples(policy, action)),
+        false => Err(12),
+    }
+}
+
+/// Whether 16 bits are too few for a tuple.
+pub(super) fn is_wide(tuple: u32) -> bool {
+    tuple > u16::MAX.into()
 }
 
 impl Trial<'_> {
@@ -101,36 +119,64 @@ impl Trial<'_> {
     }
 
     pub(super) fn listing(&mut self, known: &Known) -> Outcome {
+        at_tuples!(self.some_tuple_bits(known), T => self.list_in::<T>(known))
+    }
+
+    fn list_in<T: Tuple>(&mut self, known: &Known) -> Outcome {
         let (action, ..) = self.decision_on(known);
-        let tuples: &[u16] = match &known.policy {
-            Some(policy) if action < policy.actions() => known.tuples(policy, action),
-            _ => &[],
+        self.list_action_in::<T>(known, action)
+    }
+
+    /// Lists an action in tuples of a width, into a buffer of any length.
+    pub(super) fn list_action_in<T: Tuple>(&mut self, known: &Known, action: u32) -> Outcome {
+        let needed = match &known.policy {
+            Some(policy) if action < policy.actions() => known.tuples(policy, action).len(),
+            _ => 0,
         };
-        let length = length_for(&mut self.rng, tuples.len());
+        let length = length_for(&mut self.rng, needed);
         let mut buffer = Lent::filled(&mut self.rng, length);
-        let found = self.engine.list(&known.value, action, buffer.part());
-        self.count("list", known, found.refusal);
-        let (refusal, stored) = match &known.policy {
-            None => (11, &[][..]),
-            Some(policy) if action >= policy.actions() => (12, &[][..]),
-            Some(_) if tuples.len() > length => (20, &[][..]),
-            Some(_) => (0, tuples),
+        let found = T::list(self.engine, &known.value, action, buffer.part());
+        self.count(T::LIST, known, found.refusal);
+        let (refusal, tuples): (_, Vec<T>) = match due_listing(known, T::BITS, action) {
+            Err(refusal) => (refusal, Vec::new()),
+            Ok(tuples) if tuples.len() > length => (20, Vec::new()),
+            Ok(tuples) => (0, stored(tuples)),
         };
+        self.count_other_tuples::<T>(T::LIST, known);
         if refusal == 0 {
-            self.count_result("list", known, |a| a == action);
-            if is_above_7(action) && !stored.is_empty() {
-                self.coverage.count_cause(Cause::Above7, "list");
-            }
+            self.count_listed(known, action, &tuples);
         }
-        let count = stored.len();
-        let what = || format!("list {action} into {length}: {}", known.shown());
+        let count = tuples.len();
+        let what = || format!("{} {action} into {length}: {}", T::LIST, known.shown());
         same(&what, &found, &Counted { refusal, count })?;
-        buffer.starts_with(&what, stored)
+        buffer.starts_with(&what, &tuples)
+    }
+
+    fn count_listed<T: Tuple>(&mut self, known: &Known, action: u32, tuples: &[T]) {
+        self.count_result(T::LIST, known, |a| a == action);
+        if is_above_7(action) && !tuples.is_empty() {
+            self.coverage.count_cause(Cause::Above7, T::LIST);
+        }
+        if tuples.last().is_some_and(|&last| is_wide(last.into())) {
+            self.coverage.count_cause(Cause::WideTuples, T::LIST);
+        }
+    }
+
+    /// Counts a call that is made for other tuples than those of a good policy's form.
+    fn count_other_tuples<T: Tuple>(&mut self, kind: &'static str, known: &Known) {
+        let policy = known.policy.as_ref();
+        if policy.is_some_and(|policy| policy.form.check_tuples(T::BITS).is_err()) {
+            self.coverage.count_cause(Cause::Widths, kind);
+        }
     }
 
     pub(super) fn deciding_by_tuples(&mut self, known: &Known) -> Outcome {
-        let (user, object) = self.sets(known);
-        let listing = self.some_listing(known);
+        at_tuples!(self.some_tuple_bits(known), T => self.decide_in::<T>(known))
+    }
+
+    fn decide_in<T: Tuple>(&mut self, known: &Known) -> Outcome {
+        let sets = self.sets(known);
+        let listing: Vec<T> = cut(&self.some_listing(known));
         let count = match self.rng.below(8) {
             0 => listing.len() + 1,
             1 => odd_count(&mut self.rng),
@@ -138,32 +184,52 @@ impl Trial<'_> {
             3 => 0,
             _ => listing.len(),
         };
-        let policy = &known.value;
-        let found = self
-            .engine
-            .decide_by_tuples(policy, user, object, &listing, count);
-        self.count("decide by tuples", known, found);
+        self.decide_on_in(known, sets, &listing, count)
+    }
+
+    /// Decides on two sets by so many of a listing in tuples of a width.
+    pub(super) fn decide_on_in<T: Tuple>(
+        &mut self,
+        known: &Known,
+        (user, object): (u32, u32),
+        listing: &[T],
+        count: usize,
+    ) -> Outcome {
+        let found = T::decide(self.engine, &known.value, user, object, listing, count);
+        self.count(T::DECIDE, known, found);
+        self.count_other_tuples::<T>(T::DECIDE, known);
         let due = match &known.policy {
             None => 11,
-            Some(policy) => decision(decide_by_tuples(policy, user, object, &listing, count)),
+            Some(policy) => {
+                let listing: Vec<Stored> = cut(listing);
+                let due = by_tuples(policy, T::BITS, user, object, &listing, count);
+                decision(due)
+            }
         };
+        if let (Some(policy), GRANTED) = (&known.policy, due) {
+            if is_wide(tuple(policy, user, object)) {
+                self.coverage.count_cause(Cause::WideTuples, T::DECIDE);
+            }
+        }
         let what = || {
-            let policy = known.shown();
-            format!("decide by tuples {user} {object}, {count} of {listing:?}: {policy}")
+            let (kind, policy) = (T::DECIDE, known.shown());
+            format!("{kind} {user} {object}, {count} of {listing:?}: {policy}")
         };
         same(&what, &found, &due)
     }
 
     /// The listing of an action, or any numbers.
-    fn some_listing(&mut self, known: &Known) -> Vec<u16> {
+    fn some_listing(&mut self, known: &Known) -> Vec<Stored> {
         match &known.policy {
             Some(policy) if self.rng.chance(3, 4) => {
                 let action = self.some_action(known) % policy.actions();
                 known.tuples(policy, action).to_vec()
             }
-            _ => (0..self.rng.below(20))
-                .map(|_| self.rng.below(1 << 16) as u16)
-                .collect(),
+            _ => {
+                let most = self.rng.pick(&[1 << 16, MOST_TUPLES as u32]);
+                let count = self.rng.below(20);
+                (0..count).map(|_| self.rng.below(most)).collect()
+            }
         }
     }
 

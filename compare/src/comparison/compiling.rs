@@ -1,11 +1,13 @@
 //! Compiling, by the calls for all widths.
 
+use super::buffers::stored;
 use super::coverage::Cause;
 use super::known::Known;
 use super::lent::{length_for, Lent};
 use super::{same, Outcome, Trial, What};
+use crate::at_widths;
 use crate::boundary::Counts;
-use crate::widths::{at_widths, Element, Widths};
+use crate::widths::Widths;
 use reference::labels::Labelling;
 
 impl Trial<'_> {
@@ -90,6 +92,9 @@ impl Trial<'_> {
         if labelling.table.iter().any(|&entry| entry >> 8 != 0) {
             self.coverage.count_cause(Cause::Above7, kind);
         }
+        if labelling.user_count.max(labelling.object_count) > 1 << 8 {
+            self.coverage.count_cause(Cause::WideLabels, kind);
+        }
     }
 }
 
@@ -121,15 +126,4 @@ impl<W: Widths> Compiled<W> {
         self.objects.unchanged(what)?;
         self.table.unchanged(what)
     }
-}
-
-/// Numbers as a buffer stores them that has bits enough.
-fn stored<T: Element>(numbers: &[impl Copy + Into<u32>]) -> Vec<T> {
-    let stored = |&number: &_| {
-        let number: u32 = Into::into(number);
-        let stored = T::cut(number);
-        assert_eq!(Into::<u32>::into(stored), number, "bits enough");
-        stored
-    };
-    numbers.iter().map(stored).collect()
 }

@@ -1,5 +1,7 @@
 //! What a comparison covered.
 
+use super::known::has_many_values;
+use reference::policy::Policy;
 use std::collections::BTreeMap;
 use std::fmt::{self, Display};
 
@@ -19,14 +21,20 @@ pub enum Cause {
     Above7,
     /// 11 for the widths that the call is made for.
     Widths,
+    /// A label that a byte is too narrow for.
+    WideLabels,
+    /// A tuple that 16 bits are too narrow for.
+    WideTuples,
 }
 
-const CAUSES: [(Cause, &str); 5] = [
+const CAUSES: [(Cause, &str); 7] = [
     (Cause::Pairs, "granted by pairs"),
     (Cause::Conflicts, "11 by conflicts"),
     (Cause::Seniority, "d by seniority"),
     (Cause::Above7, "action above 7"),
     (Cause::Widths, "11 by widths"),
+    (Cause::WideLabels, "label above 255"),
+    (Cause::WideTuples, "tuple above 65535"),
 ];
 
 /// With what two lists were made in which the calls naming one session are the same.
@@ -60,14 +68,16 @@ pub struct Isolation {
     pub calls: u64,
 }
 
-/// How often each answer was given, of reading and of each kind of call; how many of
-/// the calls had a good policy of each form, and how often one cause decided alone. What
-/// was compared of isolation of sessions is counted apart.
+/// How often each answer was given, of reading and of each kind of call; how many of the
+/// calls had a good policy of each form, and one with more values on a side than forms 1
+/// and 2 have; and how often one cause decided alone. What was compared of isolation of
+/// sessions is counted apart.
 #[derive(Debug, Default, Clone, PartialEq, Eq)]
 pub struct Coverage {
     texts: BTreeMap<u32, u64>,
     calls: BTreeMap<&'static str, BTreeMap<u32, u64>>,
     forms: BTreeMap<u32, Kinds>,
+    many_values: Kinds,
     causes: BTreeMap<Cause, Kinds>,
     isolation: BTreeMap<With, Isolation>,
     isolated: Kinds,
@@ -83,9 +93,13 @@ impl Coverage {
         *answers.entry(answer).or_default() += 1;
     }
 
-    /// Counts a call, or a text that was accepted, with a good policy of a form.
-    pub(super) fn count_form(&mut self, kind: &'static str, form: u32) {
-        *self.forms.entry(form).or_default().entry(kind).or_default() += 1;
+    /// Counts a call with a good policy, or a text that was accepted.
+    pub(super) fn count_policy(&mut self, kind: &'static str, policy: &Policy) {
+        let kinds = self.forms.entry(policy.form.number).or_default();
+        *kinds.entry(kind).or_default() += 1;
+        if has_many_values(policy) {
+            *self.many_values.entry(kind).or_default() += 1;
+        }
     }
 
     pub(super) fn count_cause(&mut self, cause: Cause, kind: &'static str) {
@@ -133,6 +147,16 @@ impl Coverage {
         kinds(self.forms.get(&form))
     }
 
+    /// The kinds of calls that had a good policy with 8 or 9 values on a side.
+    pub fn on_many_values(&self) -> Vec<&'static str> {
+        kinds(Some(&self.many_values))
+    }
+
+    /// How many texts were accepted that have 8 or 9 values on a side.
+    pub fn texts_of_many_values(&self) -> u64 {
+        texts_and_calls(&self.many_values).0
+    }
+
     /// The kinds of calls that a cause decided alone.
     pub fn by(&self, cause: Cause) -> Vec<&'static str> {
         kinds(self.causes.get(&cause))
@@ -164,6 +188,17 @@ impl Coverage {
     }
 }
 
+/// How many readings these are, and how many calls.
+fn texts_and_calls(kinds: &Kinds) -> (u64, u64) {
+    let texts = kinds.get("read").copied().unwrap_or_default();
+    (texts, kinds.values().sum::<u64>() - texts)
+}
+
+fn write_sums(f: &mut fmt::Formatter<'_>, of: &str, kinds: &Kinds) -> fmt::Result {
+    let (texts, calls) = texts_and_calls(kinds);
+    writeln!(f, "{of}: {texts} texts accepted, {calls} calls")
+}
+
 fn kinds(counts: Option<&Kinds>) -> Vec<&'static str> {
     counts.map_or(Vec::new(), |counts| counts.keys().copied().collect())
 }
@@ -184,6 +219,11 @@ impl Display for Coverage {
         for (form, kinds) in &self.forms {
             write_counts(f, &format!("of form {form}"), kinds)?;
         }
+        write_counts(f, "8 or 9 values", &self.many_values)?;
+        for (form, kinds) in &self.forms {
+            write_sums(f, &format!("of form {form}"), kinds)?;
+        }
+        write_sums(f, "with 8 or 9 values on a side", &self.many_values)?;
         writeln!(f, "by one thing alone")?;
         for (cause, name) in CAUSES {
             let none = Kinds::new();
@@ -198,7 +238,7 @@ fn write_counts<T: Display>(
     kind: &str,
     counts: &BTreeMap<T, u64>,
 ) -> fmt::Result {
-    write!(f, "  {kind:17}")?;
+    write!(f, "  {kind:19}")?;
     for (of, count) in counts {
         write!(f, "  {of}: {count}")?;
     }

@@ -51,6 +51,18 @@ impl Known {
         self.labelling.get_or_init(|| compile(policy))
     }
 
+    /// Whether an action is decided at two sets otherwise by labels cut to a byte.
+    pub fn by_wide_labels(&self, policy: &Policy, (action, user, object): (u32, u32, u32)) -> bool {
+        let labelling = self.labelling(policy);
+        let user = usize::from(labelling.user_labels[user as usize]);
+        let object = usize::from(labelling.object_labels[object as usize]);
+        let granted = |user: usize, object: usize| {
+            let entry = labelling.table[user * labelling.object_count + object];
+            entry >> action & 1 == 1
+        };
+        granted(user, object) != granted(user % 256, object % 256)
+    }
+
     /// The stored tuples of an action that there is, worked out once.
     pub fn tuples(&self, policy: &Policy, action: u32) -> &[Stored] {
         self.tuples[action as usize]
@@ -163,6 +175,11 @@ impl Known {
             alike(policy) != alike(by_places)
         })
     }
+}
+
+/// Whether some side has more values than forms 1 and 2 have.
+pub fn has_many_values(policy: &Policy) -> bool {
+    policy.user_values().max(policy.object_values()) > FORMS[0].values
 }
 
 /// Whether form 1 lacks an action.

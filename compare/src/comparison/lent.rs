@@ -18,9 +18,9 @@ impl<T: Element> Lent<T> {
         let first = rng.below(256);
         let step = 1 + 2 * rng.below(128);
         let byte = |place: usize| (first + step * place as u32 % 256) % 256;
-        // The byte in each half of a wider number.
+        // The byte in each byte of a wider number.
         let whole: Vec<T> = (0..length + 2 * MARGIN)
-            .map(|place| T::cut(byte(place) * 257))
+            .map(|place| T::cut(byte(place) * 0x0101_0101))
             .collect();
         let before = whole.clone();
         Lent { whole, before }

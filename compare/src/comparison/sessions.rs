@@ -4,11 +4,12 @@ use super::buffers::{some_buffers, Buffers};
 use super::coverage::Cause;
 use super::known::Known;
 use super::{same, Outcome, Trial};
+use crate::at_widths;
 use crate::boundary::{Board, Session, Step, DENIED, DONE, GRANTED, OBJECT_NUMBERS, SESSIONS};
 use crate::damage::{board, damaged_board, odd};
 use crate::engine::Engine;
 use crate::value::sessions;
-use crate::widths::{at_widths, Labels, Widths};
+use crate::widths::{Labels, Widths};
 use reference::cases::{calls, Rng};
 use reference::form::{self, WIDTHS};
 use reference::formula::reach;
@@ -122,6 +123,9 @@ impl Trial<'_> {
         same(&what, &found.answer, &number(answer))?;
         if let Some(decided) = decided_on(policy, map, &call, answer) {
             self.count_decision(W::REQUEST, known, decided);
+            if known.by_wide_labels(policy, decided) {
+                self.coverage.count_cause(Cause::WideLabels, W::REQUEST);
+            }
         }
         same(&what, &sessions(&found.board), &after)?;
         same(
@@ -230,28 +234,40 @@ impl Trial<'_> {
             board = damaged_board(&mut self.rng, policy, &board);
         }
         let buffers = some_buffers::<W>(&mut self.rng, known);
-        let before = buffers.clone();
         let call = call_on(&mut self.rng, known, policy, &board);
-        let found = by_engine(self.engine, &board, known, &buffers.labels(), &call);
+        self.call_with(known, policy, &board, &buffers, call)
+    }
+
+    /// One call on a board, with buffers that a request is lent.
+    pub(super) fn call_with<W: Widths>(
+        &mut self,
+        known: &Known,
+        policy: &Policy,
+        board: &Board,
+        buffers: &Buffers<W>,
+        call: Call,
+    ) -> Outcome {
+        let before = buffers.clone();
+        let found = by_engine(self.engine, board, known, &buffers.labels(), &call);
         self.count(kind::<W>(&call), known, found.answer);
-        let map = sessions(&board);
+        let map = sessions(board);
         let what = || {
             let (kind, policy) = (kind::<W>(&call), known.shown());
             format!("{kind}: {call:?} on {map:?}: {policy}")
         };
-        same(&what, &buffers, &before)?;
+        same(&what, buffers, &before)?;
         if !self.sound::<W>(known, &map, &call) {
-            let due = Step { answer: 11, board };
-            return same(&what, &found, &due);
+            let board = *board;
+            return same(&what, &found, &Step { answer: 11, board });
         }
         let (after, answer) = step(policy, &map, &call);
-        let due = by_buffers(policy, &map, &buffers, &call, answer);
+        let due = by_buffers(policy, &map, buffers, &call, answer);
         same(&what, &found.answer, &due)?;
         same(&what, &sessions(&found.board), &after)?;
         same(
             &what,
             &found.board,
-            &board_after(&board, &call, found.answer, &after),
+            &board_after(board, &call, found.answer, &after),
         )
     }
 

@@ -10,9 +10,10 @@ use reference::text::{read, write};
 impl Trial<'_> {
     /// The text's policy value, or the blank value that stands beside a refusal.
     pub(super) fn reading(&mut self, text: &[u8]) -> Result<Known, String> {
-        let due = match read(text) {
+        let read = read(text);
+        let due = match &read {
             Ok(policy) => Reading {
-                policy: value_of(&policy),
+                policy: value_of(policy),
                 ..Reading::default()
             },
             Err(refused) => Reading {
@@ -23,8 +24,8 @@ impl Trial<'_> {
         };
         let found = self.engine.read(text);
         self.coverage.count_text(found.refusal);
-        if due.refusal == 0 {
-            self.coverage.count_form("read", due.policy.form);
+        if let Ok(policy) = &read {
+            self.coverage.count_policy("read", policy);
         }
         let what = || format!("read {:?}", String::from_utf8_lossy(text));
         same(&what, &found, &due)?;

@@ -1,13 +1,17 @@
 //! The plain calls with the header's types, so that they too can be compared.
 
 use super::policy::{Policy, Refusal, Word};
-use super::{board, checks, formula, labels, reader, tuples, writer};
+use super::{board, by_64, checks, formula, labels, reader, tuples, writer};
 use crate::boundary::*;
+use crate::calls_over_widths;
 use crate::engine::Engine;
-use crate::widths::{Labels, Widths, Widths8x16, Widths8x8};
+use crate::widths::{Labels, Tuple, Widths};
 
 /// Plain Rust behind the engine's calls.
 pub struct Plain;
+
+/// The same, but that it compiles and lists by 64 pairs of sets at once.
+pub struct PlainBy64;
 
 /// The word of each number; where it is no word's, one that no policy has.
 const WORDS: [Word; 256] = {
@@ -118,42 +122,117 @@ fn step(board: &Board, call: impl FnOnce(&mut Board) -> Result<(), Refusal>) -> 
     Step { answer, board }
 }
 
-/// Compiles for any widths.
-fn compile<W: Widths>(
-    policy: &PolicyValue,
-    users: &mut [W::Label],
-    objects: &mut [W::Label],
-    table: &mut [W::Entry],
-) -> Counts {
-    match labels::compile::<W>(&policy_of(policy), users, objects, table) {
-        Ok(counts) => Counts {
-            refusal: 0,
-            users: counts.users as u32,
-            objects: counts.objects as u32,
-        },
-        Err(refusal) => Counts {
-            refusal: refusal as u32,
-            ..Counts::default()
-        },
+/// How plain Rust compiles and lists, with its own policy value by reference, and each of
+/// its calls over widths behind the engine's boundary.
+pub trait Peer {
+    fn compile_by_reference<W: Widths>(
+        policy: &Policy,
+        users: &mut [W::Label],
+        objects: &mut [W::Label],
+        table: &mut [W::Entry],
+    ) -> Result<labels::Counts, Refusal>;
+
+    fn list_by_reference<T: Tuple>(
+        policy: &Policy,
+        action: u32,
+        buffer: &mut [T],
+    ) -> Result<usize, Refusal>;
+
+    fn compile<W: Widths>(
+        &self,
+        policy: &PolicyValue,
+        users: &mut [W::Label],
+        objects: &mut [W::Label],
+        table: &mut [W::Entry],
+    ) -> Counts {
+        match Self::compile_by_reference::<W>(&policy_of(policy), users, objects, table) {
+            Ok(counts) => Counts {
+                refusal: 0,
+                users: counts.users as u32,
+                objects: counts.objects as u32,
+            },
+            Err(refusal) => Counts {
+                refusal: refusal as u32,
+                ..Counts::default()
+            },
+        }
+    }
+
+    fn request<W: Widths>(
+        &self,
+        board: &Board,
+        policy: &PolicyValue,
+        labels: &Labels<W>,
+        [session, action, object]: [u32; 3],
+    ) -> Step {
+        let policy = policy_of(policy);
+        let answer = board::request(board, &policy, labels, session, action, object);
+        Step {
+            answer: decision(answer),
+            board: *board,
+        }
+    }
+
+    fn list<T: Tuple>(&self, policy: &PolicyValue, action: u32, buffer: &mut [T]) -> Counted {
+        counted(Self::list_by_reference(&policy_of(policy), action, buffer))
+    }
+
+    fn decide_by_tuples<T: Tuple>(
+        &self,
+        policy: &PolicyValue,
+        user: u32,
+        object: u32,
+        listing: &[T],
+        count: usize,
+    ) -> u32 {
+        let policy = policy_of(policy);
+        decision(tuples::decide_by_tuples(
+            &policy, user, object, listing, count,
+        ))
     }
 }
 
-/// A request of any widths, for a session, an action and an object.
-fn request<W: Widths>(
-    board: &Board,
-    policy: &PolicyValue,
-    labels: &Labels<W>,
-    [session, action, object]: [u32; 3],
-) -> Step {
-    let policy = policy_of(policy);
-    let answer = board::request(board, &policy, labels, session, action, object);
-    Step {
-        answer: decision(answer),
-        board: *board,
+impl Peer for Plain {
+    fn compile_by_reference<W: Widths>(
+        policy: &Policy,
+        users: &mut [W::Label],
+        objects: &mut [W::Label],
+        table: &mut [W::Entry],
+    ) -> Result<labels::Counts, Refusal> {
+        labels::compile::<W>(policy, users, objects, table)
+    }
+
+    fn list_by_reference<T: Tuple>(
+        policy: &Policy,
+        action: u32,
+        buffer: &mut [T],
+    ) -> Result<usize, Refusal> {
+        tuples::list(policy, action, buffer)
     }
 }
 
-impl Engine for Plain {
+impl Peer for PlainBy64 {
+    fn compile_by_reference<W: Widths>(
+        policy: &Policy,
+        users: &mut [W::Label],
+        objects: &mut [W::Label],
+        table: &mut [W::Entry],
+    ) -> Result<labels::Counts, Refusal> {
+        by_64::compile::<W>(policy, users, objects, table)
+    }
+
+    fn list_by_reference<T: Tuple>(
+        policy: &Policy,
+        action: u32,
+        buffer: &mut [T],
+    ) -> Result<usize, Refusal> {
+        by_64::list(policy, action, buffer)
+    }
+}
+
+impl<P: Peer> Engine for P {
+    calls_over_widths!();
+
     fn read(&self, text: &[u8]) -> Reading {
         match reader::read(text) {
             Ok(policy) => Reading {
@@ -178,44 +257,6 @@ impl Engine for Plain {
 
     fn decide(&self, policy: &PolicyValue, action: u32, user: u32, object: u32) -> u32 {
         decision(formula::decide(&policy_of(policy), action, user, object))
-    }
-
-    fn list(&self, policy: &PolicyValue, action: u32, buffer: &mut [u16]) -> Counted {
-        counted(tuples::list(&policy_of(policy), action, buffer))
-    }
-
-    fn decide_by_tuples(
-        &self,
-        policy: &PolicyValue,
-        user: u32,
-        object: u32,
-        listing: &[u16],
-        count: usize,
-    ) -> u32 {
-        let policy = policy_of(policy);
-        decision(tuples::decide_by_tuples(
-            &policy, user, object, listing, count,
-        ))
-    }
-
-    fn compile_8_8(
-        &self,
-        policy: &PolicyValue,
-        users: &mut [u8],
-        objects: &mut [u8],
-        table: &mut [u8],
-    ) -> Counts {
-        compile::<Widths8x8>(policy, users, objects, table)
-    }
-
-    fn compile_8_16(
-        &self,
-        policy: &PolicyValue,
-        users: &mut [u8],
-        objects: &mut [u8],
-        table: &mut [u16],
-    ) -> Counts {
-        compile::<Widths8x16>(policy, users, objects, table)
     }
 
     fn apart(&self, policy: &PolicyValue, one: u32, other: u32) -> Separation {
@@ -261,29 +302,5 @@ impl Engine for Plain {
     fn close(&self, board: &Board, policy: &PolicyValue, user: u32, session: u32) -> Step {
         let policy = policy_of(policy);
         step(board, |board| board::close(board, &policy, user, session))
-    }
-
-    fn request_8_8(
-        &self,
-        board: &Board,
-        policy: &PolicyValue,
-        labels: &Labels<Widths8x8>,
-        session: u32,
-        action: u32,
-        object: u32,
-    ) -> Step {
-        request(board, policy, labels, [session, action, object])
-    }
-
-    fn request_8_16(
-        &self,
-        board: &Board,
-        policy: &PolicyValue,
-        labels: &Labels<Widths8x16>,
-        session: u32,
-        action: u32,
-        object: u32,
-    ) -> Step {
-        request(board, policy, labels, [session, action, object])
     }
 }

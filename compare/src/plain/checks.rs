@@ -1,6 +1,6 @@
 //! Checks 6 to 9 on what a line says, and check 11 on a policy value.
 
-use super::policy::{Form, Policy, Refusal, Rule, Rules, Word, OBJECTS, TOGETHER, USERS, VALUES};
+use super::policy::{Form, Policy, Refusal, Rule, Rules, Word, OBJECTS, TOGETHER, USERS};
 use crate::boundary::{Conflict, Conflicts, Direct, Entry, Pair, Pairs, Register, SideValue};
 
 /// The sums and counts of one side that checks look at.
@@ -45,9 +45,8 @@ impl<'a> Shapes<'a> {
     }
 }
 
-/// A width is 1 to 7, and with it the sum is at most 7.
-pub fn width_fits(sum: u32, width: u32) -> bool {
-    let most = VALUES as u32;
+/// A width is 1 to the most values of the form, and with it the sum is at most that.
+pub fn width_fits(most: u32, sum: u32, width: u32) -> bool {
     (1..=most).contains(&width) && sum + width <= most
 }
 
@@ -130,8 +129,10 @@ pub fn pair_fits(shapes: Shapes, pair: Pair) -> bool {
 
 /// Check 11: whether reading some accepted text yields this value.
 pub fn valid(policy: &Policy) -> bool {
-    let form = Form::numbered(policy.form);
-    if form.is_none() || !side_valid(&policy.user) || !side_valid(&policy.object) {
+    let Some(Form { values, .. }) = Form::numbered(policy.form) else {
+        return false;
+    };
+    if !side_valid(values, &policy.user) || !side_valid(values, &policy.object) {
         return false;
     }
     let shapes = Shapes::of(policy);
@@ -142,13 +143,14 @@ pub fn valid(policy: &Policy) -> bool {
         && pairs_valid(&policy.pairs, shapes)
 }
 
-fn side_valid(side: &SideValue) -> bool {
+/// Of a form with so many values at most.
+fn side_valid(most: u32, side: &SideValue) -> bool {
     let Some((widths, rest)) = side.widths.split_at_checked(side.attributes) else {
         return false;
     };
     let mut sum = 0;
     for &width in widths {
-        if !width_fits(sum, width) {
+        if !width_fits(most, sum, width) {
             return false;
         }
         sum += width;

@@ -3,12 +3,15 @@
 use super::checks::{valid, Shape};
 use super::formula::{Evaluator, Held};
 use super::pairs::Rows;
-use super::policy::{Policy, Refusal, WideEntry, SETS};
+use super::policy::{Policy, Refusal, WideEntry};
 use super::tuples::object_sets;
 use crate::widths::{Element, Widths};
 
 /// An entry for each user set and object set, bit a for action a.
-type Grid<E> = [[E; SETS]; SETS];
+struct Grid<E> {
+    entries: Vec<E>,
+    columns: usize,
+}
 
 /// NU and NO.
 #[derive(Debug, Clone, Copy, PartialEq, Eq)]
@@ -19,9 +22,8 @@ pub struct Counts {
 
 /// The label of each row, and each label's lowest row.
 struct Classes<L> {
-    labels: [L; SETS],
-    leaders: [usize; SETS],
-    count: usize,
+    labels: Vec<L>,
+    leaders: Vec<usize>,
 }
 
 /// Fills the three buffers.
@@ -34,39 +36,84 @@ pub fn compile<W: Widths>(
     if !valid(policy) || !policy.is_stored_in::<W>() {
         return Err(Refusal::InvalidState);
     }
-    let rows = Shape::of(&policy.user).sets() as usize;
-    let columns = Shape::of(&policy.object).sets() as usize;
-    let mut grid = [[W::Entry::default(); SETS]; SETS];
-    fill(&mut grid, policy);
-    let user = classify(&grid, rows, columns);
-    let object = classify(&turned(&grid, rows, columns), columns, rows);
-    if users.len() < rows || objects.len() < columns || table.len() < user.count * object.count {
+    let grid = Grid::<W::Entry>::of(policy);
+    let user = grid.classes();
+    let object = grid.turned().classes();
+    let counts = Counts {
+        users: user.leaders.len(),
+        objects: object.leaders.len(),
+    };
+    let (users, objects, table) = (
+        users.get_mut(..user.labels.len()),
+        objects.get_mut(..object.labels.len()),
+        table.get_mut(..counts.users * counts.objects),
+    );
+    let (Some(users), Some(objects), Some(table)) = (users, objects, table) else {
         return Err(Refusal::BufferTooShort);
-    }
-    users[..rows].copy_from_slice(&user.labels[..rows]);
-    objects[..columns].copy_from_slice(&object.labels[..columns]);
-    let mut entries = table.iter_mut();
-    for &row in &user.leaders[..user.count] {
-        for (&column, entry) in object.leaders[..object.count].iter().zip(&mut entries) {
-            *entry = grid[row][column];
+    };
+    users.copy_from_slice(&user.labels);
+    objects.copy_from_slice(&object.labels);
+    for (entries, &leader) in table.chunks_exact_mut(counts.objects).zip(&user.leaders) {
+        let row = grid.row(leader);
+        for (entry, &leader) in entries.iter_mut().zip(&object.leaders) {
+            *entry = row[leader];
         }
     }
-    Ok(Counts {
-        users: user.count,
-        objects: object.count,
-    })
+    Ok(counts)
 }
 
-fn fill<E: Element>(grid: &mut Grid<E>, policy: &Policy) {
-    let evaluator = Evaluator::of(policy);
-    let objects = object_sets(policy);
-    let rows = Rows::<E>::of(policy, policy.pairs(), &objects);
-    for (set, row) in (0..Shape::of(&policy.user).sets()).zip(grid) {
-        let user = Held::by_user(policy, set);
-        let paired = rows.granted(user);
-        for ((&object, entry), pairs) in objects.iter().zip(row).zip(paired) {
-            *entry = pairs | E::cut(entry_of(policy, &evaluator, user, object));
+impl<E: Element> Grid<E> {
+    fn of(policy: &Policy) -> Self {
+        let evaluator = Evaluator::of(policy);
+        let objects = object_sets(policy);
+        let rows = Rows::<E>::of(policy, policy.pairs(), &objects);
+        let users = Shape::of(&policy.user).sets();
+        let mut entries = vec![E::default(); users as usize * objects.len()];
+        for (set, row) in (0..users).zip(entries.chunks_exact_mut(objects.len())) {
+            let user = Held::by_user(policy, set);
+            rows.grant(user, row);
+            for (entry, &object) in row.iter_mut().zip(&objects) {
+                *entry |= E::cut(entry_of(policy, &evaluator, user, object));
+            }
         }
+        Grid {
+            entries,
+            columns: objects.len(),
+        }
+    }
+
+    fn row(&self, row: usize) -> &[E] {
+        &self.entries[row * self.columns..][..self.columns]
+    }
+
+    fn turned(&self) -> Self {
+        let rows = self.entries.len() / self.columns;
+        let mut entries = Vec::with_capacity(self.entries.len());
+        for column in 0..self.columns {
+            entries.extend((0..rows).map(|row| self.entries[row * self.columns + column]));
+        }
+        Grid {
+            entries,
+            columns: rows,
+        }
+    }
+
+    /// Equal rows share a label; labels count in order of their lowest row.
+    fn classes<L: Element>(&self) -> Classes<L> {
+        let mut classes = Classes {
+            labels: Vec::new(),
+            leaders: Vec::new(),
+        };
+        for (i, row) in self.entries.chunks_exact(self.columns).enumerate() {
+            let mut leaders = classes.leaders.iter();
+            let earlier = leaders.position(|&leader| self.row(leader) == row);
+            let label = earlier.unwrap_or_else(|| {
+                classes.leaders.push(i);
+                classes.leaders.len() - 1
+            });
+            classes.labels.push(L::cut(label as u32));
+        }
+        classes
     }
 }
 
@@ -79,38 +126,6 @@ fn entry_of(policy: &Policy, evaluator: &Evaluator, user: Held, object: Held) ->
         }
     }
     entry
-}
-
-fn turned<E: Element>(grid: &Grid<E>, rows: usize, columns: usize) -> Grid<E> {
-    let mut turned = [[E::default(); SETS]; SETS];
-    for (i, row) in grid[..rows].iter().enumerate() {
-        for (j, &entry) in row[..columns].iter().enumerate() {
-            turned[j][i] = entry;
-        }
-    }
-    turned
-}
-
-/// Equal rows share a label; labels count in order of their lowest row.
-fn classify<L: Element, E: Element>(grid: &Grid<E>, rows: usize, columns: usize) -> Classes<L> {
-    let mut classes = Classes {
-        labels: [L::default(); SETS],
-        leaders: [0; SETS],
-        count: 0,
-    };
-    for (i, row) in grid[..rows].iter().enumerate() {
-        let leaders = &classes.leaders[..classes.count];
-        let earlier = leaders
-            .iter()
-            .position(|&leader| grid[leader][..columns] == row[..columns]);
-        let label = earlier.unwrap_or(classes.count);
-        if label == classes.count {
-            classes.leaders[label] = i;
-            classes.count += 1;
-        }
-        classes.labels[i] = L::cut(label as u32);
-    }
-    classes
 }
 
 /// An action and an object set that tell two user sets apart, if there are any.
@@ -126,7 +141,11 @@ pub fn apart(policy: &Policy, one: u32, other: u32) -> Result<Option<(u32, u32)>
     let objects = object_sets(policy);
     let rows = Rows::<WideEntry>::of(policy, policy.pairs(), &objects);
     let users = [one, other].map(|set| Held::by_user(policy, set));
-    let granted = users.map(|user| rows.granted(user));
+    let granted = users.map(|user| {
+        let mut row = vec![WideEntry::default(); objects.len()];
+        rows.grant(user, &mut row);
+        row
+    });
     for (k, &object) in objects.iter().enumerate() {
         let [one, other] = [0, 1].map(|i| {
             granted[i][k] | WideEntry::cut(entry_of(policy, &evaluator, users[i], object))

@@ -2,7 +2,7 @@
 
 use super::checks::Shape;
 use super::formula::Held;
-use super::policy::{Policy, SETS, VALUES};
+use super::policy::{Policy, VALUES};
 use crate::boundary::Pair;
 use crate::widths::Element;
 
@@ -19,14 +19,11 @@ pub fn meets(pair: &Pair, user: Held, object: Held) -> bool {
     user.closed >> pair.user & object.closed >> pair.object & 1 == 1
 }
 
-/// An entry for each object set, bit a for action a.
-pub type Row<E> = [E; SETS];
-
 /// Pairs, and for each object value the object sets that hold it or a junior of it.
 pub struct Rows<'a, E> {
     pairs: &'a [Pair],
     /// All bits of an entry are set where the object set does. None where there is no pair.
-    holders: Vec<Row<E>>,
+    holders: Vec<Vec<E>>,
 }
 
 impl<'a, E: Element> Rows<'a, E> {
@@ -40,29 +37,27 @@ impl<'a, E: Element> Rows<'a, E> {
         Rows { pairs, holders }
     }
 
-    /// The actions that pairs grant to a user set, at each object set.
-    pub fn granted(&self, user: Held) -> Row<E> {
+    /// The actions that pairs grant to a user set, into a row with an entry for each object
+    /// set, bit a for action a.
+    pub fn grant(&self, user: Held, row: &mut [E]) {
         let mut actions = [E::default(); VALUES];
         for pair in self.pairs {
             let held = user.closed >> pair.user & 1;
             actions[pair.object as usize] |= E::cut(held << pair.action);
         }
-        let mut row = [E::default(); SETS];
+        row.fill(E::default());
         for (holder, actions) in self.holders.iter().zip(actions) {
             for (entry, &holds) in row.iter_mut().zip(holder) {
                 *entry |= holds & actions;
             }
         }
-        row
     }
 }
 
-fn holding<E: Element>(value: u32, objects: &[Held]) -> Row<E> {
-    let mut row = [E::default(); SETS];
-    for (holds, object) in row.iter_mut().zip(objects) {
-        if object.closed >> value & 1 == 1 {
-            *holds = E::FULL;
-        }
-    }
-    row
+fn holding<E: Element>(value: u32, objects: &[Held]) -> Vec<E> {
+    let holds = |object: &Held| match object.closed >> value & 1 {
+        0 => E::default(),
+        _ => E::FULL,
+    };
+    objects.iter().map(holds).collect()
 }

@@ -3,37 +3,52 @@
 use crate::boundary::{
     self, Conflict, Conflicts, Pair, Pairs, Register, SideValue, RULE_PLACES, WORD_PLACES,
 };
-use crate::widths::{Element, Widths};
+use crate::widths::{Element, Tuple, Widths};
 
 /// The most bytes of a text.
 pub const TEXT_BYTES: usize = boundary::TEXT_BYTES;
-/// The most values of a side.
+/// The most values of a side in any form.
 pub const VALUES: usize = boundary::MOST_VALUES;
-/// The most sets of a side.
-pub const SETS: usize = 1 << VALUES;
 pub const USERS: u32 = 32;
 pub const OBJECTS: u32 = boundary::OBJECT_NUMBERS as u32;
 /// The most values that a conflict lets a session hold.
 pub const TOGETHER: u32 = boundary::MOST_TOGETHER as u32;
 
-/// What goes by a form: its actions, and the bits of a label and of a table's entry.
+/// What goes by a form: the most values of a side, its actions, the bits of a label and of
+/// a table's entry, and those of a tuple.
 #[derive(Clone, Copy)]
 pub struct Form {
+    pub values: u32,
     pub actions: u32,
     pub bits: (u32, u32),
+    pub tuple_bits: u32,
 }
 
 impl Form {
     pub fn numbered(number: u32) -> Option<Self> {
-        let (actions, bits) = match number {
-            1 => (boundary::FORM_1_ACTIONS, (8, 8)),
-            2 => (boundary::FORM_2_ACTIONS, (8, 16)),
-            _ => return None,
+        let form_1 = Form {
+            values: boundary::FORM_1_VALUES as u32,
+            actions: boundary::FORM_1_ACTIONS as u32,
+            bits: (8, 8),
+            tuple_bits: 16,
         };
-        Some(Form {
-            actions: actions as u32,
-            bits,
-        })
+        let form_2 = Form {
+            actions: boundary::FORM_2_ACTIONS as u32,
+            bits: (8, 16),
+            ..form_1
+        };
+        let form_3 = Form {
+            values: boundary::FORM_3_VALUES as u32,
+            bits: (16, 16),
+            tuple_bits: 32,
+            ..form_2
+        };
+        match number {
+            1 => Some(form_1),
+            2 => Some(form_2),
+            3 => Some(form_3),
+            _ => None,
+        }
     }
 }
 
@@ -85,10 +100,20 @@ impl Policy {
         Form::numbered(self.form).map_or(0, |form| form.actions)
     }
 
+    /// How many values a side may have.
+    pub fn most_values(&self) -> u32 {
+        Form::numbered(self.form).map_or(0, |form| form.values)
+    }
+
     /// Whether the policy's form stores labels and entries in these widths.
     pub fn is_stored_in<W: Widths>(&self) -> bool {
         let bits = (W::Label::BITS, W::Entry::BITS);
         Form::numbered(self.form).is_some_and(|form| form.bits == bits)
+    }
+
+    /// Whether the policy's form stores tuples in this width.
+    pub fn lists_in<T: Tuple>(&self) -> bool {
+        Form::numbered(self.form).is_some_and(|form| form.tuple_bits == T::BITS)
     }
 
     /// The conflicts in use; only of a policy that check 11 accepts.

@@ -76,8 +76,8 @@ fn read_line(policy: &mut Policy, before: Option<Kind>, rest: &mut &[u8]) -> Res
             Form::numbered(form).ok_or(Refusal::OutOfRange)?;
             policy.form = form;
         }
-        Kind::Uattr => add_width(&mut policy.user, numbers(fields)?)?,
-        Kind::Oattr => add_width(&mut policy.object, numbers(fields)?)?,
+        Kind::Uattr => add_width(policy.most_values(), &mut policy.user, numbers(fields)?)?,
+        Kind::Oattr => add_width(policy.most_values(), &mut policy.object, numbers(fields)?)?,
         Kind::Usen => add_line(&mut policy.user, numbers(fields)?)?,
         Kind::Osen => add_line(&mut policy.object, numbers(fields)?)?,
         Kind::User => {
@@ -173,8 +173,8 @@ fn word_of(field: &[u8]) -> Option<Word> {
     }
 }
 
-fn add_width(side: &mut SideValue, [width]: [u32; 1]) -> Result<(), Refusal> {
-    if !width_fits(Shape::of(side).values, width) {
+fn add_width(most: u32, side: &mut SideValue, [width]: [u32; 1]) -> Result<(), Refusal> {
+    if !width_fits(most, Shape::of(side).values, width) {
         return Err(Refusal::OutOfRange);
     }
     side.widths[side.attributes] = width;

@@ -4,15 +4,16 @@ mod compared;
 mod held;
 mod read;
 mod seen;
+mod tuples;
 mod widths;
 
 use held::Move;
 use helvemoik_compare::boundary::*;
+use helvemoik_compare::calls_over_widths;
 use helvemoik_compare::comparison::{compare, compare_isolation, Plan};
 use helvemoik_compare::engine::Engine;
 use helvemoik_compare::plain::Plain;
-use helvemoik_compare::widths::{Labels, Widths8x16, Widths8x8};
-use seen::{all_of, by_places, of_form_1, without_above_7, without_conflicts, without_pairs};
+use seen::{by_places, of_form_1, without_above_7, without_conflicts, without_pairs};
 
 /// The faults, and a list of them all.
 macro_rules! faults {
@@ -136,6 +137,33 @@ faults! {
     AddReachesTheNext,
     CloseClearsTwo,
     RequestsBySession0,
+    ReadsEightValuesInForm2,
+    ReadsTenValuesInForm3,
+    ReadsForm3AsForm2,
+    TakesEightValuesInForm2,
+    TakesTenValuesInForm3,
+    MissesALateWidth,
+    MissesALateLine,
+    CutsLabels,
+    TakesLabel256For0,
+    LooksUpCutLabels,
+    LooksUpCutSets,
+    CompilesForm3InBytes,
+    CompilesForm3InByteLabels,
+    CompilesForm1InWideLabels,
+    CompilesForm2InWideLabels,
+    AnswersForm3ByBytes,
+    AnswersForm3ByByteLabels,
+    AnswersForm1ByWideLabels,
+    AnswersForm2ByWideLabels,
+    CutsTuples,
+    DecidesByCutTuples,
+    ListsForm3In16Bits,
+    ListsEarlierFormsIn32Bits,
+    DecidesForm3By16Bits,
+    DecidesEarlierFormsBy32Bits,
+    Tests12BeforeTupleBits,
+    WrongTupleBitsTouchTheBuffer,
 }
 
 use Fault::*;
@@ -144,6 +172,8 @@ use Fault::*;
 struct Faulty(Fault);
 
 impl Engine for Faulty {
+    calls_over_widths!();
+
     fn read(&self, text: &[u8]) -> Reading {
         self.reading(text)
     }
@@ -188,59 +218,6 @@ impl Engine for Faulty {
             (DecidesAction16InForm2, 12) if (policy.form, action) == (2, 16) => DENIED,
             (_, answer) => answer,
         }
-    }
-
-    fn list(&self, policy: &PolicyValue, action: u32, buffer: &mut [u16]) -> Counted {
-        let seen = match self.0 {
-            ListsWithoutPairs => without_pairs(policy),
-            ListsThePairsOfAll => all_of(policy, action),
-            ListsByPlaces => by_places(policy),
-            _ => *policy,
-        };
-        let listed = Plain.list(&seen, action, buffer);
-        match (self.0, listed.refusal) {
-            (ListsThoughTooShort, 20) => buffer.fill(0),
-            (ListsAction8InForm1, 12) if (policy.form, action) == (1, 8) => {
-                return Counted::default()
-            }
-            _ => {}
-        }
-        listed
-    }
-
-    fn decide_by_tuples(
-        &self,
-        policy: &PolicyValue,
-        user: u32,
-        object: u32,
-        listing: &[u16],
-        count: usize,
-    ) -> u32 {
-        let count = match self.0 {
-            TakesAnyCount => count.min(listing.len()),
-            _ => count,
-        };
-        Plain.decide_by_tuples(policy, user, object, listing, count)
-    }
-
-    fn compile_8_8(
-        &self,
-        policy: &PolicyValue,
-        users: &mut [u8],
-        objects: &mut [u8],
-        table: &mut [u8],
-    ) -> Counts {
-        self.compile::<Widths8x8>(policy, users, objects, table)
-    }
-
-    fn compile_8_16(
-        &self,
-        policy: &PolicyValue,
-        users: &mut [u8],
-        objects: &mut [u8],
-        table: &mut [u16],
-    ) -> Counts {
-        self.compile::<Widths8x16>(policy, users, objects, table)
     }
 
     fn apart(&self, policy: &PolicyValue, one: u32, other: u32) -> Separation {
@@ -325,30 +302,6 @@ impl Engine for Faulty {
             _ => {}
         }
         step
-    }
-
-    fn request_8_8(
-        &self,
-        board: &Board,
-        policy: &PolicyValue,
-        labels: &Labels<Widths8x8>,
-        session: u32,
-        action: u32,
-        object: u32,
-    ) -> Step {
-        self.request(board, policy, labels, [session, action, object])
-    }
-
-    fn request_8_16(
-        &self,
-        board: &Board,
-        policy: &PolicyValue,
-        labels: &Labels<Widths8x16>,
-        session: u32,
-        action: u32,
-        object: u32,
-    ) -> Step {
-        self.request(board, policy, labels, [session, action, object])
     }
 }
 

@@ -19,10 +19,55 @@ impl Faulty {
             ReadsAction8InForm1 if reading.refusal == 6 => return with_action(text, 1, 8),
             ReadsAction16InForm2 if reading.refusal == 6 => return with_action(text, 2, 16),
             ReadsForm2AsForm1 if reading.refusal == 0 => reading.policy.form = 1,
+            ReadsForm3AsForm2 if reading.policy.form == 3 => reading.policy.form = 2,
+            ReadsEightValuesInForm2 if reading.refusal == 6 => return in_form_2(text),
+            ReadsTenValuesInForm3 if reading.refusal == 6 => return with_ten_values(text, reading),
             _ => {}
         }
         reading
     }
+}
+
+/// The reading of a text of form 2 as one of form 3; where that is refused too, as it is.
+fn in_form_2(text: &[u8]) -> Reading {
+    let form_3 = text.strip_prefix(b"policy,2\n");
+    let reading = form_3.map(|rest| Plain.read(&[b"policy,3\n", rest].concat()));
+    match reading {
+        Some(mut reading) if reading.refusal == 0 => {
+            reading.policy.form = 2;
+            reading
+        }
+        _ => Plain.read(text),
+    }
+}
+
+/// The reading of a text of form 3 that is refused for an attribute with one value too
+/// many: it is read with one value less, and the value put back. The text stays refused
+/// where that is not enough.
+fn with_ten_values(text: &[u8], refused: Reading) -> Reading {
+    let lines = String::from_utf8_lossy(text);
+    let at_fault = lines.lines().nth(refused.line).unwrap_or_default();
+    let width = at_fault
+        .split_once("attr,")
+        .map(|(side, width)| (side, width.parse()));
+    let Some((side, Ok(width @ 2..=10u32))) = width.filter(|_| lines.starts_with("policy,3\n"))
+    else {
+        return refused;
+    };
+    let lowered = format!("{side}attr,{}", width - 1);
+    let mut lines: Vec<&str> = lines.lines().collect();
+    lines[refused.line] = &lowered;
+    let mut reading = Plain.read((lines.join("\n") + "\n").as_bytes());
+    if reading.refusal != 0 {
+        return refused;
+    }
+    let (first, policy) = (format!("{side}attr,"), &mut reading.policy);
+    let attribute = lines_before(text, first.as_bytes(), refused.line);
+    match side {
+        "u" => policy.user.widths[attribute] = width,
+        _ => policy.object.widths[attribute] = width,
+    }
+    reading
 }
 
 /// How many lines of a kind stand before a line.

@@ -36,11 +36,37 @@ impl Faulty {
                 }
             }
             _ => {
+                self.see_sides(&mut seen);
                 self.see_conflicts(&mut seen);
                 self.see_pairs(&mut seen);
             }
         }
         seen
+    }
+
+    /// The same for faults in what values and lines of seniority the sides have.
+    fn see_sides(&self, seen: &mut PolicyValue) {
+        match self.0 {
+            TakesEightValuesInForm2 if seen.form == 2 => seen.form = 3,
+            TakesTenValuesInForm3 if seen.form == 3 => {
+                for side in [&mut seen.user, &mut seen.object] {
+                    if let (10, Some(width)) = (side.values(), side.widths.iter_mut().max()) {
+                        *width -= 1;
+                    }
+                }
+            }
+            MissesALateWidth => {
+                let late = seen.user.attributes.clamp(FORM_1_VALUES, WIDTH_PLACES);
+                seen.user.widths[late..].fill(0);
+            }
+            MissesALateLine => {
+                let last = LINE_PLACES - 1;
+                if seen.user.lines <= last {
+                    seen.user.seniority[last] = Direct::default();
+                }
+            }
+            _ => {}
+        }
     }
 
     /// The same for faults in what conflicts there are.

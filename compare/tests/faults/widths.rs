@@ -17,14 +17,14 @@ fn is_wrong<W: Widths>(policy: &PolicyValue) -> bool {
 
 /// The form that is stored in these widths.
 fn form_of<W: Widths>() -> u32 {
-    if W::Entry::BITS == 8 {
-        1
-    } else {
-        2
+    match (W::Label::BITS, W::Entry::BITS) {
+        (8, 8) => 1,
+        (8, _) => 2,
+        _ => 3,
     }
 }
 
-/// A valid policy in the form of these widths, with the actions that both forms have.
+/// A valid policy in the form of these widths, with the actions that all forms have.
 fn in_form_of<W: Widths>(policy: &PolicyValue) -> PolicyValue {
     PolicyValue {
         form: form_of::<W>(),
@@ -33,22 +33,33 @@ fn in_form_of<W: Widths>(policy: &PolicyValue) -> PolicyValue {
 }
 
 impl Faulty {
-    /// Whether an engine with this fault answers calls made for these widths though they are
-    /// those of another form.
-    fn compiles_other_forms<W: Widths>(&self) -> bool {
-        match self.0 {
-            CompilesForm2InBytes => form_of::<W>() == 1,
-            CompilesForm1InWideEntries => form_of::<W>() == 2,
-            _ => false,
-        }
+    /// Whether an engine with this fault compiles a policy of this form for these widths,
+    /// though they are those of another.
+    fn compiles_other<W: Widths>(&self, form: u32) -> bool {
+        let answered = match self.0 {
+            CompilesForm2InBytes => (2, 1),
+            CompilesForm3InBytes => (3, 1),
+            CompilesForm1InWideEntries => (1, 2),
+            CompilesForm3InByteLabels => (3, 2),
+            CompilesForm1InWideLabels => (1, 3),
+            CompilesForm2InWideLabels => (2, 3),
+            _ => return false,
+        };
+        answered == (form, form_of::<W>())
     }
 
-    fn asks_other_forms<W: Widths>(&self) -> bool {
-        match self.0 {
-            AnswersForm2ByBytes => form_of::<W>() == 1,
-            AnswersForm1ByWideEntries => form_of::<W>() == 2,
-            _ => false,
-        }
+    /// The same of requests.
+    fn asks_other<W: Widths>(&self, form: u32) -> bool {
+        let answered = match self.0 {
+            AnswersForm2ByBytes => (2, 1),
+            AnswersForm3ByBytes => (3, 1),
+            AnswersForm1ByWideEntries => (1, 2),
+            AnswersForm3ByByteLabels => (3, 2),
+            AnswersForm1ByWideLabels => (1, 3),
+            AnswersForm2ByWideLabels => (2, 3),
+            _ => return false,
+        };
+        answered == (form, form_of::<W>())
     }
 
     pub fn compile<W: Widths>(
@@ -81,12 +92,25 @@ impl Faulty {
                 change(&mut table[..used], |entry| entry >> 8 | (entry & 255) << 8);
             }
             LabelsByEightActions => self.fill::<W>(policy, counts, users, objects, table),
+            CutsLabels | TakesLabel256For0 => {
+                let (user, object) = (policy.user.values(), policy.object.values());
+                change(&mut users[..1 << user], |label| self.stored(label));
+                change(&mut objects[..1 << object], |label| self.stored(label));
+            }
             _ if self.misjudges_some(policy) => {
                 self.fill::<W>(policy, counts, users, objects, table);
             }
             _ => {}
         }
         counts
+    }
+
+    /// A label as an engine with this fault stores it.
+    fn stored(&self, label: u32) -> u32 {
+        match self.0 {
+            TakesLabel256For0 if label != 256 => label,
+            _ => label & 255,
+        }
     }
 
     /// Compiles a policy of another form than that of these widths.
@@ -106,7 +130,7 @@ impl Faulty {
             Tests20BeforeWidths if users.is_empty() || objects.is_empty() => {
                 Counts { refusal: 20, ..due }
             }
-            _ if self.compiles_other_forms::<W>() => {
+            _ if self.compiles_other::<W>(policy.form) => {
                 W::compile(&Plain, &in_form_of::<W>(policy), users, objects, table)
             }
             _ => due,
@@ -122,7 +146,10 @@ impl Faulty {
     ) -> Step {
         let [session, action, object] = asked;
         let table = self.table_seen(labels);
+        let [users, objects] = [labels.users, labels.objects].map(|side| self.labels_seen(side));
         let labels = &Labels {
+            users: &users,
+            objects: &objects,
             table: &table,
             ..*labels
         };
@@ -141,13 +168,28 @@ impl Faulty {
             RequestsBySession0 if step.answer <= GRANTED && board.sessions[0].is_open() => {
                 return W::request(&Plain, board, policy, labels, 0, action, object);
             }
-            _ if is_wrong::<W>(policy) && self.asks_other_forms::<W>() => {
+            _ if is_wrong::<W>(policy) && self.asks_other::<W>(policy.form) => {
                 let seen = in_form_of::<W>(policy);
                 return W::request(&Plain, board, &seen, labels, session, action, object);
             }
             _ => {}
         }
         step
+    }
+
+    /// The labels of a side as an engine with this fault looks at them.
+    fn labels_seen<L: Element>(&self, labels: &[L]) -> Vec<L> {
+        let mut seen = labels.to_vec();
+        match self.0 {
+            LooksUpCutLabels => change(&mut seen, |label| label & 255),
+            LooksUpCutSets => {
+                for set in 256..labels.len() {
+                    seen[set] = labels[set & 255];
+                }
+            }
+            _ => {}
+        }
+        seen
     }
 
     /// The table as an engine with this fault looks at it.
