@@ -18,7 +18,7 @@ use Rattle.basis.proofs.Bools.{and-left, and-right, or-cases, or-left, or-right
 use Rattle.basis.proofs.Lists.{any-at, any-of}
 use Rattle.basis.proofs.Places.{taken-in}
 use Rattle.words.specs.declared.Word.{Word}
-use Rattle.policy.specs.Limits.{actions}
+use Rattle.policy.specs.Limits.{actions, tupleBits}
 use Rattle.policy.specs.Policy.{Policy, sets, formulaIn}
 use Rattle.policy.specs.Read.{Accepted, readText}
 use Rattle.policy.specs.Value.{valueOf}
@@ -120,10 +120,10 @@ module _ (t : List ℕ) (p : Policy) (e : readText t ≡ Accepted p) where
       }
 
   by-listing : (s : Sets) → OfSides p s → (listing : List ℕ) (n : ℕ) → n ≤ length listing
-      → decideByTuples (valueOf p) s listing n ≡ decided (any (eqb (stored p s)) (take n listing))
-  unfolding decideByTuples firstBroken
+      → decideByTuples (valueOf p) (tupleBits (p .form)) s listing n ≡ decided (any (eqb (stored p s)) (take n listing))
+  unfolding decideByTuples firstBroken valueOf
   by-listing s h listing n l =
-      rw (yielded-policy t p e, yielded-valid t p e, lt-leb (sets (p .user)) (s .user) (h .0), lt-leb (sets (p .object)) (s .object) (h .1), le-ltb (length listing) n l)
+      rw (yielded-policy t p e, yielded-valid t p e, eq-eqb (tupleBits (p .form)) (tupleBits (p .form)) refl, lt-leb (sets (p .user)) (s .user) (h .0), lt-leb (sets (p .object)) (s .object) (h .1), le-ltb (length listing) n l)
 
   pub equal-sets : (s : Sets) → OfSides p s → EqualSets p s
   equal-sets s h =

@@ -59,11 +59,11 @@ calls v =
           (λ e. (none-given _ _ _ e, none-given _ _ _ e))
           (λ n e. (some-given _ _ _ n e, some-given _ _ _ n e));
       decide = λ a s. answers _ (byPolicy.decideChecks v a s) refl (none-given _ _ _) (some-given _ _ _);
-      list = λ a buffer.
-          answers _ (byTuples.listChecks v a buffer) refl
+      list = λ bits a buffer.
+          answers _ (byTuples.listChecks v bits a buffer) refl
           (λ e. (none-given _ _ _ e, none-given _ _ _ e))
           (λ n e. (some-given _ _ _ n e, some-given _ _ _ n e));
-      decide-by-tuples = λ s listing count. answers _ (byTuples.decideChecks v s listing count) refl (none-given _ _ _) (some-given _ _ _);
+      decide-by-tuples = λ bits s listing count. answers _ (byTuples.decideChecks v bits s listing count) refl (none-given _ _ _) (some-given _ _ _);
       compile = λ b.
           answers _ (compileChecks v b) refl
           (λ e. (none-given _ _ _ e, none-given _ _ _ e))

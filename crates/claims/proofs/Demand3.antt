@@ -1,13 +1,13 @@
 -- Demand 3, from the text through reading and compiling to every list of calls.
 use Prim.Native.Nat.{ℕ, _≤_, _<_}
-use mathlib.Core.Path.{_≡_, ap, _∙_}
+use mathlib.Core.Path.{_≡_, refl, ap, _∙_}
 use mathlib.Core.Bool.{true}
 use mathlib.Core.List.{List}
-use borrow.Author.Tests.{le-ltb, lt-leb}
+use borrow.Author.Tests.{eq-eqb, le-ltb, lt-leb}
 use lib.ListN.{length}
 use Rattle.basis.specs.Choice.{gives, firstBroken}
 use Rattle.basis.specs.Lists.{over}
-use Rattle.policy.specs.Limits.{actions, objectNumbers}
+use Rattle.policy.specs.Limits.{actions, objectNumbers, tupleBits}
 use Rattle.policy.specs.Policy.{Policy}
 use Rattle.policy.specs.Read.{Accepted, readText}
 use Rattle.policy.specs.Value.{valueOf, policyOf}
@@ -37,13 +37,13 @@ module _ (t : List ℕ) (p : Policy) (e : readText t ≡ Accepted p) where
   -- ---- tuples
 
   module _ (a : ℕ) (ha : a < actions (p .form)) (buffer : List ℕ) (room : length (tuples p a) ≤ length buffer) where
-    is-listed : list (valueOf p) a buffer ≡ gives (length (tuples p a))
-    unfolding list firstBroken
-    is-listed = rw (back, ok, lt-leb (actions (p .form)) a ha, le-ltb (length buffer) (length (tuples p a)) room)
+    is-listed : list (valueOf p) (tupleBits (p .form)) a buffer ≡ gives (length (tuples p a))
+    unfolding list firstBroken valueOf
+    is-listed = rw (back, ok, eq-eqb (tupleBits (p .form)) (tupleBits (p .form)) refl, lt-leb (actions (p .form)) a ha, le-ltb (length buffer) (length (tuples p a)) room)
 
-    is-stored : listBuffer (valueOf p) a buffer ≡ over (tuples p a) buffer
-    unfolding listBuffer firstBroken
-    is-stored = rw (back, ok, lt-leb (actions (p .form)) a ha, le-ltb (length buffer) (length (tuples p a)) room)
+    is-stored : listBuffer (valueOf p) (tupleBits (p .form)) a buffer ≡ over (tuples p a) buffer
+    unfolding listBuffer firstBroken valueOf
+    is-stored = rw (back, ok, eq-eqb (tupleBits (p .form)) (tupleBits (p .form)) refl, lt-leb (actions (p .form)) a ha, le-ltb (length buffer) (length (tuples p a)) room)
 
   listed : (a : ℕ) → a < actions (p .form) → Tuples p a
   listed a ha =
@@ -52,7 +52,7 @@ module _ (t : List ℕ) (p : Policy) (e : readText t ≡ Accepted p) where
         listed = is-listed a ha;
         stored-are = is-stored a ha;
         decides = λ buffer room u o hu ho.
-            listed-decides (valueOf p) a (at u o) buffer (length (tuples p a)) (is-listed a ha buffer room) ∙ by-policy t p e a ha (at u o) hu ho;
+            listed-decides (valueOf p) (tupleBits (p .form)) a (at u o) buffer (length (tuples p a)) (is-listed a ha buffer room) ∙ by-policy t p e a ha (at u o) hu ho;
       }
 
   -- ---- labels

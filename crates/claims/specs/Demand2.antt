@@ -15,7 +15,7 @@ use Rattle.sets.specs.Set.{within}
 use Rattle.seniority.specs.Seniority.{Senior, heldOrSenior, heldOrJunior}
 use Rattle.words.specs.declared.Word.{Word}
 use Rattle.words.specs.declared.Comparison.the-variants.{Dominates}
-use Rattle.policy.specs.Limits.{actions}
+use Rattle.policy.specs.Limits.{actions, tupleBits}
 use Rattle.policy.specs.Policy.{Side, Policy, sets, width, start, setOfNumber, formulaIn}
 use Rattle.policy.specs.Read.{Accepted, readText}
 use Rattle.policy.specs.Text.{textOf}
@@ -83,7 +83,7 @@ pub record Among (listing : List ℕ) (count number : ℕ) : Type 0 where
 
 pub record EqualSets (p : Policy) (s : Sets) : Type 0 where
   pub by-tuples : (listing : List ℕ) (count : ℕ) → count ≤ length listing
-      → (decideByTuples (valueOf p) s listing count ≡ granted) ↔ Among listing count (stored p s)
+      → (decideByTuples (valueOf p) (tupleBits (p .form)) s listing count ≡ granted) ↔ Among listing count (stored p s)
   -- two pairs with one number are the same pair
   pub once : (r : Sets) → OfSides p r → stored p s ≡ stored p r → s ≡ r
 

@@ -10,7 +10,7 @@ use mathlib.Core.Option.{none}
 use lib.ListN.{length, getD}
 use Rattle.basis.specs.Choice.{gives, check, firstBroken}
 use Rattle.basis.specs.Lists.{over}
-use Rattle.policy.specs.Limits.{actions, ownWidths}
+use Rattle.policy.specs.Limits.{actions, ownWidths, tupleBits}
 use Rattle.policy.specs.Policy.{Policy, sets}
 use Rattle.policy.specs.Read.{Accepted, readText}
 use Rattle.policy.specs.Value.{valueOf, policyOf}
@@ -29,14 +29,15 @@ abbrev pub Rising : List ℕ → Type 0
 Rising ns = (i j : ℕ) → i < j → j < length ns → getD ns i 0 < getD ns j 0
 
 -- ---- tuples: "for every action the tuples listed are document 01's, rising, each once, with their count, and grant
--- exactly when the formula is true" or a pair holds, in a buffer long enough and not written to since
+-- exactly when the formula is true" or a pair holds, in a buffer long enough and not written to since, and of the form's
+-- own width
 
 pub record Tuples (p : Policy) (a : ℕ) : Type 0 where
   pub rising : Rising (tuples p a)
-  pub listed : (buffer : List ℕ) → length (tuples p a) ≤ length buffer → list (valueOf p) a buffer ≡ gives (length (tuples p a))
-  pub stored-are : (buffer : List ℕ) → length (tuples p a) ≤ length buffer → listBuffer (valueOf p) a buffer ≡ over (tuples p a) buffer
+  pub listed : (buffer : List ℕ) → length (tuples p a) ≤ length buffer → list (valueOf p) (tupleBits (p .form)) a buffer ≡ gives (length (tuples p a))
+  pub stored-are : (buffer : List ℕ) → length (tuples p a) ≤ length buffer → listBuffer (valueOf p) (tupleBits (p .form)) a buffer ≡ over (tuples p a) buffer
   pub decides : (buffer : List ℕ) → length (tuples p a) ≤ length buffer → (u o : ℕ) → u < sets (p .user) → o < sets (p .object)
-      → decideByTuples (valueOf p) (at u o) (listBuffer (valueOf p) a buffer) (length (tuples p a)) ≡ decided (grants p a (at u o))
+      → decideByTuples (valueOf p) (tupleBits (p .form)) (at u o) (listBuffer (valueOf p) (tupleBits (p .form)) a buffer) (length (tuples p a)) ≡ decided (grants p a (at u o))
 
 -- ---- labels: "the compiled labelling is document 01's, grants alike, uses NU and NO, and no labelling that grants
 -- alike uses fewer on either side"

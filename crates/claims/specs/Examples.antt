@@ -21,7 +21,7 @@ use Rattle.policy.specs.Answers.{Reply, done, granted, denied, refused}
 use Rattle.policy.specs.declared.limits.Widths.{Widths}
 use Rattle.formula.specs.Truth.{at}
 use Rattle.formula.specs.Decide.{decide}
-use Rattle.tuples.specs.Tuples.{tuples, decideByTuples}
+use Rattle.tuples.specs.Tuples.{stored, tuples, decideByTuples}
 use Rattle.labels.specs.Compile.{lent, NU, NO, userResult, objectResult, tableResult}
 use Rattle.report.specs.Report.{report}
 use Rattle.board.specs.Machine.{Call, opens, adds, drops, closes, requests, entry, run, machine, policyIn}
@@ -137,7 +137,7 @@ abbrev pub falseExamples : List Example
 falseExamples =
     let p = policyIs sample in
     let q = policyIs seniorObjects in
-    example (reply (decideByTuples (valueOf p) (at 3 0) (tuples p 3) 4)) "denied"
+    example (reply (decideByTuples (valueOf p) 16 (at 3 0) (tuples p 3) 4)) "denied"
     ∷ example (numbers (tuples q 0)) "1,3,5,7"
     ∷ example (numbers (tuples q 1)) "5,6,7"
     ∷ example (byMachine sample (opens 0 0 3 ∷ drops 0 0 3 ∷ adds 0 0 3 ∷ [])) "done done done"
@@ -301,6 +301,44 @@ formExamples =
     ∷ example (byBytes sixteen sixteenDay) "done refused,11 refused,11 refused,11 refused,11 refused,11"
     ∷ []
 
+-- a card of form 3 with the same lines, and one with nine values a side
+abbrev pub large : String
+large = "policy,3\nuattr,1\noattr,1\nuser,0,1\nobject,0,0\nobject,1,1\nrule,8,o0\nrule,15,u0\npair,9,0,0\nend\n"
+
+abbrev pub nine : String
+nine = "policy,3\nuattr,4\nuattr,5\noattr,9\nusen,8,4\nosen,8,0\nuser,0,511\nobject,0,511\nrule,0,u8,o8,a\nend\n"
+
+-- its requests made for labels in bytes
+abbrev pub byByteLabels : String → List Call → List ℕ
+byByteLabels text calls = let p = policyIs text in replies (run (boardStep (valueOf p) (labelsFor (bits 8 16) p)) calls fresh .replies)
+
+-- "A text beginning `policy,3` has sums, and each W, from 1 to 9 on each side, and actions as in form 2. Label buffers
+-- become 16-bit .. and tuples 32-bit. Forms 1 and 2 keep their stored widths"
+abbrev pub nineExamples : List Example
+nineExamples =
+    let p = policyIs large in
+    let q = policyIs nine in
+    reading "policy,3\nuattr,9\noattr,9\nend\n" "accepted"
+    ∷ reading "policy,3\nuattr,10\noattr,1\nend\n" "refused,6,1"
+    ∷ reading "policy,3\nuattr,5\nuattr,4\noattr,5\noattr,5\nend\n" "refused,6,4"
+    ∷ reading "policy,2\nuattr,7\noattr,8\nend\n" "refused,6,2"
+    ∷ reading "policy,1\nuattr,4\nuattr,4\noattr,1\nend\n" "refused,6,2"
+    ∷ reading "policy,3\nuattr,1\noattr,1\nrule,16,t\nend\n" "refused,6,3"
+    ∷ reading "policy,4\nuattr,1\noattr,1\nend\n" "refused,6,0"
+    ∷ example (textOf p) large
+    ∷ example (textOf q) nine
+    ∷ example (numbers (NU p ∷ NO p ∷ [])) "2,2"
+    ∷ example (numbers (tableResult p)) "0,256,32768,33536"
+    ∷ example (numbers (stored q (at 511 511) ∷ stored q (at 128 0) ∷ [])) "262143,65536"
+    ∷ example (reply (decideByTuples (valueOf p) 32 (at 1 0) (tuples p 15) 2)) "granted"
+    ∷ example (reply (decideByTuples (valueOf p) 16 (at 1 0) (tuples p 15) 2)) "refused,11"
+    ∷ example (reply (decide (valueOf q) 0 (at 256 256))) "granted"
+    ∷ example (reply (decide (valueOf q) 0 (at 511 512))) "refused,19"
+    ∷ example (onBoard large sixteenDay) "done granted denied granted granted refused,12"
+    ∷ example (byBytes large sixteenDay) "done refused,11 refused,11 refused,11 refused,11 refused,11"
+    ∷ example (byByteLabels large sixteenDay) "done refused,11 refused,11 refused,11 refused,11 refused,11"
+    ∷ []
+
 -- the chief in session 0 and the deputy in session 1, which the chief tries to close; and the deputy's same calls with
 -- the chief in session 2, who holds nothing and goes
 abbrev pub together : List Call
@@ -363,7 +401,7 @@ listerExamples =
     ∷ []
 
 abbrev pub table : List Example
-table = compiledExamples ++ (sessionExamples ++ (edgeExamples ++ (falseExamples ++ (pairExamples ++ (conflictExamples ++ (dominanceExamples ++ (formExamples ++ (isolationExamples ++ listerExamples))))))))
+table = compiledExamples ++ (sessionExamples ++ (edgeExamples ++ (falseExamples ++ (pairExamples ++ (conflictExamples ++ (dominanceExamples ++ (formExamples ++ (nineExamples ++ (isolationExamples ++ listerExamples)))))))))
 
 abbrev pub holds : Example → Bool
 holds e = same eqb (e .found) (e .expected)
