@@ -29,7 +29,7 @@ use Rattle.formula.proofs.Pairing.{grants-past}
 use Rattle.labels.specs.Compile.{entryOf}
 use Rattle.labels.specs.Compile.{likeUsers}
 use Rattle.labels.specs.Apart.{Separates}
-use Rattle.labels.specs.Inner.Rows.{firstAction}
+use Rattle.labels.specs.Inner.Rows.{laneEntry, firstAction}
 use Rattle.labels.proofs.Alike.{alike-of, rows-alike}
 
 -- the values below m that pass a test are those below n that pass another, where the two agree and none of the rest
@@ -41,10 +41,7 @@ setOf-within f g n m h same past =
       | no b ↦ has-setOf-none g n v (omega arith) ∙ sym (same v l ∙ past v (omega arith))
     ])
 
--- the entry of lane k, from the vectors of all actions, where there are n
-abbrev pub laneEntry : List ℕ → ℕ → ℕ → ℕ
-laneEntry vectors n k = setOf (λ a. has (getD vectors a 0) k) (grouped n)
-
+-- the entry of a lane is that of its sets
 pub lane-entry : (p : Policy) (g : Grants) → GrantsOf p g → (vectors : List ℕ) (k : ℕ) (s : Sets)
     → ((a : ℕ) → a < mostActions → has (getD vectors a 0) k ≡ grants p a s) → laneEntry vectors (actions (p .form)) k ≡ entryOf p s
 unfolding entryOf

@@ -18,6 +18,7 @@ use crate::grid::View;
 use crate::rows;
 use crate::rows::Rows;
 use crate::strips;
+use crate::whole;
 use policy::value::PolicyValue;
 
 pub struct Labels {
@@ -30,8 +31,7 @@ fn at_once(grid: &mut [u16; PLACES], from: Rows, view: View) -> Labels
     requires { ⌜ (from .user ≡ true) × ((p : Policy) × RowsOf p from × ViewOf p view) × (length (now grid) ≡ gridPlaces) × (view .rows * view .columns ≤ gridPlaces) ⌝ }
     ensures { λ r. ⌜ ((p : Policy) → RowsOf p from → ViewOf p view → LabelsOf p r × Kept p (now (grid .exit)) view) ⌝ }
 {
-    let every = grid::every(view.rows);
-    grid::fill(grid, from, &every, 0, view.rows, view.columns);
+    whole::fill(grid, from, view);
     let none = classify::alike();
     let before = none.labels;
     let users = classify(grid, view, &before);

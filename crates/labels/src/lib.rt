@@ -15,6 +15,7 @@ mod rows;
 mod sorts;
 mod strips;
 mod telling;
+mod whole;
 
 use crate::grid::PLACES;
 use policy::limits;

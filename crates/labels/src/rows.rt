@@ -16,6 +16,7 @@ ghost use Rattle.formula.specs.Inner.Lane.{lanes, AttributesOf, sideAt, beside}
 ghost use Rattle.labels.specs.Rows.{firstUnlike};
 ghost use Rattle.labels.specs.Compile.{entryOf};
 ghost use Rattle.labels.specs.Inner.Rows.{RowsOf, InLanes, entryAt};
+use crate::whole;
 use formula::attributes;
 use formula::attributes::Attributes;
 use formula::blocks;
@@ -113,13 +114,11 @@ fn put_block(
     ensures { λ _. ⌜ (length (now (row .exit)) ≡ mostSets) × ((p : Policy) (s : ℕ) → AttributesOf p sides → GrantsOf p grants → actions ≡ limits.actions (p .form) → ((k : ℕ) → k < count → InLanes p user (now (fixed .entry)) (now (others .entry)) k s (start + k)) → ((o : ℕ) → o < start → getD (now (row .entry)) o 0 ≡ entryOf p (beside user s o)) → (o : ℕ) → o < start + count → getD (now (row .exit)) o 0 ≡ entryOf p (beside user s o)) ⌝ }
 {
     let granted = granted(user, sides, fixed, others, grants);
-    for k in 0..count {
-        row[start + k] = entries::entry(&granted, actions, k);
-    }
+    whole::put_lanes(row, &granted, actions, start, count);
 }
 
-// How many of n sets one block has.
-fn in_block(n: usize) -> usize
+// How many of n places one block has.
+pub fn in_block(n: usize) -> usize
     ensures { λ r. ⌜ r ≡ min n lanes ⌝ }
 {
     if n < LANES { n } else { LANES }

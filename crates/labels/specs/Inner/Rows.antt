@@ -5,13 +5,14 @@ use mathlib.Core.Bool.{Bool, false, not}
 use mathlib.Core.List.{List}
 use lib.ListN.{getD}
 use Rattle.basis.specs.Numbers.{first, agree}
-use Rattle.sets.specs.Set.{has}
+use Rattle.sets.specs.Set.{has, setOf}
 use Rattle.policy.specs.Limits.{actions, mostActions}
 use Rattle.policy.specs.Policy.{Policy, total}
 use Rattle.policy.specs.Value.{sideOf}
 use Rattle.formula.specs.Truth.{at}
 use Rattle.formula.specs.Inner.Fits.{SideFits}
 use Rattle.formula.specs.Inner.Grant.{GrantsOf}
+use Rattle.formula.specs.Inner.Group.{grouped}
 use Rattle.formula.specs.Inner.Lane.{lanes, AttributesOf, Stands, sideAt, grownBy, beside}
 use Rattle.formula.specs.Inner.Source.{blocksOf, noBlock, Numbered}
 use Rattle.labels.specs.Compile.{entryOf}
@@ -35,6 +36,10 @@ pub record InLanes (p : Policy) (user : Bool) (fixed others : List ℕ) (k s t :
 -- the entry of a set at the i-th of some sets of the other side, which the rows are of
 abbrev pub entryIn : Policy → Bool → List ℕ → ℕ → ℕ → ℕ
 entryIn p user sets t i = entryOf p (beside user (getD sets i 0) t)
+
+-- the entry of lane k, from the vectors of all actions, where there are n
+abbrev pub laneEntry : List ℕ → ℕ → ℕ → ℕ
+laneEntry vectors n k = setOf (λ a. has (getD vectors a 0) k) (grouped n)
 
 -- unless it is kept elsewhere, the row of user set u stands here, at n object sets
 abbrev pub Stored : Policy → Bool → List ℕ → ℕ → ℕ → Type 0
