@@ -1,28 +1,32 @@
 /*
  * A screen's day: the hall's card is read, its policy compiled, and a member of staff opens a session, works and
  * closes it; then there are two. At noon the card gains a pair, and in the evening a conflict; the next morning there
- * is another card, and then one with more than eight actions.
+ * is another card, then one with more than eight actions, and then a large hall's, with nine values a side.
  *
- * usage: example FILE, where FILE is a policy text such as examples/front-desk.txt.
+ * usage: example FILE LARGE, where FILE is a policy text such as examples/front-desk.txt, and LARGE one of form 3 such
+ * as examples/large-hall.txt.
  */
 #include <stdio.h>
 #include <string.h>
 
 #include "helvemoik.h"
 
-/* What the screen keeps: the policy, the board, and the compiled labels with their table, which goes by the form. */
+/* What the screen keeps: the policy, the board, and the compiled labels with their table, which go by the form. */
 static struct helvemoik_policy policy;
 static struct helvemoik_board board;
 static struct helvemoik_counts counts;
-static uint8_t user_labels[HELVEMOIK_MOST_LABELS];
-static uint8_t object_labels[HELVEMOIK_MOST_LABELS];
-static uint8_t table[HELVEMOIK_MOST_TABLE];
-static uint16_t wide_table[HELVEMOIK_MOST_TABLE];
+static uint8_t user_labels[HELVEMOIK_FORM_1_LABELS];
+static uint8_t object_labels[HELVEMOIK_FORM_1_LABELS];
+static uint16_t wide_user_labels[HELVEMOIK_FORM_3_LABELS];
+static uint16_t wide_object_labels[HELVEMOIK_FORM_3_LABELS];
+static uint8_t table[HELVEMOIK_FORM_1_TABLE];
+static uint16_t wide_table[HELVEMOIK_FORM_3_TABLE];
 
 /* One byte more than the longest text, so that a longer one is seen to be longer. */
 static uint8_t card[HELVEMOIK_TEXT_BYTES + 1];
 static uint8_t copy[HELVEMOIK_TEXT_BYTES];
-static uint16_t tuples[HELVEMOIK_MOST_TUPLES];
+static uint16_t tuples[HELVEMOIK_FORM_1_TUPLES];
+static uint32_t wide_tuples[HELVEMOIK_FORM_3_TUPLES];
 
 static size_t load(const char *name) {
     FILE *file = fopen(name, "rb");
@@ -66,17 +70,38 @@ static void request(const char *name, uint32_t session, uint32_t action, uint32_
 static void request_wide(uint32_t session, uint32_t action, uint32_t object) {
     asked("request_8_16", session, action, object,
           helvemoik_request_8_16(board, policy, counts.users, counts.objects, user_labels, sizeof user_labels,
-                                 object_labels, sizeof object_labels, wide_table, HELVEMOIK_MOST_TABLE,
+                                 object_labels, sizeof object_labels, wide_table, HELVEMOIK_FORM_3_TABLE,
                                  session, action, object));
 }
 
-static void list(uint32_t action) {
-    struct helvemoik_counted listed = helvemoik_list(policy, action, tuples, HELVEMOIK_MOST_TUPLES);
-    printf("list %u: refusal %u, %zu tuples", (unsigned)action, (unsigned)listed.refusal, listed.count);
-    if (listed.count > 0)
-        printf(", the first %u, by tuples 1 and 1: %s", (unsigned)tuples[0],
-               word(helvemoik_decide_by_tuples(policy, 1, 1, tuples, HELVEMOIK_MOST_TUPLES, listed.count)));
+static void request_large(uint32_t session, uint32_t action, uint32_t object) {
+    asked("request_16_16", session, action, object,
+          helvemoik_request_16_16(board, policy, counts.users, counts.objects,
+                                  wide_user_labels, HELVEMOIK_FORM_3_LABELS,
+                                  wide_object_labels, HELVEMOIK_FORM_3_LABELS, wide_table, HELVEMOIK_FORM_3_TABLE,
+                                  session, action, object));
+}
+
+/* What a listing holds, and what is decided by it for a user set and an object set. */
+static void listed(const char *name, uint32_t action, struct helvemoik_counted listing, uint32_t first, uint32_t user,
+                   uint32_t object, uint32_t answer) {
+    printf("%s %u: refusal %u, %zu tuples", name, (unsigned)action, (unsigned)listing.refusal, listing.count);
+    if (listing.count > 0)
+        printf(", the first %u, by tuples %u and %u: %s", (unsigned)first, (unsigned)user, (unsigned)object,
+               word(answer));
     printf("\n");
+}
+
+static void list(const char *name, uint32_t action) {
+    struct helvemoik_counted listing = helvemoik_list_16(policy, action, tuples, HELVEMOIK_FORM_1_TUPLES);
+    listed(name, action, listing, tuples[0], 1, 1,
+           helvemoik_decide_by_tuples_16(policy, 1, 1, tuples, HELVEMOIK_FORM_1_TUPLES, listing.count));
+}
+
+static void list_large(uint32_t action, uint32_t user, uint32_t object) {
+    struct helvemoik_counted listing = helvemoik_list_32(policy, action, wide_tuples, HELVEMOIK_FORM_3_TUPLES);
+    listed("list_32", action, listing, wide_tuples[0], user, object,
+           helvemoik_decide_by_tuples_32(policy, user, object, wide_tuples, HELVEMOIK_FORM_3_TUPLES, listing.count));
 }
 
 /* The text of the policy, beside that of the card. */
@@ -100,7 +125,14 @@ static void compile(const char *name) {
 static void compile_wide(void) {
     compiled("compile_8_16",
              helvemoik_compile_8_16(policy, user_labels, sizeof user_labels, object_labels, sizeof object_labels,
-                                    wide_table, HELVEMOIK_MOST_TABLE));
+                                    wide_table, HELVEMOIK_FORM_3_TABLE));
+}
+
+static void compile_large(void) {
+    compiled("compile_16_16",
+             helvemoik_compile_16_16(policy, wide_user_labels, HELVEMOIK_FORM_3_LABELS,
+                                     wide_object_labels, HELVEMOIK_FORM_3_LABELS,
+                                     wide_table, HELVEMOIK_FORM_3_TABLE));
 }
 
 static void decide(uint32_t action, uint32_t user, uint32_t object) {
@@ -148,7 +180,7 @@ static void gain_pair(size_t length) {
     policy.pairs.entries[policy.pairs.count++] = (struct helvemoik_pair){ 3, 1, 0 };
     write_card(length);
     compile("compile");
-    list(3);
+    list("list", 3);
     decide(3, 2, 1);
     board = helvemoik_fresh();
     took("open 1 5 2", helvemoik_open(board, policy, 1, 5, 2));
@@ -199,7 +231,7 @@ static void more_actions(void) {
     policy = helvemoik_read(text, sizeof text - 1).policy;
     compile("compile_8_8");
     compile_wide();
-    list(8);
+    list("list_16", 8);
     decide(9, 1, 2);
     board = helvemoik_fresh();
     took("open 0 5 1", helvemoik_open(board, policy, 0, 5, 1));
@@ -212,19 +244,50 @@ static void more_actions(void) {
     took("close 0 5", helvemoik_close(board, policy, 0, 5));
 }
 
-int main(int argc, char **argv) {
-    size_t length = argc > 1 ? load(argv[1]) : 0;
-    struct helvemoik_reading reading = helvemoik_read(card, length);
+/* Reads the card of a file, and takes its policy if there is no refusal. */
+static int take_card(const char *name, size_t *length) {
+    *length = name ? load(name) : 0;
+    struct helvemoik_reading reading = helvemoik_read(card, *length);
     printf("read: refusal %u, line %zu\n", (unsigned)reading.refusal, reading.line);
     if (reading.refusal != 0)
-        return 1;
+        return 0;
     policy = reading.policy;
     printf("valid: %s\n", helvemoik_valid(policy) ? "yes" : "no");
+    write_card(*length);
+    return 1;
+}
 
-    write_card(length);
+/*
+ * Form 3: an editor prints what is in both languages, and puts the languages down to remove what is in none. Labels
+ * have 16 bits, and so have the entries of the table; tuples have 32. The calls for other widths refuse the policy.
+ */
+static void large_hall(void) {
+    compile("compile_8_8");
+    compile_wide();
+    compile_large();
+    list("list_16", 9);
+    list_large(9, 72, 34);
+    list_large(15, 420, 420);
+    decide(15, 420, 420);
+    board = helvemoik_fresh();
+    took("open 7 5 420", helvemoik_open(board, policy, 7, 5, 420));
+    request_large(5, 15, 6);
+    request_large(5, 4, 3);
+    took("drop 7 5 384", helvemoik_drop(board, policy, 7, 5, 384));
+    request_large(5, 4, 3);
+    request_large(5, 16, 3);
+    request("request_8_8", 5, 4, 3);
+    request_wide(5, 4, 3);
+    took("close 7 5", helvemoik_close(board, policy, 7, 5));
+}
+
+int main(int argc, char **argv) {
+    size_t length;
+    if (!take_card(argc > 1 ? argv[1] : NULL, &length))
+        return 1;
     compile("compile");
     for (uint32_t action = 0; action < 4; action++)
-        list(action);
+        list("list", action);
     decide(1, 2, 2);
     struct helvemoik_separation apart = helvemoik_apart(policy, 1, 2);
     printf("apart 1 2: answer %u, action %u, object set %u\n", (unsigned)apart.answer, (unsigned)apart.action,
@@ -250,6 +313,9 @@ int main(int argc, char **argv) {
     gain_conflict(length);
     next_card();
     more_actions();
+    if (!take_card(argc > 2 ? argv[2] : NULL, &length))
+        return 1;
+    large_hall();
 
     /* A number that is no word's: check 11 refuses the policy. */
     policy.rules.entries[0].words[0] = 255;

@@ -27,9 +27,10 @@ extern "C" {
 /* The limits of documents 01 and 02. */
 enum {
     HELVEMOIK_TEXT_BYTES = 8192,   /* the longest text that is read, and room for any text that is written */
-    HELVEMOIK_MOST_VALUES = 7,     /* values of a side */
+    HELVEMOIK_FORM_1_VALUES = 7,   /* values of a side, of a `policy,1` or `policy,2` text */
+    HELVEMOIK_FORM_3_VALUES = 9,   /* values of a side, of a `policy,3` text */
     HELVEMOIK_FORM_1_ACTIONS = 8,  /* actions of a `policy,1` text */
-    HELVEMOIK_FORM_2_ACTIONS = 16, /* actions of a `policy,2` text */
+    HELVEMOIK_FORM_2_ACTIONS = 16, /* actions of a `policy,2` or `policy,3` text */
     HELVEMOIK_MOST_WORDS = 32,     /* words of a formula */
     HELVEMOIK_MOST_CONFLICTS = 16, /* conflict lines */
     HELVEMOIK_MOST_TOGETHER = 7,   /* the greatest K of a conflict line */
@@ -41,7 +42,8 @@ enum {
 
 /* What follows from them. */
 enum {
-    /* actions of any form */
+    /* values of a side, and actions, of any form */
+    HELVEMOIK_MOST_VALUES = HELVEMOIK_FORM_3_VALUES,
     HELVEMOIK_MOST_ACTIONS = HELVEMOIK_FORM_2_ACTIONS,
     /* attributes of a side, and its direct seniorities: one for each two values */
     HELVEMOIK_WIDTH_PLACES = HELVEMOIK_MOST_VALUES,
@@ -52,10 +54,18 @@ enum {
     HELVEMOIK_RULE_PLACES = HELVEMOIK_MOST_ACTIONS,
     HELVEMOIK_CONFLICT_PLACES = HELVEMOIK_MOST_CONFLICTS,
     HELVEMOIK_PAIR_PLACES = HELVEMOIK_MOST_PAIRS,
-    /* room for the labels of a side, the entries of a table and the tuples of an action, in any form */
-    HELVEMOIK_MOST_LABELS = 1 << HELVEMOIK_MOST_VALUES,
-    HELVEMOIK_MOST_TABLE = HELVEMOIK_MOST_LABELS * HELVEMOIK_MOST_LABELS,
-    HELVEMOIK_MOST_TUPLES = HELVEMOIK_MOST_LABELS * HELVEMOIK_MOST_LABELS
+    /* room for the labels of a side, the entries of a table and the tuples of an action, in forms 1 and 2 */
+    HELVEMOIK_FORM_1_LABELS = 1 << HELVEMOIK_FORM_1_VALUES,
+    HELVEMOIK_FORM_1_TABLE = HELVEMOIK_FORM_1_LABELS * HELVEMOIK_FORM_1_LABELS,
+    HELVEMOIK_FORM_1_TUPLES = HELVEMOIK_FORM_1_LABELS * HELVEMOIK_FORM_1_LABELS,
+    /* the same in form 3 */
+    HELVEMOIK_FORM_3_LABELS = 1 << HELVEMOIK_FORM_3_VALUES,
+    HELVEMOIK_FORM_3_TABLE = HELVEMOIK_FORM_3_LABELS * HELVEMOIK_FORM_3_LABELS,
+    HELVEMOIK_FORM_3_TUPLES = HELVEMOIK_FORM_3_LABELS * HELVEMOIK_FORM_3_LABELS,
+    /* and in any form */
+    HELVEMOIK_MOST_LABELS = HELVEMOIK_FORM_3_LABELS,
+    HELVEMOIK_MOST_TABLE = HELVEMOIK_FORM_3_TABLE,
+    HELVEMOIK_MOST_TUPLES = HELVEMOIK_FORM_3_TUPLES
 };
 
 /* ---- refusals, by the numbers of documents 01 and 02 */
@@ -176,7 +186,10 @@ struct helvemoik_pairs {
     struct helvemoik_pair entries[HELVEMOIK_PAIR_PLACES];
 };
 
-/* The form, 1 or 2, says how many actions there are, and which compile and request serve the policy. */
+/*
+ * The form, 1 to 3, says how many values and actions there are, and which compile, request, list and decision by tuples
+ * serve the policy.
+ */
 struct helvemoik_policy {
     uint32_t form;
     struct helvemoik_side user;
@@ -247,8 +260,8 @@ struct helvemoik_step {
 };
 
 /* The library is for x86-64. A compiler that lays out otherwise what a call takes or gives refuses this line. */
-typedef char helvemoik_layout[sizeof(struct helvemoik_policy) == 3168 && sizeof(struct helvemoik_board) == 384
-                              && sizeof(struct helvemoik_reading) == 3184 && sizeof(struct helvemoik_counted) == 16
+typedef char helvemoik_layout[sizeof(struct helvemoik_policy) == 3424 && sizeof(struct helvemoik_board) == 384
+                              && sizeof(struct helvemoik_reading) == 3440 && sizeof(struct helvemoik_counted) == 16
                               && sizeof(struct helvemoik_counts) == 12 && sizeof(struct helvemoik_separation) == 12
                               && sizeof(struct helvemoik_step) == 388 ? 1 : -1];
 
@@ -271,14 +284,26 @@ uint32_t helvemoik_decide(struct helvemoik_policy policy, uint32_t action, uint3
 
 /*
  * The tuples of an action, each user set * 2^O + object set, rising; what lies past them stays. Refusals 11, 12, 20,
- * which leave the buffer.
+ * which leave the buffer. The number in a name is the bits of a tuple.
  */
-struct helvemoik_counted helvemoik_list(struct helvemoik_policy policy, uint32_t action,
-                                        uint16_t *buffer, size_t buffer_length);
+
+/* Of a policy of form 1 or 2. One of another form gets 11, which leaves everything as it was. */
+struct helvemoik_counted helvemoik_list_16(struct helvemoik_policy policy, uint32_t action,
+                                           uint16_t *buffer, size_t buffer_length);
+
+/* Of a policy of form 3. One of another form gets 11, which leaves everything as it was. */
+struct helvemoik_counted helvemoik_list_32(struct helvemoik_policy policy, uint32_t action,
+                                           uint32_t *buffer, size_t buffer_length);
 
 /* Whether the pair of sets is one of the first `count` tuples of a listing: granted or denied. Refusals 11, 19, 20. */
-uint32_t helvemoik_decide_by_tuples(struct helvemoik_policy policy, uint32_t user, uint32_t object,
-                                    const uint16_t *listing, size_t listing_length, size_t count);
+
+/* Under a policy of form 1 or 2. One of another form gets 11. */
+uint32_t helvemoik_decide_by_tuples_16(struct helvemoik_policy policy, uint32_t user, uint32_t object,
+                                       const uint16_t *listing, size_t listing_length, size_t count);
+
+/* Under a policy of form 3. One of another form gets 11. */
+uint32_t helvemoik_decide_by_tuples_32(struct helvemoik_policy policy, uint32_t user, uint32_t object,
+                                       const uint32_t *listing, size_t listing_length, size_t count);
 
 /*
  * The labels of the user sets, those of the object sets, and their table; what lies past each stays. Refusals 11, 20,
@@ -294,6 +319,11 @@ struct helvemoik_counts helvemoik_compile_8_8(struct helvemoik_policy policy, ui
 struct helvemoik_counts helvemoik_compile_8_16(struct helvemoik_policy policy, uint8_t *users, size_t users_length,
                                                uint8_t *objects, size_t objects_length,
                                                uint16_t *table, size_t table_length);
+
+/* Of one of form 3, all in 16 bits. A policy of another form gets 11, which leaves everything as it was. */
+struct helvemoik_counts helvemoik_compile_16_16(struct helvemoik_policy policy, uint16_t *users, size_t users_length,
+                                                uint16_t *objects, size_t objects_length,
+                                                uint16_t *table, size_t table_length);
 
 /* Whether some action and object set tell two user sets apart. Refusals 11, 19. */
 struct helvemoik_separation helvemoik_apart(struct helvemoik_policy policy, uint32_t one, uint32_t other);
@@ -345,6 +375,14 @@ struct helvemoik_step helvemoik_request_8_16(struct helvemoik_board board, struc
                                              const uint8_t *objects, size_t objects_length,
                                              const uint16_t *table, size_t table_length,
                                              uint32_t session, uint32_t action, uint32_t object);
+
+/* Under one of form 3, by 16 bits. A policy of another form gets 11, which leaves everything as it was. */
+struct helvemoik_step helvemoik_request_16_16(struct helvemoik_board board, struct helvemoik_policy policy,
+                                              uint32_t nu, uint32_t no,
+                                              const uint16_t *users, size_t users_length,
+                                              const uint16_t *objects, size_t objects_length,
+                                              const uint16_t *table, size_t table_length,
+                                              uint32_t session, uint32_t action, uint32_t object);
 
 #ifdef __cplusplus
 }

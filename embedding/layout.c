@@ -29,13 +29,14 @@ static void number(struct numbers *n, const void *at, size_t size) {
 }
 
 #define NUMBER(field) number(n, &(field), sizeof(field))
+#define PLACES(array) (sizeof(array) / sizeof *(array))
 
 static void side_numbers(struct numbers *n, const struct helvemoik_side *side) {
     NUMBER(side->attributes);
-    for (size_t i = 0; i < HELVEMOIK_WIDTH_PLACES; i++)
+    for (size_t i = 0; i < PLACES(side->widths); i++)
         NUMBER(side->widths[i]);
     NUMBER(side->lines);
-    for (size_t i = 0; i < HELVEMOIK_LINE_PLACES; i++) {
+    for (size_t i = 0; i < PLACES(side->seniority); i++) {
         NUMBER(side->seniority[i].senior);
         NUMBER(side->seniority[i].junior);
     }
@@ -43,7 +44,7 @@ static void side_numbers(struct numbers *n, const struct helvemoik_side *side) {
 
 static void register_numbers(struct numbers *n, const struct helvemoik_register *list) {
     NUMBER(list->count);
-    for (size_t i = 0; i < HELVEMOIK_ENTRY_PLACES; i++) {
+    for (size_t i = 0; i < PLACES(list->entries); i++) {
         NUMBER(list->entries[i].number);
         NUMBER(list->entries[i].set);
     }
@@ -51,7 +52,7 @@ static void register_numbers(struct numbers *n, const struct helvemoik_register 
 
 static void conflicts_numbers(struct numbers *n, const struct helvemoik_conflicts *conflicts) {
     NUMBER(conflicts->count);
-    for (size_t i = 0; i < HELVEMOIK_CONFLICT_PLACES; i++) {
+    for (size_t i = 0; i < PLACES(conflicts->entries); i++) {
         NUMBER(conflicts->entries[i].set);
         NUMBER(conflicts->entries[i].most);
     }
@@ -59,17 +60,17 @@ static void conflicts_numbers(struct numbers *n, const struct helvemoik_conflict
 
 static void rules_numbers(struct numbers *n, const struct helvemoik_rules *rules) {
     NUMBER(rules->count);
-    for (size_t i = 0; i < HELVEMOIK_RULE_PLACES; i++) {
+    for (size_t i = 0; i < PLACES(rules->entries); i++) {
         NUMBER(rules->entries[i].action);
         NUMBER(rules->entries[i].count);
-        for (size_t k = 0; k < HELVEMOIK_WORD_PLACES; k++)
+        for (size_t k = 0; k < PLACES(rules->entries[i].words); k++)
             NUMBER(rules->entries[i].words[k]);
     }
 }
 
 static void pairs_numbers(struct numbers *n, const struct helvemoik_pairs *pairs) {
     NUMBER(pairs->count);
-    for (size_t i = 0; i < HELVEMOIK_PAIR_PLACES; i++) {
+    for (size_t i = 0; i < PLACES(pairs->entries); i++) {
         NUMBER(pairs->entries[i].action);
         NUMBER(pairs->entries[i].user);
         NUMBER(pairs->entries[i].object);
@@ -88,7 +89,7 @@ static void policy_numbers(struct numbers *n, const struct helvemoik_policy *pol
 }
 
 static void board_numbers(struct numbers *n, const struct helvemoik_board *board) {
-    for (size_t i = 0; i < HELVEMOIK_SESSIONS; i++) {
+    for (size_t i = 0; i < PLACES(board->sessions); i++) {
         NUMBER(board->sessions[i].live);
         NUMBER(board->sessions[i].user);
         NUMBER(board->sessions[i].held);
@@ -324,9 +325,9 @@ static void all_pairs(struct helvemoik_pairs *pairs) {
 
 /* All places of one side's seniorities and the other's widths, of users, objects, conflicts, rules, words and pairs. */
 static void full(struct helvemoik_policy *policy, struct helvemoik_side *one, struct helvemoik_side *other) {
-    const uint8_t leaves[] = { HELVEMOIK_WORD_U + 6, HELVEMOIK_WORD_O, HELVEMOIK_WORD_T, HELVEMOIK_WORD_U + 1,
-                               HELVEMOIK_WORD_O + 5, HELVEMOIK_WORD_F, HELVEMOIK_WORD_U + 3, HELVEMOIK_WORD_O + 4 };
-    policy->form = 2;
+    const uint8_t leaves[] = { HELVEMOIK_WORD_U + 8, HELVEMOIK_WORD_O, HELVEMOIK_WORD_T, HELVEMOIK_WORD_U + 1,
+                               HELVEMOIK_WORD_O + 7, HELVEMOIK_WORD_F, HELVEMOIK_WORD_U + 3, HELVEMOIK_WORD_O + 8 };
+    policy->form = 3;
     chain(one);
     singles(other);
     enter(&policy->users, HELVEMOIK_USER_NUMBERS, HELVEMOIK_USER_NUMBERS - 1, 1 << HELVEMOIK_MOST_VALUES);
@@ -482,25 +483,36 @@ static void hold_byte(const struct helvemoik_board *board, const struct helvemoi
     hold_step(helvemoik_close(changed, *policy, staff[0].user, 0), HELVEMOIK_INVALID_STATE, &changed, where);
 }
 
-/* A label for each set, and tables with one place that grants: requests find it, in the table of the policy's form. */
+/*
+ * A label for each set, the set's complement, and tables with one place that grants: requests find it, by the labels
+ * and the table of the policy's form.
+ */
 static void hold_request(const struct helvemoik_board *board, const struct helvemoik_policy *policy, uint32_t k) {
-    static uint8_t labels[HELVEMOIK_MOST_LABELS], table[HELVEMOIK_MOST_TABLE];
-    static uint16_t wide[HELVEMOIK_MOST_TABLE];
-    const uint32_t most = HELVEMOIK_MOST_LABELS, action = policy->form == 1 ? 3 : 11;
+    static uint8_t labels[HELVEMOIK_FORM_1_LABELS], table[HELVEMOIK_FORM_1_TABLE];
+    static uint16_t wide_labels[HELVEMOIK_FORM_3_LABELS], wide[HELVEMOIK_FORM_3_TABLE];
+    const uint32_t most = policy->form == 3 ? HELVEMOIK_FORM_3_LABELS : HELVEMOIK_FORM_1_LABELS;
+    const uint32_t places = most * most, action = policy->form == 1 ? 3 : 11;
     const struct helvemoik_entry *object = &policy->objects.entries[k % policy->objects.count];
-    const size_t place = board->sessions[k].held * most + object->set;
-    for (uint32_t i = 0; i < most; i++)
-        labels[i] = (uint8_t)i;
+    const size_t place = (most - 1 - board->sessions[k].held) * most + (most - 1 - object->set);
+    for (uint32_t i = 0; i < HELVEMOIK_FORM_1_LABELS; i++)
+        labels[i] = (uint8_t)(HELVEMOIK_FORM_1_LABELS - 1 - i);
+    for (uint32_t i = 0; i < HELVEMOIK_FORM_3_LABELS; i++)
+        wide_labels[i] = (uint16_t)(HELVEMOIK_FORM_3_LABELS - 1 - i);
     memset(table, 0, sizeof table);
     memset(wide, 0, sizeof wide);
-    table[place] = (uint8_t)(1u << action);
+    if (policy->form == 1)
+        table[place] = (uint8_t)(1u << action);
     wide[place] = (uint16_t)(1u << action);
-    hold_step(helvemoik_request_8_8(*board, *policy, most, most, labels, most, labels, most,
-                                    table, HELVEMOIK_MOST_TABLE, k, action, object->number),
+    hold_step(helvemoik_request_8_8(*board, *policy, most, most, labels, HELVEMOIK_FORM_1_LABELS,
+                                    labels, HELVEMOIK_FORM_1_LABELS, table, HELVEMOIK_FORM_1_TABLE,
+                                    k, action, object->number),
               policy->form == 1 ? HELVEMOIK_GRANTED : HELVEMOIK_INVALID_STATE, board, k);
-    hold_step(helvemoik_request_8_16(*board, *policy, most, most, labels, most, labels, most,
-                                     wide, HELVEMOIK_MOST_TABLE, k, action, object->number),
+    hold_step(helvemoik_request_8_16(*board, *policy, most, most, labels, HELVEMOIK_FORM_1_LABELS,
+                                     labels, HELVEMOIK_FORM_1_LABELS, wide, places, k, action, object->number),
               policy->form == 2 ? HELVEMOIK_GRANTED : HELVEMOIK_INVALID_STATE, board, k);
+    hold_step(helvemoik_request_16_16(*board, *policy, most, most, wide_labels, most, wide_labels, most, wide, places,
+                                      k, action, object->number),
+              policy->form == 3 ? HELVEMOIK_GRANTED : HELVEMOIK_INVALID_STATE, board, k);
 }
 
 static void hold_open(const struct helvemoik_board *board, const struct helvemoik_policy *policy, uint32_t k) {
@@ -577,9 +589,9 @@ static void hold_counts(void) {
     expect(n.refusal == HELVEMOIK_BUFFER_TOO_SHORT && n.users == 0 && n.objects == 0, "counts: another refusal", 0);
 }
 
-/* ---- tables, by the widths of both forms */
+/* ---- labels, tables and tuples, by the widths of each form */
 
-/* The same text of either form, with the last action that the form has. */
+/* The same text of any form, with the last action that the form has. */
 static struct helvemoik_policy of_form(uint32_t form) {
     static struct text text;
     text.length = 0;
@@ -588,25 +600,105 @@ static struct helvemoik_policy of_form(uint32_t form) {
     return reading_of(text.bytes).policy;
 }
 
-/* Every entry of its width, nothing past the table, and nothing at all by the call for the other form. */
-static void hold_tables(void) {
-    static const uint8_t due[] = { 128, 128, 128, 129, 0, 1, PAINT };
-    static const uint16_t wide_due[] = { 32768, 32768, 32768, 32769, 0, 1, PAINT * 257 };
-    uint8_t users[4], objects[2], table[7], untouched[7];
-    uint16_t wide[7], wide_untouched[7];
-    memset(table, PAINT, sizeof table);
-    memset(wide, PAINT, sizeof wide);
-    memset(untouched, PAINT, sizeof untouched);
-    memset(wide_untouched, PAINT, sizeof wide_untouched);
-    const struct helvemoik_policy one = of_form(1), two = of_form(2);
-    expect(helvemoik_compile_8_16(one, users, 4, objects, 2, wide, 7).refusal == HELVEMOIK_INVALID_STATE
-               && memcmp(wide, wide_untouched, sizeof wide) == 0, "tables: 16 bits of form 1", 0);
-    expect(helvemoik_compile_8_8(two, users, 4, objects, 2, table, 7).refusal == HELVEMOIK_INVALID_STATE
-               && memcmp(table, untouched, sizeof table) == 0, "tables: bytes of form 2", 0);
-    expect(helvemoik_compile_8_8(one, users, 4, objects, 2, table, 7).refusal == 0
-               && memcmp(table, due, sizeof table) == 0, "tables: other bytes", 0);
-    expect(helvemoik_compile_8_16(two, users, 4, objects, 2, wide, 7).refusal == 0
-               && memcmp(wide, wide_due, sizeof wide) == 0, "tables: other entries of 16 bits", 0);
+/* Buffers with room for one element more than is due, in each width. */
+static struct {
+    uint8_t users[5], objects[3], table[7];
+    uint16_t wide_users[5], wide_objects[3], wide_table[7], tuples[4];
+    uint32_t wide_tuples[4];
+} lent, untouched;
+
+static void paint_lent(void) {
+    memset(&lent, PAINT, sizeof lent);
+    memset(&untouched, PAINT, sizeof untouched);
+}
+
+/* Whether only these bytes of the lent buffers are not as they were before the call. */
+static int kept_but(const void *at, size_t size) {
+    const unsigned char *one = (const unsigned char *)&lent, *other = (const unsigned char *)&untouched;
+    for (size_t i = 0; i < sizeof lent; i++)
+        if (one[i] != other[i] && (one + i < (const unsigned char *)at || one + i >= (const unsigned char *)at + size))
+            return 0;
+    return 1;
+}
+
+/* The three compiles. */
+static uint32_t compile_of(uint32_t form, struct helvemoik_policy policy) {
+    switch (form) {
+    case 1: return helvemoik_compile_8_8(policy, lent.users, 5, lent.objects, 3, lent.table, 7).refusal;
+    case 2: return helvemoik_compile_8_16(policy, lent.users, 5, lent.objects, 3, lent.wide_table, 7).refusal;
+    default:
+        return helvemoik_compile_16_16(policy, lent.wide_users, 5, lent.wide_objects, 3, lent.wide_table, 7).refusal;
+    }
+}
+
+/* Every label and entry of its width, nothing past them, and nothing at all by the calls for other forms. */
+static void hold_compiled(void) {
+    static const uint8_t users[] = { 0, 1, 2, 2, PAINT }, objects[] = { 0, 1, PAINT };
+    static const uint16_t wide_users[] = { 0, 1, 2, 2, PAINT * 257 }, wide_objects[] = { 0, 1, PAINT * 257 };
+    static const uint8_t table[] = { 128, 128, 128, 129, 0, 1, PAINT };
+    static const uint16_t wide_table[] = { 32768, 32768, 32768, 32769, 0, 1, PAINT * 257 };
+    for (uint32_t form = 1; form <= 3; form++) {
+        const struct helvemoik_policy policy = of_form(form);
+        paint_lent();
+        for (uint32_t other = 1; other <= 3; other++)
+            if (other != form)
+                expect(compile_of(other, policy) == HELVEMOIK_INVALID_STATE && kept_but(&lent, 0),
+                       "compile: not refused by the call for form", other);
+        expect(compile_of(form, policy) == 0, "compile: refused, form", form);
+        expect(form == 3 ? memcmp(lent.wide_users, wide_users, sizeof wide_users) == 0
+                               && memcmp(lent.wide_objects, wide_objects, sizeof wide_objects) == 0
+                         : memcmp(lent.users, users, sizeof users) == 0
+                               && memcmp(lent.objects, objects, sizeof objects) == 0, "compile: other labels", form);
+        expect(form == 1 ? memcmp(lent.table, table, sizeof table) == 0
+                         : memcmp(lent.wide_table, wide_table, sizeof wide_table) == 0, "compile: another table", form);
+    }
+}
+
+/* Action 0 of the same texts: user sets 1 to 3, each with object set 1. */
+static void hold_tuples(void) {
+    static const uint16_t tuples[] = { 3, 5, 7, PAINT * 257 };
+    static const uint32_t wide_tuples[] = { 3, 5, 7, PAINT * 16843009u };
+    for (uint32_t form = 1; form <= 3; form++) {
+        const struct helvemoik_policy policy = of_form(form);
+        const int wide = form == 3;
+        paint_lent();
+        struct helvemoik_counted n = helvemoik_list_16(policy, 0, lent.tuples, 4);
+        expect(wide ? n.refusal == HELVEMOIK_INVALID_STATE && n.count == 0 && kept_but(&lent, 0)
+                    : n.refusal == 0 && n.count == 3 && memcmp(lent.tuples, tuples, sizeof tuples) == 0,
+               "tuples: 16 bits, form", form);
+        expect(kept_but(lent.tuples, sizeof lent.tuples), "tuples: another buffer, form", form);
+        paint_lent();
+        n = helvemoik_list_32(policy, 0, lent.wide_tuples, 4);
+        expect(wide ? n.refusal == 0 && n.count == 3 && memcmp(lent.wide_tuples, wide_tuples, sizeof wide_tuples) == 0
+                    : n.refusal == HELVEMOIK_INVALID_STATE && n.count == 0 && kept_but(&lent, 0),
+               "tuples: 32 bits, form", form);
+        expect(kept_but(lent.wide_tuples, sizeof lent.wide_tuples), "tuples: another buffer, form", form);
+        for (uint32_t count = 0; count <= 3; count++) {
+            const uint32_t due = count == 3 ? HELVEMOIK_GRANTED : HELVEMOIK_DENIED;
+            expect(helvemoik_decide_by_tuples_16(policy, 3, 1, tuples, 4, count)
+                       == (wide ? HELVEMOIK_INVALID_STATE : due), "tuples: decided by 16 bits, form", form);
+            expect(helvemoik_decide_by_tuples_32(policy, 3, 1, wide_tuples, 4, count)
+                       == (wide ? due : HELVEMOIK_INVALID_STATE), "tuples: decided by 32 bits, form", form);
+        }
+    }
+}
+
+/* All nine user values and the upper six object values: the greatest tuples that there are. */
+static void hold_greatest_tuples(void) {
+    uint32_t tuples[9];
+    const uint32_t all = HELVEMOIK_FORM_3_LABELS - 1;
+    const struct helvemoik_policy policy = reading_of(
+        "policy,3\nuattr,9\noattr,9\nrule,15,u0,u1,a,u2,a,u3,a,u4,a,u5,a,u6,a,u7,a,u8,a,"
+        "o3,a,o4,a,o5,a,o6,a,o7,a,o8,a\nend\n").policy;
+    memset(tuples, PAINT, sizeof tuples);
+    expect(helvemoik_list_32(policy, 15, tuples, 9).count == 8, "tuples: another count of the greatest", 0);
+    for (uint32_t i = 0; i < 8; i++) {
+        expect(tuples[i] == HELVEMOIK_FORM_3_TUPLES - 8 + i, "tuples: not the greatest", i);
+        expect(helvemoik_decide_by_tuples_32(policy, all, all, tuples, 9, i) == HELVEMOIK_DENIED,
+               "tuples: granted by too few", i);
+    }
+    expect(tuples[8] == PAINT * 16843009u, "tuples: past the listing", 8);
+    expect(helvemoik_decide_by_tuples_32(policy, all, all, tuples, 9, 8) == HELVEMOIK_GRANTED, "tuples: denied", 8);
 }
 
 /* Only action 5 on object set 2 tells the sets apart that hold user value 0 and those that do not. */
@@ -619,22 +711,26 @@ static void hold_separation(void) {
 }
 
 int main(void) {
-    static struct helvemoik_policy policies[4];
-    for (size_t i = 0; i < 4; i++)
+    static struct helvemoik_policy policies[5];
+    for (size_t i = 0; i < 5; i++)
         clear(&policies[i]);
     full(&policies[0], &policies[0].user, &policies[0].object);
     full(&policies[1], &policies[1].object, &policies[1].user);
     few(&policies[2], 1);
     few(&policies[3], 2);
-    for (size_t i = 0; i < 4; i++)
+    few(&policies[4], 3);
+    for (size_t i = 0; i < 5; i++)
         hold_policy(&policies[i], i);
     hold_answers_written(&policies[2]);
     hold_board(&policies[2]);
     hold_board(&policies[3]);
+    hold_board(&policies[4]);
     hold_reading();
     hold_counted(&policies[2]);
     hold_counts();
-    hold_tables();
+    hold_compiled();
+    hold_tuples();
+    hold_greatest_tuples();
     hold_separation();
     return verdict("layout");
 }

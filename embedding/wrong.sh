@@ -1,8 +1,9 @@
 #!/bin/sh
 # Shows that layout.c and limits.c find a wrong header: every two fields of a struct in each other's place, every number
-# field of the other width, every named number one higher, and every lent buffer with elements of the other width. Each
-# time the header's own line on sizes or a buffer's type stops the compiler, or the program finds faults. One wrong
-# width cannot be told: counted.refusal comes back in a register whose other half is padding.
+# field of another width, every array one longer and one shorter, every named number one higher, and every lent buffer
+# with elements of another width. Each time the header's own line on sizes or a buffer's type stops the compiler, or the
+# program finds faults. One wrong width cannot be told: counted.refusal comes back in a register whose other half is
+# padding.
 set -eu
 cd "$(dirname "$0")/.."
 header=embedding/helvemoik.h
@@ -57,15 +58,26 @@ d}" "$header" | sed -e "${other}s/.*/$(sed -n "${one}p" "$header")/" >"$wrong/he
     *)
       sed "${one}s/uint32_t/uint64_t/;${one}s/size_t/uint32_t/;${one}s/uint8_t/uint16_t/" "$header" \
         >"$wrong/helvemoik.h"
-      must_find layout "line $one is of the other width"
+      must_find layout "line $one is of another width"
+      ;;
+  esac
+  case "$field" in
+    *"["*)
+      for by in "+ 1" "- 1"; do
+        sed "${one}s/]/ $by]/" "$header" >"$wrong/helvemoik.h"
+        must_find layout "the array of line $one has so many places: $by"
+      done
       ;;
   esac
 done <"$wrong/lines"
 
 # The calls have one lent buffer to a line.
 for line in $(grep -n 'uint[0-9]*_t \*' "$header" | cut -d : -f 1); do
-  sed "${line}s/uint8_t \*/uint0_t */;${line}s/uint16_t \*/uint8_t */;${line}s/uint0_t \*/uint16_t */" "$header" \
-    >"$wrong/helvemoik.h"
-  must_find layout limits "the buffer of line $line is of the other width"
+  for width in 8 16 32; do
+    sed "${line}s/uint[0-9]*_t \*/uint${width}_t */" "$header" >"$wrong/helvemoik.h"
+    if ! cmp -s "$header" "$wrong/helvemoik.h"; then
+      must_find layout limits "the buffer of line $line has elements of $width bits"
+    fi
+  done
 done
 echo "wrong headers: $stopped stopped by the compiler, $found found"
