@@ -4,8 +4,6 @@ ghost use mathlib.Core.Path.{_≡_};
 ghost use mathlib.Core.Bool.{true, false};
 ghost use lib.ListN.{length};
 ghost use Rattle.policy.specs.Policy.{Policy};
-ghost use Rattle.policy.specs.Value.{policyOf};
-ghost use Rattle.policy.specs.Valid.{valid};
 ghost use Rattle.labels.specs.Inner.Rows.{RowsOf};
 ghost use Rattle.labels.specs.Inner.Grid.{gridPlaces, ViewOf, Kept};
 ghost use Rattle.labels.specs.Inner.Labels.{LabelsOf};
@@ -19,7 +17,6 @@ use crate::rows;
 use crate::rows::Rows;
 use crate::strips;
 use crate::whole;
-use policy::value::PolicyValue;
 
 pub struct Labels {
     pub users: Classes,
@@ -52,14 +49,13 @@ fn by_strips(grid: &mut [u16; PLACES], from: Rows, columns: Rows, view: View) ->
     Labels { users, objects }
 }
 
-// The labels of a valid policy. Where a grid has room for all entries, they stand in it then.
-pub fn label(grid: &mut [u16; PLACES], policy: PolicyValue, from: Rows, view: View) -> Labels
-    requires { ⌜ (valid policy ≡ true) × (from .user ≡ true) × RowsOf (policyOf policy) from × ViewOf (policyOf policy) view × (length (now grid) ≡ gridPlaces) ⌝ }
-    ensures { λ r. ⌜ LabelsOf (policyOf policy) r × (view .rows * view .columns ≤ gridPlaces → Kept (policyOf policy) (now (grid .exit)) view) ⌝ }
+// The labels of both sides. Where a grid has room for all entries, they stand in it then.
+pub fn label(grid: &mut [u16; PLACES], from: Rows, view: View) -> Labels
+    requires { ⌜ (from .user ≡ true) × ((p : Policy) × RowsOf p from × ViewOf p view) × (length (now grid) ≡ gridPlaces) ⌝ }
+    ensures { λ r. ⌜ ((p : Policy) → RowsOf p from → ViewOf p view → LabelsOf p r × (view .rows * view .columns ≤ gridPlaces → Kept p (now (grid .exit)) view)) ⌝ }
 {
     if grid::holds(view) {
         return at_once(grid, from, view);
     }
-    let columns = rows::rows_of(policy, false);
-    by_strips(grid, from, columns, view)
+    by_strips(grid, from, rows::columns_of(from), view)
 }

@@ -27,20 +27,23 @@ use crate::lending;
 use crate::rows;
 use crate::rows::Rows;
 use crate::sorts;
-use crate::sorts::ObjectClasses;
-use crate::sorts::UserClasses;
 use policy::limits::MOST_SETS;
 use policy::limits::Widths;
 use policy::refusal::Refusal;
 
 // Puts the labels of the first n user sets at the start of a lent buffer.
-fn put_user_labels(width: u32, bytes: &mut [u8], wide: &mut [u16], users: UserClasses, n: usize)
-    requires { ⌜ (n ≤ mostSets) × (n ≤ length (lentIn width (now bytes) (now wide))) × Fit width n (users .0 .labels) ⌝ }
-    ensures { λ _. ⌜ Puts (users .0 .labels) n (lentIn width (now (bytes .entry)) (now (wide .entry))) (lentIn width (now (bytes .exit)) (now (wide .exit))) ⌝ }
+fn put_user_labels(
+    width: u32,
+    bytes: &mut [u8],
+    wide: &mut [u16],
+    labels: &[u16; MOST_SETS],
+    n: usize,
+)
+    requires { ⌜ (n ≤ mostSets) × (n ≤ length (lentIn width (now bytes) (now wide))) × Fit width n (now labels) ⌝ }
+    ensures { λ _. ⌜ Puts (now (labels .entry)) n (lentIn width (now (bytes .entry)) (now (wide .entry))) (lentIn width (now (bytes .exit)) (now (wide .exit))) ⌝ }
 {
-    let labels = users.0.labels;
     for u in 0..n {
-        let label = sorts::user_label(&labels, u);
+        let label = sorts::user_label(labels, u);
         lending::put(width, bytes, wide, u, label.0);
     }
 }
@@ -50,15 +53,14 @@ fn put_object_labels(
     width: u32,
     bytes: &mut [u8],
     wide: &mut [u16],
-    objects: ObjectClasses,
+    labels: &[u16; MOST_SETS],
     n: usize,
 )
-    requires { ⌜ (n ≤ mostSets) × (n ≤ length (lentIn width (now bytes) (now wide))) × Fit width n (objects .0 .labels) ⌝ }
-    ensures { λ _. ⌜ Puts (objects .0 .labels) n (lentIn width (now (bytes .entry)) (now (wide .entry))) (lentIn width (now (bytes .exit)) (now (wide .exit))) ⌝ }
+    requires { ⌜ (n ≤ mostSets) × (n ≤ length (lentIn width (now bytes) (now wide))) × Fit width n (now labels) ⌝ }
+    ensures { λ _. ⌜ Puts (now (labels .entry)) n (lentIn width (now (bytes .entry)) (now (wide .entry))) (lentIn width (now (bytes .exit)) (now (wide .exit))) ⌝ }
 {
-    let labels = objects.0.labels;
     for o in 0..n {
-        let label = sorts::object_label(&labels, o);
+        let label = sorts::object_label(labels, o);
         lending::put(width, bytes, wide, o, label.0);
     }
 }
@@ -99,18 +101,16 @@ fn put_table(
     grid: &[u16; PLACES],
     from: Rows,
     view: View,
-    users: UserClasses,
-    objects: ObjectClasses,
+    user_labels: &[u16; MOST_SETS],
+    user_leaders: &[u16; MOST_SETS],
+    object_labels: &[u16; MOST_SETS],
+    object_leaders: &[u16; MOST_SETS],
     counts: Counts,
 )
     requires { ⌜ (from .user ≡ true) × ((p : Policy) × RowsOf p from × ViewOf p view × (view .rows * view .columns ≤ gridPlaces → Kept p (now grid) view)) × (counts .users ≤ mostSets) × (counts .objects ≤ mostSets) × (counts .users * counts .objects ≤ length (lentIn width (now bytes) (now wide))) × (from .actions ≤ width) ⌝ }
-    requires { ⌜ Leading (view .rows) (users .0 .labels) (users .0 .leaders) (counts .users) × Leading (view .columns) (objects .0 .labels) (objects .0 .leaders) (counts .objects) ⌝ }
-    ensures { λ _. ⌜ ((p : Policy) → RowsOf p from → ViewOf p view → (view .rows * view .columns ≤ gridPlaces → Kept p (now (grid .entry)) view) → (f : ℕ → ℕ → ℕ) → ((ul ol : ℕ) → ul < counts .users → ol < counts .objects → entryOf p (at (getD (users .0 .leaders) ul 0) (getD (objects .0 .leaders) ol 0)) ≡ f ul ol) → lentIn width (now (bytes .exit)) (now (wide .exit)) ≡ over (upTo (λ i. f (i / counts .objects) (i % counts .objects)) (counts .users * counts .objects)) (lentIn width (now (bytes .entry)) (now (wide .entry)))) ⌝ }
+    requires { ⌜ Leading (view .rows) (now «user_labels») (now «user_leaders») (counts .users) × Leading (view .columns) (now «object_labels») (now «object_leaders») (counts .objects) ⌝ }
+    ensures { λ _. ⌜ ((p : Policy) → RowsOf p from → ViewOf p view → (view .rows * view .columns ≤ gridPlaces → Kept p (now (grid .entry)) view) → (f : ℕ → ℕ → ℕ) → ((ul ol : ℕ) → ul < counts .users → ol < counts .objects → entryOf p (at (getD (now («user_leaders» .entry)) ul 0) (getD (now («object_leaders» .entry)) ol 0)) ≡ f ul ol) → lentIn width (now (bytes .exit)) (now (wide .exit)) ≡ over (upTo (λ i. f (i / counts .objects) (i % counts .objects)) (counts .users * counts .objects)) (lentIn width (now (bytes .entry)) (now (wide .entry)))) ⌝ }
 {
-    let user_labels = users.0.labels;
-    let user_leaders = users.0.leaders;
-    let object_labels = objects.0.labels;
-    let object_leaders = objects.0.leaders;
     let nu = counts.users;
     let no = counts.objects;
     let kept = grid::holds(view);
@@ -118,11 +118,11 @@ fn put_table(
     let mut row = [0u16; MOST_SETS];
     for k in 0..nu {
         let u = grid::wide(user_leaders[k as usize]);
-        let ul = sorts::user_label(&user_labels, u);
+        let ul = sorts::user_label(user_labels, u);
         take_row(&mut row, kept, from, u, columns);
         for l in 0..no {
             let o = grid::wide(object_leaders[l as usize]);
-            let ol = sorts::object_label(&object_labels, o);
+            let ol = sorts::object_label(object_labels, o);
             let at = crate::place(ul, ol, no);
             let x = entry_of(kept, grid, view, &row, u, o);
             lending::put(width, bytes, wide, at, x);
@@ -165,10 +165,18 @@ pub fn store(
         users: nu as u32,
         objects: no as u32,
     };
-    let user = UserClasses(rows);
-    put_user_labels(widths.label, users, wide_users, user, view.rows);
-    let object = ObjectClasses(columns);
-    put_object_labels(widths.label, objects, wide_objects, object, view.columns);
+    let user_labels = rows.labels;
+    put_user_labels(widths.label, users, wide_users, &user_labels, view.rows);
+    let object_labels = columns.labels;
+    put_object_labels(
+        widths.label,
+        objects,
+        wide_objects,
+        &object_labels,
+        view.columns,
+    );
+    let user_leaders = rows.leaders;
+    let object_leaders = columns.leaders;
     put_table(
         widths.entry,
         table,
@@ -176,8 +184,10 @@ pub fn store(
         grid,
         from,
         view,
-        user,
-        object,
+        &user_labels,
+        &user_leaders,
+        &object_labels,
+        &object_leaders,
         counts,
     );
     Compiled::Stored(counts)

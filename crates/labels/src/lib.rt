@@ -80,11 +80,11 @@ fn compile(
     if !limits::own_widths(policy.form, widths) {
         return Compiled::Refused(Refusal::InvalidState);
     }
-    let from = rows::rows_of(policy, true);
+    let from = rows::rows_of(policy);
     let sides = from.sides;
     let view = grid::view_of(sides);
     let mut entries = [0u16; PLACES];
-    let labels = assign::label(&mut entries, policy, from, view);
+    let labels = assign::label(&mut entries, from, view);
     buffers::store(
         &entries,
         from,
@@ -179,11 +179,11 @@ pub fn used(policy: PolicyValue) -> Compiled
     if !validity::check(policy) {
         return Compiled::Refused(Refusal::InvalidState);
     }
-    let from = rows::rows_of(policy, true);
+    let from = rows::rows_of(policy);
     let sides = from.sides;
     let view = grid::view_of(sides);
     let mut entries = [0u16; PLACES];
-    let labels = assign::label(&mut entries, policy, from, view);
+    let labels = assign::label(&mut entries, from, view);
     let rows = labels.users;
     let columns = labels.objects;
     Compiled::Stored(Counts {
@@ -200,7 +200,7 @@ pub fn apart(policy: PolicyValue, u: u32, w: u32) -> Apartness
     if !validity::check(policy) {
         return Apartness::Refused(Refusal::InvalidState);
     }
-    let from = rows::rows_of(policy, true);
+    let from = rows::rows_of(policy);
     let sides = from.sides;
     let view = grid::view_of(sides);
     if view.rows <= u as usize {

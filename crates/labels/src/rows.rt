@@ -2,7 +2,7 @@
 // side has its entries at the sets of the other. Here entries are as wide as those of any form.
 ghost use Prim.Native.Nat.{ℕ, _+_, _^_, _≤_, _<_, min};
 ghost use mathlib.Core.Path.{_≡_};
-ghost use mathlib.Core.Bool.{not};
+ghost use mathlib.Core.Bool.{true, false, not};
 ghost use lib.ListN.{length, getD};
 ghost use Rattle.sets.specs.Set.{has};
 ghost use Rattle.policy.specs.Limits as limits;
@@ -34,47 +34,58 @@ use policy::limits::MOST_SETS;
 use policy::value::PolicyValue;
 use policy::value::SideValue;
 
-// What the rows of one side are worked out from: whether it is the user side, the side, and the sets of the other.
+// What the rows of one side are worked out from: whether it is the user side, both sides, and the sets of the other.
 pub struct Rows {
     pub user: bool,
     pub sides: Attributes,
     pub side: SideValue,
+    pub other: SideValue,
     pub others: [Block; SIDE_BLOCKS],
     pub grants: Grants,
     pub actions: u32,
 }
 
-// What the rows of a policy's user sets are worked out from, or else of its object sets.
-pub fn rows_of(policy: PolicyValue, user: bool) -> Rows
+// What the rows of a policy's user sets are worked out from.
+pub fn rows_of(policy: PolicyValue) -> Rows
     requires { ⌜ ValueFits policy ⌝ }
-    ensures { λ r. ⌜ (r .user ≡ user) × RowsOf (policyOf policy) r ⌝ }
+    ensures { λ r. ⌜ (r .user ≡ true) × RowsOf (policyOf policy) r ⌝ }
 {
-    let users = policy.user;
-    let objects = policy.object;
-    let sides = attributes::of_sides(users, objects);
+    let side = policy.user;
+    let other = policy.object;
+    let sides = attributes::of_sides(side, other);
+    let starts = sides.object;
+    let others = blocks::of_side(other, attributes::total(starts), false);
     let grants = grant::of_policy(policy);
-    let actions = limits::actions(policy.form);
-    if user {
-        let starts = sides.object;
-        let others = blocks::of_side(objects, attributes::total(starts), false);
-        return Rows {
-            user,
-            sides,
-            side: users,
-            others,
-            grants,
-            actions,
-        };
-    }
-    let starts = sides.user;
-    let others = blocks::of_side(users, attributes::total(starts), true);
     Rows {
-        user,
+        user: true,
         sides,
-        side: objects,
+        side,
+        other,
         others,
         grants,
-        actions,
+        actions: limits::actions(policy.form),
+    }
+}
+
+// What the rows of its object sets are worked out from.
+pub fn columns_of(from: Rows) -> Rows
+    requires { ⌜ (from .user ≡ true) × ((p : Policy) × RowsOf p from) ⌝ }
+    ensures { λ r. ⌜ (r .user ≡ false) × ((p : Policy) → RowsOf p from → RowsOf p r) ⌝ }
+{
+    let sides = from.sides;
+    let starts = sides.user;
+    let other = from.side;
+    let others = blocks::of_side(other, attributes::total(starts), true);
+    let side = from.other;
+    let grants = from.grants;
+    Rows {
+        user: false,
+        sides,
+        side,
+        other,
+        others,
+        grants,
+        actions: from.actions,
     }
 }
 

@@ -5,13 +5,7 @@ ghost use lib.ListN.{getD};
 ghost use Rattle.policy.specs.Limits.{mostSets};
 use crate::ObjectLabel;
 use crate::UserLabel;
-use crate::classify::Classes;
 use policy::limits::MOST_SETS;
-
-// The classes of the user sets, and those of the object sets.
-pub struct UserClasses(pub Classes);
-
-pub struct ObjectClasses(pub Classes);
 
 // The label of a user set.
 pub fn user_label(labels: &[u16; MOST_SETS], u: usize) -> UserLabel

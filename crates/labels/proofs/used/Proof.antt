@@ -10,6 +10,7 @@ use Rattle.policy.specs.Value.{policyOf}
 use Rattle.policy.specs.Valid.{valid}
 use Rattle.formula.proofs.Checked.{valid-fits}
 use Rattle.labels.specs.Inner.Grid.{gridPlaces, ViewOf}
+use Rattle.labels.specs.Inner.Labels.{LabelsOf}
 use Rattle.labels.proofs.Storing.{users-few, objects-few, counts-are, used-refused, used-stored}
 use Rattle.labels.proofs.used.Statement.{statement}
 use Rattle.labels.proofs.used.Tie as tie
@@ -35,16 +36,20 @@ seen c = c .view-of .ensures _ (c .before .before .rows-of .ensures .1 .sides)
 
 label-requires : tie.Need-label-requires
 label-requires c κs =
-    let r = c .before .before .before .rows-of .ensures in (ok (c .before .before .before .before), r .0, r .1, seen (c .before), length-replicate {A = ℕ} gridPlaces 0)
+    let r = c .before .before .before .rows-of .ensures in (r .0, (_, r .1, seen (c .before)), length-replicate {A = ℕ} gridPlaces 0)
+
+-- both sides are labelled
+labels-are : (c : tie.After-label) → LabelsOf (policyOf (c .before .before .before .before .before .before .before .args .policy)) (c .label .result)
+labels-are c = c .label .ensures _ (c .before .before .before .before .rows-of .ensures .1) (seen (c .before .before)) .0
 
 cast-t13 : tie.Need-cast-t13
-cast-t13 c = omega (arith, users-few (c .before .before .before .label .ensures .0) (seen (c .before .before .before .before .before)))
+cast-t13 c = omega (arith, users-few (labels-are (c .before .before .before)) (seen (c .before .before .before .before .before)))
 
 cast-t14 : tie.Need-cast-t14
-cast-t14 c = omega (arith, objects-few (c .before .before .before .before .label .ensures .0) (seen (c .before .before .before .before .before .before)))
+cast-t14 c = omega (arith, objects-few (labels-are (c .before .before .before .before)) (seen (c .before .before .before .before .before .before)))
 
 returns-2 : tie.Need-returns-2
-returns-2 c = let n = counts-are (c .before .before .before .before .label .ensures .0) in used-stored _ (ok (c .before .before .before .before .before .before .before .before .before)) _ (rw (n .0, n .1))
+returns-2 c = let n = counts-are (labels-are (c .before .before .before .before)) in used-stored _ (ok (c .before .before .before .before .before .before .before .before .before)) _ (rw (n .0, n .1))
 
 pub used-spec : {M : Type 1} → statement M
 used-spec =

@@ -22,6 +22,8 @@ pub record RowsOf (p : Policy) (x : Rows) : Type 0 where
   pub sides : AttributesOf p (x .sides)
   pub side : sideAt (x .user) p ≡ sideOf (x .side)
   pub fits : SideFits (x .side)
+  pub other : sideAt (not (x .user)) p ≡ sideOf (x .other)
+  pub other-fits : SideFits (x .other)
   pub others : (b : ℕ) → b < blocksOf (total (sideAt (not (x .user)) p))
       → Numbered (not (x .user)) (sideAt (not (x .user)) p) (total (sideAt (not (x .user)) p)) b (getD (x .others) b noBlock)
   pub grants : GrantsOf p (x .grants)

@@ -4,34 +4,30 @@ use mathlib.Core.Path.{_≡_, sym, _∙_}
 use native.Mathlib.Omega.{arith}
 use borrow.Author.Needs.{needs}
 use borrow.Author.Tests.{leb-true, leb-false}
-use Rattle.formula.proofs.Checked.{valid-fits}
 use Rattle.labels.specs.Inner.Grid.{gridPlaces}
 use Rattle.labels.proofs.assign.label.Statement.{statement}
 use Rattle.labels.proofs.assign.label.Tie as tie
 
 holds-requires : tie.Need-holds-requires
-holds-requires c κs = let v = c .pre .3 in (v .few-users, v .few-objects)
+holds-requires c κs = let v = c .pre .1 .2 in (v .few-users, v .few-objects)
 
 at-once-requires : tie.Need-at-once-requires
-at-once-requires c κs =
-    let s = c .before .before .before .pre in
-    (s .1, (_, s .2, s .3), s .4, leb-true _ _ (sym (c .before .before .holds .ensures) ∙ c .before .if1 .taken))
+at-once-requires c κs = let s = c .before .before .before .pre in (s .0, s .1, s .2, leb-true _ _ (sym (c .before .before .holds .ensures) ∙ c .before .if1 .taken))
 
 returns : tie.Need-returns
-returns c = let s = c .before .before .before .before .pre in let r = c .at-once .ensures _ (s .2) (s .3) in (r .0, λ h. r .1)
+returns c = λ p rows v. let r = c .at-once .ensures p rows v in (r .0, λ h. r .1)
 
-rows-of-requires : tie.Need-rows-of-requires
-rows-of-requires c κs = valid-fits _ (c .before .before .pre .0)
+columns-of-requires : tie.Need-columns-of-requires
+columns-of-requires c κs = let s = c .before .before .before .pre in (s .0, (s .1 .0, s .1 .1))
 
 by-strips-requires : tie.Need-by-strips-requires
 by-strips-requires c κs =
-    let s = c .before .before .before .before .pre in let r = c .before .rows-of .ensures in
-    (s .1, r .0, (_, s .2, r .1, s .3), s .4)
+    let s = c .before .before .before .before .pre in let r = c .columns-of .ensures in
+    (s .0, r .0, (s .1 .0, s .1 .1, r .1 _ (s .1 .1), s .1 .2), s .2)
 
 returns-2 : tie.Need-returns-2
-returns-2 c =
-    let s = c .before .before .before .before .before .pre in
-    (c .by-strips .ensures _ (s .2) (c .before .before .rows-of .ensures .1) (s .3), λ h. absurd (omega (arith, h, leb-false (c .before .before .before .before .before .args .view .rows * c .before .before .before .before .before .args .view .columns) gridPlaces (sym (c .before .before .before .before .holds .ensures) ∙ c .before .before .before .if1 .left))))
+returns-2 c = λ p rows v.
+    (c .by-strips .ensures p rows (c .before .columns-of .ensures .1 p rows) v, λ h. absurd (omega (arith, h, leb-false (c .before .before .before .before .before .args .view .rows * c .before .before .before .before .before .args .view .columns) gridPlaces (sym (c .before .before .before .before .holds .ensures) ∙ c .before .before .before .if1 .left))))
 
 pub label-spec : {M : Type 1} → statement M
 label-spec =
@@ -40,6 +36,6 @@ label-spec =
     holds-requires
     at-once-requires
     returns
-    rows-of-requires
+    columns-of-requires
     by-strips-requires
     returns-2)

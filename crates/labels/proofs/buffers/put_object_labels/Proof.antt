@@ -9,23 +9,23 @@ use Rattle.labels.proofs.buffers.put_object_labels.Statement.{statement
 use Rattle.labels.proofs.buffers.put_object_labels.Tie as tie
 
 abbrev Inv-loop : tie.InvT-loop
-Inv-loop width bytes₀ wide₀ n labels o₀ bytes wide o =
+Inv-loop width bytes₀ wide₀ labels n o₀ bytes wide o =
     Putting labels n o (lentIn width bytes₀ wide₀) (lentIn width bytes wide)
     × (length bytes ≡ length bytes₀) × (length wide ≡ length wide₀)
 
 abbrev μ-loop : tie.MeasureT-loop
-μ-loop width bytes₀ wide₀ n labels o₀ bytes wide o = n - o
+μ-loop width bytes₀ wide₀ labels n o₀ bytes wide o = n - o
 
 loop-holds : tie.Need-loop-holds Inv-loop μ-loop
-loop-holds c = (putting-none _ _ _ (c .before .before .before .pre .1), refl, refl)
+loop-holds c = (putting-none _ _ _ (c .before .before .pre .1), refl, refl)
 
 object-label-requires : tie.Need-object-label-requires Inv-loop μ-loop
 object-label-requires c κs = search needs
 
 put-requires : tie.Need-put-requires Inv-loop μ-loop
 put-requires c κs =
-    let t = c .before .before .before .before in
-    (putting-room (t .before .loop .inv .0) (t .loop-test .taken), rw (c .before .before .object-label .ensures) (t .before .before .before .before .before .pre .2 _ (t .loop-test .taken)))
+    let t = c .before .before .before in
+    (putting-room (t .before .loop .inv .0) (t .loop-test .taken), rw (c .before .before .object-label .ensures) (t .before .before .before .before .pre .2 _ (t .loop-test .taken)))
 
 add-o : tie.Need-add-o Inv-loop μ-loop
 add-o c = search needs
@@ -35,9 +35,8 @@ loop-less c = search needs
 
 loop-again : tie.Need-loop-again Inv-loop μ-loop
 loop-again c =
-    let e = c .before .before .before .before .before .before .before in
-    let t = e .before .before in
-    (rw (← c .before .before .before .before .put .ensures) at (putting-more (t .before .loop .inv .0) (t .loop-test .taken) (e .object-label .ensures)), search needs, search needs)
+    let t = c .before .before .before .before .before .before .before .before in
+    (rw (← c .before .before .before .before .put .ensures) at (putting-more (t .before .loop .inv .0) (t .loop-test .taken) (c .before .before .before .before .before .before .before .object-label .ensures)), search needs, search needs)
 
 same-length : tie.Need-same-length Inv-loop μ-loop
 same-length c = c .before .loop .inv .1

@@ -1,4 +1,4 @@
--- `labels::rows::rows_of` meets its contract: the parts of the value, and the sets of the other side.
+-- `labels::rows::rows_of` meets its contract: the parts of the value, and the sets of the object side.
 use mathlib.Core.Path.{refl}
 use native.Mathlib.Omega.{arith}
 use borrow.Author.Needs.{needs}
@@ -9,61 +9,36 @@ use Rattle.labels.proofs.rows.rows_of.Tie as tie
 of-sides-requires : tie.Need-of-sides-requires
 of-sides-requires c κs = search needs
 
-of-policy-requires : tie.Need-of-policy-requires
-of-policy-requires c κs = search needs
-
-actions-requires : tie.Need-actions-requires
-actions-requires c κs = search needs
-
 total-requires : tie.Need-total-requires
 total-requires c κs = search needs
 
 of-side-requires : tie.Need-of-side-requires
 unfolding policyOf
 of-side-requires c κs =
-    let v = c .before .before .before .before .before .before .before .before .args .policy in let h = c .before .before .before .before .before .before .before .before .pre .object in
-    (h, omega (arith, c .total .ensures (policyOf v .object) (c .before .before .before .before .before .of-sides .ensures (policyOf v) refl refl .object), h .most))
+    let v = c .before .before .before .before .before .args .policy in let h = c .before .before .before .before .before .pre .object in
+    (h, omega (arith, c .total .ensures (policyOf v .object) (c .before .before .of-sides .ensures (policyOf v) refl refl .object), h .most))
+
+of-policy-requires : tie.Need-of-policy-requires
+of-policy-requires c κs = search needs
+
+actions-requires : tie.Need-actions-requires
+actions-requires c κs = search needs
 
 returns : tie.Need-returns
 unfolding policyOf
 returns c =
-    let v = c .before .before .before .before .before .before .before .before .before .args .policy in
-    let sides = c .before .before .before .before .before .before .of-sides .ensures (policyOf v) refl refl in
-    rw (c .before .before .before .if1 .taken) (
+    let v = c .before .before .before .before .before .before .before .before .args .policy in
+    let sides = c .before .before .before .before .before .of-sides .ensures (policyOf v) refl refl in (
       refl,
       record {
         sides = sides;
         side = refl;
-        fits = c .before .before .before .before .before .before .before .before .before .pre .user;
-        others = rw (← c .before .total .ensures (policyOf v .object) (sides .object)) (c .of-side .ensures);
-        grants = c .before .before .before .before .before .of-policy .ensures;
-        actions = c .before .before .before .before .actions .ensures;
-      },
-    )
-
-total-requires-2 : tie.Need-total-requires-2
-total-requires-2 c κs = search needs
-
-of-side-requires-2 : tie.Need-of-side-requires-2
-unfolding policyOf
-of-side-requires-2 c κs =
-    let v = c .before .before .before .before .before .before .before .before .args .policy in let h = c .before .before .before .before .before .before .before .before .pre .user in
-    (h, omega (arith, c .total2 .ensures (policyOf v .user) (c .before .before .before .before .before .of-sides .ensures (policyOf v) refl refl .user), h .most))
-
-returns-2 : tie.Need-returns-2
-unfolding policyOf
-returns-2 c =
-    let v = c .before .before .before .before .before .before .before .before .before .args .policy in
-    let sides = c .before .before .before .before .before .before .of-sides .ensures (policyOf v) refl refl in
-    rw (c .before .before .before .if1 .left) (
-      refl,
-      record {
-        sides = sides;
-        side = refl;
-        fits = c .before .before .before .before .before .before .before .before .before .pre .object;
-        others = rw (← c .before .total2 .ensures (policyOf v .user) (sides .user)) (c .of-side2 .ensures);
-        grants = c .before .before .before .before .before .of-policy .ensures;
-        actions = c .before .before .before .before .actions .ensures;
+        fits = c .before .before .before .before .before .before .before .before .pre .user;
+        other = refl;
+        other-fits = c .before .before .before .before .before .before .before .before .pre .object;
+        others = rw (← c .before .before .before .total .ensures (policyOf v .object) (sides .object)) (c .before .before .of-side .ensures);
+        grants = c .before .of-policy .ensures;
+        actions = c .actions .ensures;
       },
     )
 
@@ -72,11 +47,8 @@ rows-of-spec =
     tie.close
     (tie.spec
     of-sides-requires
-    of-policy-requires
-    actions-requires
     total-requires
     of-side-requires
-    returns
-    total-requires-2
-    of-side-requires-2
-    returns-2)
+    of-policy-requires
+    actions-requires
+    returns)
