@@ -15,6 +15,7 @@ use formula::grant::Grants;
 use formula::side::LANES;
 use tuples::blocks;
 use tuples::marks::Marks;
+use tuples::marks::WORDS;
 use tuples::strips;
 use writer::bytes;
 
@@ -162,7 +163,14 @@ fn with_strip(c: Cursor) -> Cursor
     let first = tuples.first + made.count;
     let source = c.source;
     let grants = c.grants;
-    let marks = blocks::marks(source, grant::of_action(grants, tuples.action), first);
+    let mut words = [0u64; WORDS];
+    let count = blocks::marks(
+        source,
+        grant::of_action(grants, tuples.action),
+        first,
+        &mut words,
+    );
+    let marks = Marks { count, words };
     let strip = Tuples {
         action: tuples.action,
         values: tuples.values,
@@ -188,9 +196,10 @@ fn with_action(c: Cursor) -> Cursor
     let source = c.source;
     let grants = c.grants;
     let grant = grant::of_action(grants, action);
-    let marks = blocks::marks(source, grant, 0);
-    let words = marks.words;
-    let count = strips::count(source, grant, &words, marks.count);
+    let mut words = [0u64; WORDS];
+    let n = blocks::marks(source, grant, 0, &mut words);
+    let count = strips::count(source, grant, &words, n);
+    let marks = Marks { count: n, words };
     let mut line = blank();
     let to = lines::action_line(action, count as u32, &mut line);
     let held = Held {
