@@ -22,7 +22,11 @@ fn wide_entry(x: u16) -> u32 {
 
 // A tuple of 16 bits in 32; a blank is a blank.
 fn wide_tuple(x: u16) -> u32 {
-    if x == BLANK_ENTRY { BLANK_TUPLE } else { x as u32 }
+    if x == BLANK_ENTRY {
+        BLANK_TUPLE
+    } else {
+        x as u32
+    }
 }
 
 // The first bytes of a buffer, to be lent; all where there are not so many.
@@ -34,7 +38,7 @@ pub fn first(buffer: &mut [u8], n: u32) -> &mut [u8] {
     &mut buffer[..end]
 }
 
-// The same for entries of 16 bits.
+// The same for labels, entries or tuples of 16 bits.
 pub fn first_entries(buffer: &mut [u16], n: u32) -> &mut [u16] {
     let end = n as usize;
     if buffer.len() < end {
@@ -74,7 +78,7 @@ pub fn unlike(due: &[u32], buffer: &[u8]) -> usize {
     if i < due.len() { i + 1 } else { 0 }
 }
 
-// The same for entries of 16 bits.
+// The same for labels or entries of 16 bits.
 pub fn unlike_entries(due: &[u32], buffer: &[u16]) -> usize {
     let mut i = 0;
     while i < buffer.len() {

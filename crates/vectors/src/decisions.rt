@@ -11,6 +11,7 @@ use crate::texts::policy_of;
 use labels::Apartness;
 use labels::Witness;
 use policy::refusal::number_of;
+use policy::value::PolicyValue;
 use tuples::Listing;
 
 fn decide(text: &[u8], action: u32, user: u32, object: u32) -> u32 {
@@ -24,20 +25,22 @@ pub fn by_formula(a: &[u32; NUMBERS], text: &[u8]) -> Found {
 
 // `B`: by tuples of 16 bits, with the action's listing in a buffer of the most entries.
 pub fn by_tuples(a: &[u32; NUMBERS], text: &[u8]) -> Found {
+    let policy = policy_of(text);
     let mut buffer = [BLANK_ENTRY; ENTRIES];
-    tuples::list_16(policy_of(text), a[2], &mut buffer);
+    tuples::list_16(policy, a[2], &mut buffer);
     let count = cursor::size(a[5]);
-    let decision = tuples::decide_16(policy_of(text), a[3], a[4], &buffer, count);
+    let decision = tuples::decide_16(policy, a[3], a[4], &buffer, count);
     found::bare(found::of_decision(decision))
 }
 
 // `b`: by tuples of 32 bits, in a buffer of so many entries.
 pub fn by_wide_tuples(a: &[u32; NUMBERS], text: &[u8]) -> Found {
+    let policy = policy_of(text);
     let mut buffer = [BLANK_TUPLE; ENTRIES];
     let lent = buffers::first_tuples(&mut buffer, a[6]);
-    tuples::list_32(policy_of(text), a[2], lent);
+    tuples::list_32(policy, a[2], lent);
     let count = cursor::size(a[5]);
-    let decision = tuples::decide_32(policy_of(text), a[3], a[4], lent, count);
+    let decision = tuples::decide_32(policy, a[3], a[4], lent, count);
     found::bare(found::of_decision(decision))
 }
 
@@ -101,11 +104,17 @@ fn unlike_runs(runs: &[u32], buffer: &[u32; ENTRIES]) -> usize {
 }
 
 // Lists for a line's width. The buffer is lent in 16 bits and in 32, and the one of this width is filled.
-fn list(tag: u8, text: &[u8], action: u32, buffer: &mut [u16], wide: &mut [u32]) -> Listing {
+fn list(
+    tag: u8,
+    policy: PolicyValue,
+    action: u32,
+    buffer: &mut [u16],
+    wide: &mut [u32],
+) -> Listing {
     if tag == b't' {
-        return tuples::list_32(policy_of(text), action, wide);
+        return tuples::list_32(policy, action, wide);
     }
-    tuples::list_16(policy_of(text), action, buffer)
+    tuples::list_16(policy, action, buffer)
 }
 
 // `T`, or `t` for 32-bit tuples: a listing.
@@ -114,7 +123,7 @@ pub fn listed(tag: u8, a: &[u32; NUMBERS], n: usize, text: &[u8]) -> Found {
     let mut wide = [BLANK_TUPLE; ENTRIES];
     let listing = list(
         tag,
-        text,
+        policy_of(text),
         a[2],
         buffers::first_entries(&mut buffer, a[3]),
         buffers::first_tuples(&mut wide, a[3]),

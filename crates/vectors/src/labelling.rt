@@ -11,6 +11,7 @@ use crate::texts::policy_of;
 use labels::Compiled;
 use policy::limits::MOST_SETS;
 use policy::refusal::number_of;
+use policy::value::PolicyValue;
 
 // The most sets of a side.
 pub const SETS: usize = MOST_SETS;
@@ -40,7 +41,7 @@ fn counted(compiled: Compiled, tag: u8, place: usize) -> Found {
 // Compiles for a line's widths. Each buffer is lent as bytes and in 16 bits, and the one of these widths is filled.
 pub fn compile(
     tag: u8,
-    text: &[u8],
+    policy: PolicyValue,
     users: &mut [u8],
     objects: &mut [u8],
     table: &mut [u8],
@@ -49,11 +50,9 @@ pub fn compile(
     wide_table: &mut [u16],
 ) -> Compiled {
     match tag {
-        b'u' | b'o' | b'g' | b'S' => labels::compile_8_8(policy_of(text), users, objects, table),
-        b'U' | b'O' | b'G' | b'Z' => {
-            labels::compile_8_16(policy_of(text), users, objects, wide_table)
-        }
-        _ => labels::compile_16_16(policy_of(text), wide_users, wide_objects, wide_table),
+        b'u' | b'o' | b'g' | b'S' => labels::compile_8_8(policy, users, objects, table),
+        b'U' | b'O' | b'G' | b'Z' => labels::compile_8_16(policy, users, objects, wide_table),
+        _ => labels::compile_16_16(policy, wide_users, wide_objects, wide_table),
     }
 }
 
@@ -68,7 +67,7 @@ pub fn compiled(tag: u8, a: &[u32; NUMBERS], n: usize, text: &[u8]) -> Found {
     let mut wide_table = [BLANK_ENTRY; ENTRIES];
     let compiled = compile(
         tag,
-        text,
+        policy_of(text),
         buffers::first(&mut users, a[2]),
         buffers::first(&mut objects, a[3]),
         buffers::first(&mut table, a[4]),
