@@ -1,17 +1,32 @@
 // Lent buffers: blank before a call, and compared after it.
 use crate::cursor;
 
-// What stands in a buffer of bytes before a call, and in one of 16-bit entries: no tuple is so large.
+// The entries of a table's and a listing's buffer: as many as a line asks for.
+pub const ENTRIES: usize = 16384;
+
+// What stands in a buffer of bytes before a call, in one of 16-bit entries and in one of 32-bit tuples: no tuple is so
+// large.
 pub const BLANK: u8 = 170;
 
 pub const BLANK_ENTRY: u16 = 65535;
+
+pub const BLANK_TUPLE: u32 = 4294967295;
 
 fn wide(x: u8) -> u32 {
     x as u32
 }
 
-pub fn wide_entry(x: u16) -> u32 {
+fn wide_entry(x: u16) -> u32 {
     x as u32
+}
+
+// A tuple of 16 bits in 32; a blank is a blank.
+fn wide_tuple(x: u16) -> u32 {
+    if x == BLANK_ENTRY {
+        BLANK_TUPLE
+    } else {
+        x as u32
+    }
 }
 
 // The first bytes of a buffer, to be lent; all where there are not so many.
@@ -23,13 +38,31 @@ pub fn first(buffer: &mut [u8], n: u32) -> &mut [u8] {
     &mut buffer[..end]
 }
 
-// The same for entries of 16 bits.
+// The same for labels, entries or tuples of 16 bits.
 pub fn first_entries(buffer: &mut [u16], n: u32) -> &mut [u16] {
     let end = n as usize;
     if buffer.len() < end {
         return buffer;
     }
     &mut buffer[..end]
+}
+
+// The same for tuples of 32 bits.
+pub fn first_tuples(buffer: &mut [u32], n: u32) -> &mut [u32] {
+    let end = n as usize;
+    if buffer.len() < end {
+        return buffer;
+    }
+    &mut buffer[..end]
+}
+
+// Copies tuples of 16 bits into a buffer of 32.
+pub fn widen(from: &[u16; ENTRIES], into: &mut [u32; ENTRIES]) {
+    let mut i = 0;
+    while i < ENTRIES {
+        into[i] = wide_tuple(from[i]);
+        i += 1;
+    }
 }
 
 // The first place, from 1, at which a buffer is not these numbers with blanks behind them; 0 where there is none.
@@ -45,7 +78,7 @@ pub fn unlike(due: &[u32], buffer: &[u8]) -> usize {
     if i < due.len() { i + 1 } else { 0 }
 }
 
-// The same for entries of 16 bits.
+// The same for labels or entries of 16 bits.
 pub fn unlike_entries(due: &[u32], buffer: &[u16]) -> usize {
     let mut i = 0;
     while i < buffer.len() {

@@ -1,6 +1,8 @@
 // Decisions: by the policy and by tuples; listings; Apart.
 use crate::buffers;
 use crate::buffers::BLANK_ENTRY;
+use crate::buffers::BLANK_TUPLE;
+use crate::buffers::ENTRIES;
 use crate::cursor;
 use crate::cursor::NUMBERS;
 use crate::found;
@@ -8,12 +10,9 @@ use crate::found::Found;
 use crate::texts::policy_of;
 use labels::Apartness;
 use labels::Witness;
-use policy::limits::MOST_TUPLES;
 use policy::refusal::number_of;
+use policy::value::PolicyValue;
 use tuples::Listing;
-
-// The most tuples.
-const PAIRS: usize = MOST_TUPLES;
 
 fn decide(text: &[u8], action: u32, user: u32, object: u32) -> u32 {
     found::of_decision(formula::decide(policy_of(text), action, user, object))
@@ -24,12 +23,24 @@ pub fn by_formula(a: &[u32; NUMBERS], text: &[u8]) -> Found {
     found::bare(decide(text, a[2], a[3], a[4]))
 }
 
-// `B`: by tuples, with the action's listing in a buffer of the most entries.
+// `B`: by tuples of 16 bits, with the action's listing in a buffer of the most entries.
 pub fn by_tuples(a: &[u32; NUMBERS], text: &[u8]) -> Found {
-    let mut buffer = [BLANK_ENTRY; PAIRS];
-    tuples::list(policy_of(text), a[2], &mut buffer);
+    let policy = policy_of(text);
+    let mut buffer = [BLANK_ENTRY; ENTRIES];
+    tuples::list_16(policy, a[2], &mut buffer);
     let count = cursor::size(a[5]);
-    let decision = tuples::decide(policy_of(text), a[3], a[4], &buffer, count);
+    let decision = tuples::decide_16(policy, a[3], a[4], &buffer, count);
+    found::bare(found::of_decision(decision))
+}
+
+// `b`: by tuples of 32 bits, in a buffer of so many entries.
+pub fn by_wide_tuples(a: &[u32; NUMBERS], text: &[u8]) -> Found {
+    let policy = policy_of(text);
+    let mut buffer = [BLANK_TUPLE; ENTRIES];
+    let lent = buffers::first_tuples(&mut buffer, a[6]);
+    tuples::list_32(policy, a[2], lent);
+    let count = cursor::size(a[5]);
+    let decision = tuples::decide_32(policy, a[3], a[4], lent, count);
     found::bare(found::of_decision(decision))
 }
 
@@ -72,18 +83,18 @@ pub fn tells(a: &[u32; NUMBERS], text: &[u8]) -> Found {
 // The first place, from 1, at which a buffer is not these runs of tuples, each as its first and last, with blanks
 // behind them; 0 where there is none. Behind the runs both ends are blank. Runs that the buffer has no places for
 // differ behind its end.
-fn unlike_runs(runs: &[u32], buffer: &[u16; PAIRS]) -> usize {
+fn unlike_runs(runs: &[u32], buffer: &[u32; ENTRIES]) -> usize {
     let mut k = 0;
-    let mut due = cursor::at(runs, 0, BLANK_ENTRY as u32);
+    let mut due = cursor::at(runs, 0, BLANK_TUPLE);
     let mut i = 0;
-    while i < PAIRS {
-        if buffers::wide_entry(buffer[i]) != due {
+    while i < ENTRIES {
+        if buffer[i] != due {
             return i + 1;
         }
         let last = std::num::wrapping_add_usize(k, 1);
-        if due == cursor::at(runs, last, BLANK_ENTRY as u32) {
+        if due == cursor::at(runs, last, BLANK_TUPLE) {
             k = std::num::wrapping_add_usize(k, 2);
-            due = cursor::at(runs, k, BLANK_ENTRY as u32);
+            due = cursor::at(runs, k, BLANK_TUPLE);
         } else {
             due = std::num::wrapping_add_u32(due, 1);
         }
@@ -92,15 +103,35 @@ fn unlike_runs(runs: &[u32], buffer: &[u16; PAIRS]) -> usize {
     if k < runs.len() { i + 1 } else { 0 }
 }
 
-// `T`: a listing.
-pub fn listed(a: &[u32; NUMBERS], n: usize, text: &[u8]) -> Found {
-    let mut buffer = [BLANK_ENTRY; PAIRS];
-    let listing = tuples::list(
+// Lists for a line's width. The buffer is lent in 16 bits and in 32, and the one of this width is filled.
+fn list(
+    tag: u8,
+    policy: PolicyValue,
+    action: u32,
+    buffer: &mut [u16],
+    wide: &mut [u32],
+) -> Listing {
+    if tag == b't' {
+        return tuples::list_32(policy, action, wide);
+    }
+    tuples::list_16(policy, action, buffer)
+}
+
+// `T`, or `t` for 32-bit tuples: a listing.
+pub fn listed(tag: u8, a: &[u32; NUMBERS], n: usize, text: &[u8]) -> Found {
+    let mut buffer = [BLANK_ENTRY; ENTRIES];
+    let mut wide = [BLANK_TUPLE; ENTRIES];
+    let listing = list(
+        tag,
         policy_of(text),
         a[2],
         buffers::first_entries(&mut buffer, a[3]),
+        buffers::first_tuples(&mut wide, a[3]),
     );
-    let place = unlike_runs(cursor::part(a, 4, n), &buffer);
+    if tag == b'T' {
+        buffers::widen(&buffer, &mut wide);
+    }
+    let place = unlike_runs(cursor::part(a, 4, n), &wide);
     match listing {
         Listing::Stored(count) => Found {
             answer: found::DONE,

@@ -32,13 +32,16 @@ fn answer(tag: u8, a: &[u32; NUMBERS], n: usize, text: &[u8]) -> Found {
         b'R' | b'Y' => texts::read(text),
         b'V' => texts::checked(text),
         b'W' => texts::written(a, text),
-        b'u' | b'o' | b'g' | b'U' | b'O' | b'G' => labelling::compiled(tag, a, n, text),
-        b'T' => decisions::listed(a, n, text),
+        b'u' | b'o' | b'g' | b'U' | b'O' | b'G' | b'v' | b'p' | b'h' => {
+            labelling::compiled(tag, a, n, text)
+        }
+        b'T' | b't' => decisions::listed(tag, a, n, text),
         b'F' => decisions::by_formula(a, text),
         b'B' => decisions::by_tuples(a, text),
+        b'b' => decisions::by_wide_tuples(a, text),
         b'P' => decisions::apart(a, text),
         b'D' => decisions::tells(a, text),
-        b'S' | b'Z' => sessions::played(tag, a, n, text),
+        b'S' | b'Z' | b'X' => sessions::played(tag, a, n, text),
         _ => found::bare(found::NO_KIND),
     }
 }

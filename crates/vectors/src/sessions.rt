@@ -2,12 +2,12 @@
 use crate::buffers;
 use crate::buffers::BLANK;
 use crate::buffers::BLANK_ENTRY;
+use crate::buffers::ENTRIES;
 use crate::cursor;
 use crate::cursor::NUMBERS;
 use crate::found;
 use crate::found::Found;
 use crate::labelling;
-use crate::labelling::PAIRS;
 use crate::labelling::SETS;
 use crate::texts::policy_of;
 use board::Board;
@@ -82,51 +82,46 @@ fn compared(ran: Ran, answers: &[u8; CALLS], a: &[u32; NUMBERS], from: usize, n:
     }
 }
 
-// Runs the calls for a line's widths. The table is lent in two buffers, and the one of these widths is looked at.
-fn run(
-    tag: u8,
-    a: &[u32; NUMBERS],
-    text: &[u8],
-    users: &mut [u8],
-    objects: &mut [u8],
-    bytes: &mut [u8],
-    wide: &mut [u16],
-    calls: &[u32],
-    answers: &mut [u8],
-) -> Ran {
+// Compiles for a line's widths, and runs the calls with parts of the buffers.
+fn run(tag: u8, a: &[u32; NUMBERS], text: &[u8], calls: &[u32], answers: &mut [u8]) -> Ran {
+    let policy = policy_of(text);
+    let mut users = [BLANK; SETS];
+    let mut objects = [BLANK; SETS];
+    let mut table = [BLANK; ENTRIES];
+    let mut wide_users = [BLANK_ENTRY; SETS];
+    let mut wide_objects = [BLANK_ENTRY; SETS];
+    let mut wide_table = [BLANK_ENTRY; ENTRIES];
+    labelling::compile(
+        tag,
+        policy,
+        &mut users,
+        &mut objects,
+        &mut table,
+        &mut wide_users,
+        &mut wide_objects,
+        &mut wide_table,
+    );
     let counts = Counts {
         users: a[2],
         objects: a[3],
     };
-    let us = buffers::first(users, a[4]);
-    let os = buffers::first(objects, a[5]);
-    if tag == b'Z' {
-        let table = buffers::first_entries(wide, a[6]);
-        return runner::run_8_16(policy_of(text), counts, us, os, table, calls, answers);
+    let us = buffers::first(&mut users, a[4]);
+    let os = buffers::first(&mut objects, a[5]);
+    let bytes = buffers::first(&mut table, a[6]);
+    let wide_us = buffers::first_entries(&mut wide_users, a[4]);
+    let wide_os = buffers::first_entries(&mut wide_objects, a[5]);
+    let wide = buffers::first_entries(&mut wide_table, a[6]);
+    match tag {
+        b'S' => runner::run_8_8(policy, counts, us, os, bytes, calls, answers),
+        b'Z' => runner::run_8_16(policy, counts, us, os, wide, calls, answers),
+        _ => runner::run_16_16(policy, counts, wide_us, wide_os, wide, calls, answers),
     }
-    let table = buffers::first(bytes, a[6]);
-    runner::run_8_8(policy_of(text), counts, us, os, table, calls, answers)
 }
 
-// `S` or `Z`: a list of calls, with parts of the compiler's buffers.
+// `S`, `Z` or `X`: a list of calls, with parts of the compiler's buffers.
 pub fn played(tag: u8, a: &[u32; NUMBERS], n: usize, text: &[u8]) -> Found {
-    let mut users = [BLANK; SETS];
-    let mut objects = [BLANK; SETS];
-    let mut bytes = [BLANK; PAIRS];
-    let mut wide = [BLANK_ENTRY; PAIRS];
-    labelling::compile(tag, text, &mut users, &mut objects, &mut bytes, &mut wide);
     let to = 8 + 4 * cursor::size(a[7]);
     let mut answers = [BLANK; CALLS];
-    let ran = run(
-        tag,
-        a,
-        text,
-        &mut users,
-        &mut objects,
-        &mut bytes,
-        &mut wide,
-        cursor::part(a, 8, to),
-        &mut answers,
-    );
+    let ran = run(tag, a, text, cursor::part(a, 8, to), &mut answers);
     compared(ran, &answers, a, to, n)
 }

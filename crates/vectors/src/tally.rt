@@ -20,10 +20,10 @@ fn kind(tag: u8) -> usize {
         b'Y' => 1,
         b'V' => 2,
         b'W' => 3,
-        b'u' | b'o' | b'g' | b'U' | b'O' | b'G' => 4,
-        b'T' => 5,
+        b'u' | b'o' | b'g' | b'U' | b'O' | b'G' | b'v' | b'p' | b'h' => 4,
+        b'T' | b't' => 5,
         b'F' => 6,
-        b'B' => 7,
+        b'B' | b'b' => 7,
         b'P' | b'D' => 8,
         _ => LISTS,
     }

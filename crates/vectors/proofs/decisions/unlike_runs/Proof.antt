@@ -1,18 +1,14 @@
 -- `vectors::decisions::unlike_runs` is safe and ends: i is a place of the buffer.
 use Prim.Native.Nat.{_-_, _≤_}
 use borrow.Author.Needs.{needs}
-use Rattle.policy.specs.Limits.{mostTuples}
 use Rattle.vectors.proofs.decisions.unlike_runs.Statement.{statement}
 use Rattle.vectors.proofs.decisions.unlike_runs.Tie as tie
 
 abbrev Inv-loop : tie.InvT-loop
-Inv-loop runs buffer k₀ due₀ i₀ k due i = i ≤ mostTuples
+Inv-loop runs buffer k₀ due₀ i₀ k due i = i ≤ 16384
 
 abbrev μ-loop : tie.MeasureT-loop
-μ-loop runs buffer k₀ due₀ i₀ k due i = mostTuples - i
-
-cast-at : tie.Need-cast-at Inv-loop μ-loop
-cast-at c = search needs
+μ-loop runs buffer k₀ due₀ i₀ k due i = 16384 - i
 
 at-requires : tie.Need-at-requires Inv-loop μ-loop
 at-requires c κs = search needs
@@ -20,14 +16,11 @@ at-requires c κs = search needs
 loop-holds : tie.Need-loop-holds Inv-loop μ-loop
 loop-holds c = search needs
 
-mul-wide-entry : tie.Need-mul-wide-entry Inv-loop μ-loop
-mul-wide-entry c = search needs
+mul-if1 : tie.Need-mul-if1 Inv-loop μ-loop
+mul-if1 c = search needs
 
-element-copy-out-wide-entry : tie.Need-element-copy-out-wide-entry Inv-loop μ-loop
-element-copy-out-wide-entry c = search needs
-
-wide-entry-requires : tie.Need-wide-entry-requires Inv-loop μ-loop
-wide-entry-requires c κs = search needs
+element-copy-out-if1 : tie.Need-element-copy-out-if1 Inv-loop μ-loop
+element-copy-out-if1 c = search needs
 
 add-result : tie.Need-add-result Inv-loop μ-loop
 add-result c = search needs
@@ -38,17 +31,11 @@ returns c = search needs
 wrapping-add-usize-requires : tie.Need-wrapping-add-usize-requires Inv-loop μ-loop
 wrapping-add-usize-requires c κs = search needs
 
-cast-at-2 : tie.Need-cast-at-2 Inv-loop μ-loop
-cast-at-2 c = search needs
-
 at-requires-2 : tie.Need-at-requires-2 Inv-loop μ-loop
 at-requires-2 c κs = search needs
 
 wrapping-add-usize-requires-2 : tie.Need-wrapping-add-usize-requires-2 Inv-loop μ-loop
 wrapping-add-usize-requires-2 c κs = search needs
-
-cast-at-3 : tie.Need-cast-at-3 Inv-loop μ-loop
-cast-at-3 c = search needs
 
 at-requires-3 : tie.Need-at-requires-3 Inv-loop μ-loop
 at-requires-3 c κs = search needs
@@ -80,19 +67,15 @@ unlike-runs-spec =
     (tie.spec
     Inv-loop
     μ-loop
-    cast-at
     at-requires
     loop-holds
-    mul-wide-entry
-    element-copy-out-wide-entry
-    wide-entry-requires
+    mul-if1
+    element-copy-out-if1
     add-result
     returns
     wrapping-add-usize-requires
-    cast-at-2
     at-requires-2
     wrapping-add-usize-requires-2
-    cast-at-3
     at-requires-3
     wrapping-add-u32-requires
     add-i
