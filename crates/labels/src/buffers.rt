@@ -147,10 +147,8 @@ pub fn store(
     requires { ⌜ (from .user ≡ true) × ((p : Policy) × RowsOf p from × ViewOf p view × LabelsOf p labels × (view .rows * view .columns ≤ gridPlaces → Kept p (now grid) view)) × (from .actions ≤ widths .entry) × (view .rows ≤ 2 ^ (widths .label)) × (view .columns ≤ 2 ^ (widths .label)) ⌝ }
     ensures { λ r. ⌜ ((v : PolicyValue) → valid v ≡ true → ownWidths (v .form) widths ≡ true → RowsOf (policyOf v) from → ViewOf (policyOf v) view → LabelsOf (policyOf v) labels → (view .rows * view .columns ≤ gridPlaces → Kept (policyOf v) (now (grid .entry)) view) → Compiles v (lentAs widths (now (users .entry)) (now (objects .entry)) (now (table .entry)) (now («wide_users» .entry)) (now («wide_objects» .entry)) (now («wide_table» .entry))) r (lentAs widths (now (users .exit)) (now (objects .exit)) (now (table .exit)) (now («wide_users» .exit)) (now («wide_objects» .exit)) (now («wide_table» .exit)))) ⌝ }
 {
-    let rows = labels.users;
-    let columns = labels.objects;
-    let nu = rows.count;
-    let no = columns.count;
+    let nu = labels.users.count;
+    let no = labels.objects.count;
     if lending::length(widths.label, users, wide_users) < view.rows {
         return Compiled::Refused(Refusal::BufferTooShort);
     }
@@ -165,9 +163,9 @@ pub fn store(
         users: nu as u32,
         objects: no as u32,
     };
-    let user_labels = rows.labels;
+    let user_labels = labels.users.labels;
     put_user_labels(widths.label, users, wide_users, &user_labels, view.rows);
-    let object_labels = columns.labels;
+    let object_labels = labels.objects.labels;
     put_object_labels(
         widths.label,
         objects,
@@ -175,8 +173,8 @@ pub fn store(
         &object_labels,
         view.columns,
     );
-    let user_leaders = rows.leaders;
-    let object_leaders = columns.leaders;
+    let user_leaders = labels.users.leaders;
+    let object_leaders = labels.objects.leaders;
     put_table(
         widths.entry,
         table,

@@ -184,11 +184,9 @@ pub fn used(policy: PolicyValue) -> Compiled
     let view = grid::view_of(sides);
     let mut entries = [0u16; PLACES];
     let labels = assign::label(&mut entries, from, view);
-    let rows = labels.users;
-    let columns = labels.objects;
     Compiled::Stored(Counts {
-        users: rows.count as u32,
-        objects: columns.count as u32,
+        users: labels.users.count as u32,
+        objects: labels.objects.count as u32,
     })
 }
 

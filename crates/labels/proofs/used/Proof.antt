@@ -42,15 +42,15 @@ label-requires c κs =
 labels-are : (c : tie.After-label) → LabelsOf (policyOf (c .before .before .before .before .before .before .before .args .policy)) (c .label .result)
 labels-are c = c .label .ensures _ (c .before .before .before .before .rows-of .ensures .1) (seen (c .before .before)) .0
 
-cast-t13 : tie.Need-cast-t13
-cast-t13 c = omega (arith, users-few (labels-are (c .before .before .before)) (seen (c .before .before .before .before .before)))
+cast-t11 : tie.Need-cast-t11
+cast-t11 c = omega (arith, users-few (labels-are (c .before)) (seen (c .before .before .before)))
 
-cast-t14 : tie.Need-cast-t14
-cast-t14 c = omega (arith, objects-few (labels-are (c .before .before .before .before)) (seen (c .before .before .before .before .before .before)))
+cast-t12 : tie.Need-cast-t12
+cast-t12 c = omega (arith, objects-few (labels-are (c .before .before)) (seen (c .before .before .before .before)))
 
 returns-2 : tie.Need-returns-2
-returns-2 c = let n = counts-are (labels-are (c .before .before .before .before)) in used-stored _ (ok (c .before .before .before .before .before .before .before .before .before)) _ (rw (n .0, n .1))
+returns-2 c = let n = counts-are (labels-are (c .before .before)) in used-stored _ (ok (c .before .before .before .before .before .before .before)) _ (rw (n .0, n .1))
 
 pub used-spec : {M : Type 1} → statement M
 used-spec =
-    tie.close (tie.spec check-requires returns rows-of-requires view-of-requires label-requires cast-t13 cast-t14 returns-2)
+    tie.close (tie.spec check-requires returns rows-of-requires view-of-requires label-requires cast-t11 cast-t12 returns-2)

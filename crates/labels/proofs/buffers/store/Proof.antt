@@ -25,20 +25,20 @@ length-requires-3 : tie.Need-length-requires-3
 length-requires-3 c κs = search needs
 
 mul-places : tie.Need-mul-places
-mul-places c = let s = c .before .before .before .before .before .before .before .before .before .before .before .before .before .before .before .before .before .before .pre .1 in omega (arith, mul-le-mul (users-few (s .3) (s .2)) (objects-few (s .3) (s .2)))
+mul-places c = let s = c .before .before .before .before .before .before .before .before .before .before .before .before .before .before .before .before .pre .1 in omega (arith, mul-le-mul (users-few (s .3) (s .2)) (objects-few (s .3) (s .2)))
 
 returns-3 : tie.Need-returns-3
 returns-3 c = λ v ok own rows w L kept. short-table v _ ok own _ _ _ w L (rw (c .before .length3 .ensures) at (c .if3 .taken))
 
-cast-t39 : tie.Need-cast-t39
-cast-t39 c = let s = c .before .before .before .before .before .before .before .before .before .before .before .before .before .before .before .before .before .before .before .before .before .before .pre .1 in omega (arith, users-few (s .3) (s .2))
+cast-t37 : tie.Need-cast-t37
+cast-t37 c = let s = c .before .before .before .before .before .before .before .before .before .before .before .before .before .before .before .before .before .before .before .before .pre .1 in omega (arith, users-few (s .3) (s .2))
 
-cast-t40 : tie.Need-cast-t40
-cast-t40 c = let s = c .before .before .before .before .before .before .before .before .before .before .before .before .before .before .before .before .before .before .before .before .before .before .pre .1 in omega (arith, objects-few (s .3) (s .2))
+cast-t38 : tie.Need-cast-t38
+cast-t38 c = let s = c .before .before .before .before .before .before .before .before .before .before .before .before .before .before .before .before .before .before .before .before .pre .1 in omega (arith, objects-few (s .3) (s .2))
 
 put-user-labels-requires : tie.Need-put-user-labels-requires
 put-user-labels-requires c κs =
-    let s = c .before .before .before .before .before .before .before .before .before .before .before .before .before .before .before .before .before .before .before .before .before .before .before .before .before .before .pre in let w = s .1 .2 in (
+    let s = c .before .before .before .before .before .before .before .before .before .before .before .before .before .before .before .before .before .before .before .before .before .before .before .before .pre in let w = s .1 .2 in (
       w .few-users,
       rw (c .before .before .before .before .before .before .before .before .before .before .before .before .before .before .before .length .ensures) at (c .before .before .before .before .before .before .before .before .before .before .before .before .before .if1 .left),
       rw (w .users) (labelled-fit _ (likeUsers-equivalence _ _) (s .1 .3 .users) (rw (← w .users) (s .3))),
@@ -46,7 +46,7 @@ put-user-labels-requires c κs =
 
 put-object-labels-requires : tie.Need-put-object-labels-requires
 put-object-labels-requires c κs =
-    let s = c .before .before .before .before .before .before .before .before .before .before .before .before .before .before .before .before .before .before .before .before .before .before .before .before .before .before .before .before .before .before .before .before .before .before .before .pre in let w = s .1 .2 in (
+    let s = c .before .before .before .before .before .before .before .before .before .before .before .before .before .before .before .before .before .before .before .before .before .before .before .before .before .before .before .before .before .before .before .before .before .pre in let w = s .1 .2 in (
       w .few-objects,
       rw (c .before .before .before .before .before .before .before .before .before .before .before .before .before .before .before .before .before .before .before .length2 .ensures) at (c .before .before .before .before .before .before .before .before .before .before .before .before .before .before .before .before .before .if2 .left),
       rw (w .objects) (labelled-fit _ (likeObjects-equivalence _ _) (s .1 .3 .objects) (rw (← w .objects) (s .4))),
@@ -54,7 +54,7 @@ put-object-labels-requires c κs =
 
 put-table-requires : tie.Need-put-table-requires
 put-table-requires c κs =
-    let s = c .before .before .before .before .before .before .before .before .before .before .before .before .before .before .before .before .before .before .before .before .before .before .before .before .before .before .before .before .before .before .before .before .before .before .before .before .before .before .before .before .before .before .before .before .before .before .before .before .pre in let w = s .1 .2 in let L = s .1 .3 in (
+    let s = c .before .before .before .before .before .before .before .before .before .before .before .before .before .before .before .before .before .before .before .before .before .before .before .before .before .before .before .before .before .before .before .before .before .before .before .before .before .before .before .before .before .before .before .before .before .before .pre in let w = s .1 .2 in let L = s .1 .3 in (
       (s .0, (s .1 .0, s .1 .1, w, s .1 .4), users-few L w, objects-few L w, rw (c .before .before .before .before .before .before .before .before .before .before .before .before .before .before .before .before .before .before .before .before .before .before .before .before .before .before .before .length3 .ensures) at (c .before .before .before .before .before .before .before .before .before .before .before .before .before .before .before .before .before .before .before .before .before .before .before .before .before .before .if3 .left), s .2),
       (rw (w .users) (labelled-leads (likeUsers-equivalence _ _) (L .users)), rw (w .objects) (labelled-leads (likeObjects-equivalence _ _) (L .objects))),
     )
@@ -142,8 +142,8 @@ store-spec =
     same-length-11
     same-length-12
     returns-3
-    cast-t39
-    cast-t40
+    cast-t37
+    cast-t38
     put-user-labels-requires
     put-object-labels-requires
     put-table-requires
