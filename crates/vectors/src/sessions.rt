@@ -84,7 +84,6 @@ fn compared(ran: Ran, answers: &[u8; CALLS], a: &[u32; NUMBERS], from: usize, n:
 
 // Compiles for a line's widths, and runs the calls with parts of the buffers.
 fn run(tag: u8, a: &[u32; NUMBERS], text: &[u8], calls: &[u32], answers: &mut [u8]) -> Ran {
-    let policy = policy_of(text);
     let mut users = [BLANK; SETS];
     let mut objects = [BLANK; SETS];
     let mut table = [BLANK; ENTRIES];
@@ -93,7 +92,7 @@ fn run(tag: u8, a: &[u32; NUMBERS], text: &[u8], calls: &[u32], answers: &mut [u
     let mut wide_table = [BLANK_ENTRY; ENTRIES];
     labelling::compile(
         tag,
-        policy,
+        text,
         &mut users,
         &mut objects,
         &mut table,
@@ -111,6 +110,7 @@ fn run(tag: u8, a: &[u32; NUMBERS], text: &[u8], calls: &[u32], answers: &mut [u
     let wide_us = buffers::first_entries(&mut wide_users, a[4]);
     let wide_os = buffers::first_entries(&mut wide_objects, a[5]);
     let wide = buffers::first_entries(&mut wide_table, a[6]);
+    let policy = policy_of(text);
     match tag {
         b'S' => runner::run_8_8(policy, counts, us, os, bytes, calls, answers),
         b'Z' => runner::run_8_16(policy, counts, us, os, wide, calls, answers),
