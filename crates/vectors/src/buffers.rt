@@ -56,6 +56,24 @@ pub fn first_tuples(buffer: &mut [u32], n: u32) -> &mut [u32] {
     &mut buffer[..end]
 }
 
+// The same of a buffer that is only read.
+pub fn lent(buffer: &[u8], n: u32) -> &[u8] {
+    let end = n as usize;
+    if buffer.len() < end {
+        return buffer;
+    }
+    &buffer[0..end]
+}
+
+// The same for labels or entries of 16 bits.
+pub fn lent_entries(buffer: &[u16], n: u32) -> &[u16] {
+    let end = n as usize;
+    if buffer.len() < end {
+        return buffer;
+    }
+    &buffer[0..end]
+}
+
 // Copies tuples of 16 bits into a buffer of 32.
 pub fn widen(from: &[u16; ENTRIES], into: &mut [u32; ENTRIES]) {
     let mut i = 0;
