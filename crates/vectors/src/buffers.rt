@@ -1,7 +1,7 @@
 // Lent buffers: blank before a call, and compared after it.
 use crate::cursor;
 
-// The entries of a table's and a listing's buffer: as many as a line asks for.
+// The most entries that a line asks for in the buffer of a table or a listing.
 pub const ENTRIES: usize = 16384;
 
 // What stands in a buffer of bytes before a call, in one of 16-bit entries and in one of 32-bit tuples: no tuple is so

@@ -22,7 +22,7 @@ pub fn by_formula(a: &[u32; NUMBERS], text: &[u8]) -> Found {
     found::bare(decide(text, a[2], a[3], a[4]))
 }
 
-// `B`: by tuples of 16 bits, with the action's listing in a buffer of the most entries.
+// `B`: by tuples of 16 bits, with the action's listing in a buffer of the most entries that a line asks for.
 pub fn by_tuples(a: &[u32; NUMBERS], text: &[u8]) -> Found {
     let policy = policy_of(text);
     let mut buffer = [BLANK_ENTRY; ENTRIES];

@@ -1,4 +1,4 @@
-// Labels: compiling into lent buffers, in each width of labels and of table entries, and what stands in them afterwards.
+// Labels: compiling into lent buffers, in each width of labels and table entries, and what stands in them afterwards.
 use crate::buffers;
 use crate::buffers::BLANK;
 use crate::buffers::BLANK_ENTRY;
@@ -56,8 +56,8 @@ pub fn compile(
     }
 }
 
-// `u`, `o` or `g`; `U`, `O` or `G` for 16-bit entries; `v`, `p` or `h` for 16-bit labels too: compiles, and looks at the
-// buffer of user labels, of object labels, or at the table.
+// `u`, `o` or `g`; `U`, `O` or `G` for 16-bit entries; `v`, `p` or `h` for 16-bit labels too: compiles, and looks at
+// the buffer of user labels, of object labels, or at the table.
 pub fn compiled(tag: u8, a: &[u32; NUMBERS], n: usize, text: &[u8]) -> Found {
     let mut users = [BLANK; SETS];
     let mut objects = [BLANK; SETS];
