@@ -1,7 +1,7 @@
 // Lent buffers: blank before a call, and compared after it.
 use crate::cursor;
 
-// The entries of a table's and a listing's buffer: as many as a line asks for.
+// The most entries that a line asks for in the buffer of a table or a listing.
 pub const ENTRIES: usize = 16384;
 
 // What stands in a buffer of bytes before a call, in one of 16-bit entries and in one of 32-bit tuples: no tuple is so
@@ -54,6 +54,24 @@ pub fn first_tuples(buffer: &mut [u32], n: u32) -> &mut [u32] {
         return buffer;
     }
     &mut buffer[..end]
+}
+
+// The same of a buffer that is only read.
+pub fn lent(buffer: &[u8], n: u32) -> &[u8] {
+    let end = n as usize;
+    if buffer.len() < end {
+        return buffer;
+    }
+    &buffer[0..end]
+}
+
+// The same for labels or entries of 16 bits.
+pub fn lent_entries(buffer: &[u16], n: u32) -> &[u16] {
+    let end = n as usize;
+    if buffer.len() < end {
+        return buffer;
+    }
+    &buffer[0..end]
 }
 
 // Copies tuples of 16 bits into a buffer of 32.

@@ -11,7 +11,6 @@ use crate::texts::policy_of;
 use labels::Apartness;
 use labels::Witness;
 use policy::refusal::number_of;
-use policy::value::PolicyValue;
 use tuples::Listing;
 
 fn decide(text: &[u8], action: u32, user: u32, object: u32) -> u32 {
@@ -23,7 +22,7 @@ pub fn by_formula(a: &[u32; NUMBERS], text: &[u8]) -> Found {
     found::bare(decide(text, a[2], a[3], a[4]))
 }
 
-// `B`: by tuples of 16 bits, with the action's listing in a buffer of the most entries.
+// `B`: by tuples of 16 bits, with the action's listing in a buffer of the most entries that a line asks for.
 pub fn by_tuples(a: &[u32; NUMBERS], text: &[u8]) -> Found {
     let policy = policy_of(text);
     let mut buffer = [BLANK_ENTRY; ENTRIES];
@@ -104,13 +103,8 @@ fn unlike_runs(runs: &[u32], buffer: &[u32; ENTRIES]) -> usize {
 }
 
 // Lists for a line's width. The buffer is lent in 16 bits and in 32, and the one of this width is filled.
-fn list(
-    tag: u8,
-    policy: PolicyValue,
-    action: u32,
-    buffer: &mut [u16],
-    wide: &mut [u32],
-) -> Listing {
+fn list(tag: u8, text: &[u8], action: u32, buffer: &mut [u16], wide: &mut [u32]) -> Listing {
+    let policy = policy_of(text);
     if tag == b't' {
         return tuples::list_32(policy, action, wide);
     }
@@ -123,7 +117,7 @@ pub fn listed(tag: u8, a: &[u32; NUMBERS], n: usize, text: &[u8]) -> Found {
     let mut wide = [BLANK_TUPLE; ENTRIES];
     let listing = list(
         tag,
-        policy_of(text),
+        text,
         a[2],
         buffers::first_entries(&mut buffer, a[3]),
         buffers::first_tuples(&mut wide, a[3]),

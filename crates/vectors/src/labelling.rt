@@ -1,4 +1,4 @@
-// Labels: compiling into lent buffers, in each width of labels and of table entries, and what stands in them afterwards.
+// Labels: compiling into lent buffers, in each width of labels and table entries, and what stands in them afterwards.
 use crate::buffers;
 use crate::buffers::BLANK;
 use crate::buffers::BLANK_ENTRY;
@@ -11,7 +11,6 @@ use crate::texts::policy_of;
 use labels::Compiled;
 use policy::limits::MOST_SETS;
 use policy::refusal::number_of;
-use policy::value::PolicyValue;
 
 // The most sets of a side.
 pub const SETS: usize = MOST_SETS;
@@ -41,7 +40,7 @@ fn counted(compiled: Compiled, tag: u8, place: usize) -> Found {
 // Compiles for a line's widths. Each buffer is lent as bytes and in 16 bits, and the one of these widths is filled.
 pub fn compile(
     tag: u8,
-    policy: PolicyValue,
+    text: &[u8],
     users: &mut [u8],
     objects: &mut [u8],
     table: &mut [u8],
@@ -49,6 +48,7 @@ pub fn compile(
     wide_objects: &mut [u16],
     wide_table: &mut [u16],
 ) -> Compiled {
+    let policy = policy_of(text);
     match tag {
         b'u' | b'o' | b'g' | b'S' => labels::compile_8_8(policy, users, objects, table),
         b'U' | b'O' | b'G' | b'Z' => labels::compile_8_16(policy, users, objects, wide_table),
@@ -56,8 +56,8 @@ pub fn compile(
     }
 }
 
-// `u`, `o` or `g`; `U`, `O` or `G` for 16-bit entries; `v`, `p` or `h` for 16-bit labels too: compiles, and looks at the
-// buffer of user labels, of object labels, or at the table.
+// `u`, `o` or `g`; `U`, `O` or `G` for 16-bit entries; `v`, `p` or `h` for 16-bit labels too: compiles, and looks at
+// the buffer of user labels, of object labels, or at the table.
 pub fn compiled(tag: u8, a: &[u32; NUMBERS], n: usize, text: &[u8]) -> Found {
     let mut users = [BLANK; SETS];
     let mut objects = [BLANK; SETS];
@@ -67,7 +67,7 @@ pub fn compiled(tag: u8, a: &[u32; NUMBERS], n: usize, text: &[u8]) -> Found {
     let mut wide_table = [BLANK_ENTRY; ENTRIES];
     let compiled = compile(
         tag,
-        policy_of(text),
+        text,
         buffers::first(&mut users, a[2]),
         buffers::first(&mut objects, a[3]),
         buffers::first(&mut table, a[4]),

@@ -82,9 +82,45 @@ fn compared(ran: Ran, answers: &[u8; CALLS], a: &[u32; NUMBERS], from: usize, n:
     }
 }
 
-// Compiles for a line's widths, and runs the calls with parts of the buffers.
-fn run(tag: u8, a: &[u32; NUMBERS], text: &[u8], calls: &[u32], answers: &mut [u8]) -> Ran {
-    let policy = policy_of(text);
+fn counts(a: &[u32; NUMBERS]) -> Counts {
+    Counts {
+        users: a[2],
+        objects: a[3],
+    }
+}
+
+// Runs the calls for a line's widths. Each buffer is lent as bytes and in 16 bits, and the one of these widths is read.
+fn run(
+    tag: u8,
+    text: &[u8],
+    counts: Counts,
+    users: &[u8],
+    objects: &[u8],
+    table: &[u8],
+    wide_users: &[u16],
+    wide_objects: &[u16],
+    wide_table: &[u16],
+    calls: &[u32],
+    answers: &mut [u8],
+) -> Ran {
+    let p = policy_of(text);
+    match tag {
+        b'S' => runner::run_8_8(p, counts, users, objects, table, calls, answers),
+        b'Z' => runner::run_8_16(p, counts, users, objects, wide_table, calls, answers),
+        _ => runner::run_16_16(
+            p,
+            counts,
+            wide_users,
+            wide_objects,
+            wide_table,
+            calls,
+            answers,
+        ),
+    }
+}
+
+// `S`, `Z` or `X`: a list of calls, with parts of the compiler's buffers.
+pub fn played(tag: u8, a: &[u32; NUMBERS], n: usize, text: &[u8]) -> Found {
     let mut users = [BLANK; SETS];
     let mut objects = [BLANK; SETS];
     let mut table = [BLANK; ENTRIES];
@@ -93,7 +129,7 @@ fn run(tag: u8, a: &[u32; NUMBERS], text: &[u8], calls: &[u32], answers: &mut [u
     let mut wide_table = [BLANK_ENTRY; ENTRIES];
     labelling::compile(
         tag,
-        policy,
+        text,
         &mut users,
         &mut objects,
         &mut table,
@@ -101,27 +137,20 @@ fn run(tag: u8, a: &[u32; NUMBERS], text: &[u8], calls: &[u32], answers: &mut [u
         &mut wide_objects,
         &mut wide_table,
     );
-    let counts = Counts {
-        users: a[2],
-        objects: a[3],
-    };
-    let us = buffers::first(&mut users, a[4]);
-    let os = buffers::first(&mut objects, a[5]);
-    let bytes = buffers::first(&mut table, a[6]);
-    let wide_us = buffers::first_entries(&mut wide_users, a[4]);
-    let wide_os = buffers::first_entries(&mut wide_objects, a[5]);
-    let wide = buffers::first_entries(&mut wide_table, a[6]);
-    match tag {
-        b'S' => runner::run_8_8(policy, counts, us, os, bytes, calls, answers),
-        b'Z' => runner::run_8_16(policy, counts, us, os, wide, calls, answers),
-        _ => runner::run_16_16(policy, counts, wide_us, wide_os, wide, calls, answers),
-    }
-}
-
-// `S`, `Z` or `X`: a list of calls, with parts of the compiler's buffers.
-pub fn played(tag: u8, a: &[u32; NUMBERS], n: usize, text: &[u8]) -> Found {
     let to = 8 + 4 * cursor::size(a[7]);
     let mut answers = [BLANK; CALLS];
-    let ran = run(tag, a, text, cursor::part(a, 8, to), &mut answers);
+    let ran = run(
+        tag,
+        text,
+        counts(a),
+        buffers::lent(&users, a[4]),
+        buffers::lent(&objects, a[5]),
+        buffers::lent(&table, a[6]),
+        buffers::lent_entries(&wide_users, a[4]),
+        buffers::lent_entries(&wide_objects, a[5]),
+        buffers::lent_entries(&wide_table, a[6]),
+        cursor::part(a, 8, to),
+        &mut answers,
+    );
     compared(ran, &answers, a, to, n)
 }
