@@ -4,7 +4,6 @@ use mathlib.Core.Path.{_≡_, refl, sym, ap, _∙_}
 use mathlib.Core.List.{[]}
 use native.Mathlib.Omega.{arith}
 use borrow.Author.Needs.{needs}
-use Rattle.policy.specs.Limits.{mostValues}
 use Rattle.policy.specs.Policy.{Policy, total}
 use Rattle.policy.specs.Value.{sideOf}
 use Rattle.policy.specs.declared.value.SideValue.{SideValue}

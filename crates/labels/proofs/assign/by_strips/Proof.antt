@@ -5,7 +5,6 @@ use native.Mathlib.Nat.{lt-of-lt-of-le}
 use native.Mathlib.Omega.{arith}
 use lib.Pow.{pow-pos}
 use borrow.Author.Needs.{needs}
-use Rattle.policy.specs.Limits.{mostSets}
 use Rattle.policy.specs.Policy.{Policy}
 use Rattle.labels.specs.Inner.Grid.{ViewOf, Labelled}
 use Rattle.labels.specs.Inner.Rows.{RowsOf, entryIn}

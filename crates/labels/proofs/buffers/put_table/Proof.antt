@@ -9,12 +9,12 @@ use lib.ListN.{length, getD, length-replicate}
 use borrow.Author.Needs.{needs}
 use Rattle.basis.proofs.Filled.{Filled, filled-none, filled-count, filled-same, filled-over, in-row, Further, further-none, further-more, further-count}
 use Rattle.policy.specs.Limits.{mostSets}
-use Rattle.policy.specs.Policy.{Policy, sets}
+use Rattle.policy.specs.Policy.{Policy}
 use Rattle.formula.specs.Truth.{at}
 use Rattle.labels.specs.Compile.{entryOf}
 use Rattle.labels.specs.Inner.Grid.{gridPlaces, ViewOf, Kept}
 use Rattle.labels.specs.Inner.Lending.{lentIn}
-use Rattle.labels.specs.Inner.Rows.{RowsOf, Stored}
+use Rattle.labels.specs.Inner.Rows.{RowsOf}
 use Rattle.labels.specs.declared.grid.View.{View}
 use Rattle.labels.specs.declared.rows.Rows.{Rows}
 use Rattle.labels.proofs.Storing.{entry-narrow}

@@ -7,9 +7,6 @@ use lib.Arith.{digits-lt}
 use lib.ListN.{length, getD, length-replicate}
 use borrow.Author.Needs.{needs}
 use Rattle.policy.specs.Limits.{mostSets}
-use Rattle.policy.specs.Policy.{Policy, sets}
-use Rattle.formula.specs.Inner.Lane.{sideAt}
-use Rattle.labels.specs.Inner.Rows.{RowsOf, entryIn}
 use Rattle.labels.specs.Inner.Grid.{gridPlaces}
 use Rattle.labels.proofs.Grids.{Entered, entered-more, entered-count, entered-at}
 use Rattle.labels.proofs.grid.fill.Statement.{statement}

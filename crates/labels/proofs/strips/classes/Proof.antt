@@ -8,7 +8,6 @@ use native.Mathlib.Omega.{arith}
 use lib.Arith.{digits-lt}
 use lib.ListN.{length, getD}
 use borrow.Author.Needs.{needs}
-use Rattle.policy.specs.Limits.{mostSets}
 use Rattle.policy.specs.Policy.{Policy, sets}
 use Rattle.formula.specs.Inner.Lane.{sideAt}
 use Rattle.labels.specs.Rows.{rowsAlike}

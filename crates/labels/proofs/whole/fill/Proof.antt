@@ -24,7 +24,7 @@ use Rattle.formula.specs.declared.blocks.Block.{Block}
 use Rattle.formula.specs.declared.grant.Grants.{Grants}
 use Rattle.formula.proofs.Numbering.{block-part, side-blocks}
 use Rattle.labels.specs.Compile.{entryOf}
-use Rattle.labels.specs.Inner.Grid.{gridPlaces, ViewOf}
+use Rattle.labels.specs.Inner.Grid.{gridPlaces}
 use Rattle.labels.specs.Inner.Rows.{RowsOf}
 use Rattle.labels.proofs.Entries.{lane-entry}
 use Rattle.labels.proofs.Grids.{row-place}
