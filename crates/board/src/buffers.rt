@@ -3,9 +3,11 @@
 ghost use mathlib.Core.Path.{_≡_};
 ghost use Rattle.formula.specs.Truth.{at};
 ghost use Rattle.labels.specs.Inner.Lending.{lentIn, lentAs};
-ghost use Rattle.board.specs.Board.{labelsOf, replyOf};
+ghost use Rattle.board.specs.Board.{labelsOf, replyOf, outOf};
 ghost use Rattle.board.specs.Inner.{askedOf, answered, readOf, userOf, objectOf, readAt, lookedUp};
 use crate::Answer;
+use crate::Board;
+use crate::Step;
 use crate::asking::Asked;
 use labels::Counts;
 use labels::ObjectLabel;
@@ -118,7 +120,7 @@ fn look_up(
 }
 
 // The answer to a request: what the labels of its two sets say, or why it is refused.
-pub fn answer(
+fn answer(
     counts: Counts,
     widths: Widths,
     users: &[u8],
@@ -148,4 +150,35 @@ pub fn answer(
         ),
         Asked::Refused(why) => Answer::Refused(why),
     }
+}
+
+// The step of a request: what its labels say, or why it is refused. The board stays.
+pub fn answered(
+    board: Board,
+    counts: Counts,
+    widths: Widths,
+    users: &[u8],
+    objects: &[u8],
+    table: &[u8],
+    wide_users: &[u16],
+    wide_objects: &[u16],
+    wide_table: &[u16],
+    action: u32,
+    asked: Asked,
+) -> Step
+    ensures { λ r. ⌜ outOf r ≡ record { reply = answered (labelsOf counts (lentAs widths (now (users .entry)) (now (objects .entry)) (now (table .entry)) (now («wide_users» .entry)) (now («wide_objects» .entry)) (now («wide_table» .entry)))) action (askedOf asked); state = board } ⌝ }
+{
+    let answer = answer(
+        counts,
+        widths,
+        users,
+        objects,
+        table,
+        wide_users,
+        wide_objects,
+        wide_table,
+        action,
+        asked,
+    );
+    Step { answer, board }
 }

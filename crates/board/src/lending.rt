@@ -1,65 +1,15 @@
 // Calls that are lent buffers in either width: of the two of each, the one of the widths that the call is made for.
 ghost use mathlib.Core.Path.{_≡_};
 ghost use Rattle.labels.specs.Inner.Lending.{lentAs};
-ghost use Rattle.board.specs.Machine.{requests};
 ghost use Rattle.board.specs.Board.{labelsOf, callOf, outOf, boardStep};
 use crate::Board;
 use crate::Call;
 use crate::Step;
 use crate::asking;
 use crate::buffers;
-use crate::fit;
-use crate::steps;
 use labels::Counts;
-use policy::limits;
 use policy::limits::Widths;
 use policy::value::PolicyValue;
-
-// A request: what it comes to, and then what the labels say. The board stays.
-pub fn request(
-    board: Board,
-    policy: PolicyValue,
-    counts: Counts,
-    widths: Widths,
-    users: &[u8],
-    objects: &[u8],
-    table: &[u8],
-    wide_users: &[u16],
-    wide_objects: &[u16],
-    wide_table: &[u16],
-    session: u32,
-    action: u32,
-    object: u32,
-) -> Step
-    ensures { λ r. ⌜ outOf r ≡ boardStep policy (labelsOf counts (lentAs widths (now (users .entry)) (now (objects .entry)) (now (table .entry)) (now («wide_users» .entry)) (now («wide_objects» .entry)) (now («wide_table» .entry)))) (requests session action object) board ⌝ }
-{
-    if !limits::own_widths(policy.form, widths) {
-        return steps::invalid(board);
-    }
-    if !fit::fits(policy, board) {
-        return steps::invalid(board);
-    }
-    let sessions = board.sessions;
-    let registered = policy.objects;
-    let actions = limits::actions(policy.form);
-    let asked = asking::ask(sessions, registered, actions, session, action, object);
-    let answer = buffers::answer(
-        counts,
-        widths,
-        users,
-        objects,
-        table,
-        wide_users,
-        wide_objects,
-        wide_table,
-        action,
-        asked,
-    );
-    Step {
-        answer: answer,
-        board: board,
-    }
-}
 
 // One call, by its case.
 pub fn take(
@@ -82,20 +32,21 @@ pub fn take(
         Call::Add(user, session, set) => crate::add(board, policy, user, session, set),
         Call::Drop(user, session, set) => crate::drop(board, policy, user, session, set),
         Call::Close(user, session) => crate::close(board, policy, user, session),
-        Call::Request(session, action, object) => request(
-            board,
-            policy,
-            counts,
-            widths,
-            users,
-            objects,
-            table,
-            wide_users,
-            wide_objects,
-            wide_table,
-            session,
-            action,
-            object,
-        ),
+        Call::Request(session, action, object) => {
+            let asked = asking::of(board, policy, widths, session, action, object);
+            buffers::answered(
+                board,
+                counts,
+                widths,
+                users,
+                objects,
+                table,
+                wide_users,
+                wide_objects,
+                wide_table,
+                action,
+                asked,
+            )
+        }
     }
 }

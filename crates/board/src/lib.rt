@@ -188,9 +188,9 @@ pub fn request_8_8(
     ensures { λ r. ⌜ outOf r ≡ boardStep policy (labelsOf counts (lent (bits 8 8) (now (users .entry)) (now (objects .entry)) (now (table .entry)))) (requests session action object) board ⌝ }
 {
     let none = [0u16; 0];
-    lending::request(
+    let asked = asking::of(board, policy, limits::WIDTHS_8_8, session, action, object);
+    buffers::answered(
         board,
-        policy,
         counts,
         limits::WIDTHS_8_8,
         users,
@@ -199,9 +199,8 @@ pub fn request_8_8(
         &none,
         &none,
         &none,
-        session,
         action,
-        object,
+        asked,
     )
 }
 
@@ -221,9 +220,9 @@ pub fn request_8_16(
 {
     let no_table = [0u8; 0];
     let no_labels = [0u16; 0];
-    lending::request(
+    let asked = asking::of(board, policy, limits::WIDTHS_8_16, session, action, object);
+    buffers::answered(
         board,
-        policy,
         counts,
         limits::WIDTHS_8_16,
         users,
@@ -232,9 +231,8 @@ pub fn request_8_16(
         &no_labels,
         &no_labels,
         table,
-        session,
         action,
-        object,
+        asked,
     )
 }
 
@@ -253,9 +251,9 @@ pub fn request_16_16(
     ensures { λ r. ⌜ outOf r ≡ boardStep policy (labelsOf counts (lent (bits 16 16) (now (users .entry)) (now (objects .entry)) (now (table .entry)))) (requests session action object) board ⌝ }
 {
     let none = [0u8; 0];
-    lending::request(
+    let asked = asking::of(board, policy, limits::WIDTHS_16_16, session, action, object);
+    buffers::answered(
         board,
-        policy,
         counts,
         limits::WIDTHS_16_16,
         &none,
@@ -264,8 +262,7 @@ pub fn request_16_16(
         users,
         objects,
         table,
-        session,
         action,
-        object,
+        asked,
     )
 }

@@ -1,6 +1,6 @@
 -- What rules say of an action, going from one to the next.
 use Prim.Native.Nat.{ℕ, _+_, _≤_, _<_}
-use mathlib.Core.Path.{_≡_, refl, sym, ap, _∙_, subst}
+use mathlib.Core.Path.{_≡_, refl, sym, _∙_, subst}
 use mathlib.Core.Bool.{Bool, true, false, cond}
 use mathlib.Core.List.{List, [], _∷_, map, List·Memᴰ, List·Memᴰ·head, List·Memᴰ·tail}
 use mathlib.Core.Option.{Option, some}
@@ -8,7 +8,7 @@ use native.Mathlib.Nat.{lt-of-lt-of-le}
 use native.Mathlib.Decide.{ℕ-discrete}
 use native.Mathlib.Omega.{arith}
 use lib.Dec.{eqb}
-use lib.ListN.{length, getD, set, take, drop, replicate, getD-replicate}
+use lib.ListN.{length, getD, set, take, drop}
 use lib.Seq.{getD-set-same, getD-set-other}
 use borrow.Author.Tests.{eq-eqb, ne-eqb}
 use Rattle.basis.specs.Choice.{given, there}
@@ -26,7 +26,9 @@ use Rattle.policy.proofs.Forms.{actions-most}
 use Rattle.formula.specs.Truth.{Sets, run, truth}
 use Rattle.formula.specs.Inner.Fits.{RuleFits, RulesFit}
 use Rattle.formula.specs.Inner.Grant.{ruleTrue, GrantsOf}
+use Rattle.formula.specs.Inner.Lane.{inBlock, Placed}
 use Rattle.formula.specs.declared.grant.Grants.{Grants}
+use Rattle.formula.proofs.Placing.{placed-seen}
 
 -- ---- rules
 
@@ -111,13 +113,13 @@ rules-placed p g x =
       each = λ r m. let f = x .fit .each r m in record { action = lt-of-lt-of-le (f .action) (actions-most (p .form)); words = f .words };
     }
 
--- in lane k the vectors of all actions say what the formulas of these rules say
-abbrev pub Says : Policy → Sets → List RuleValue → List ℕ → ℕ → Type 0
-Says p s rs vectors k = (a : ℕ) → a < mostActions → has (getD vectors a 0) k ≡ outcome p s rs a
+-- in lane k the numbers of all actions say what the formulas of these rules say
+abbrev pub Says : Policy → Sets → List RuleValue → (ℕ → ℕ) → ℕ → Type 0
+Says p s rs granted k = (a : ℕ) → a < mostActions → has (granted a) k ≡ outcome p s rs a
 
-pub says-none : (p : Policy) (s : Sets) (k : ℕ) → Says p s [] (replicate mostActions 0) k
+pub says-none : (p : Policy) (s : Sets) (granted : ℕ → ℕ) (k : ℕ) → ((a : ℕ) → a < mostActions → granted a ≡ 0) → Says p s [] granted k
 unfolding outcome formulaIn
-says-none p s k a h = rw (getD-replicate {A = ℕ} mostActions a 0 0 h) (has-zero k)
+says-none p s granted k e a h = rw (e a h) (has-zero k)
 
 -- a place set, seen at every place
 pub set-seen : (P : ℕ → ℕ → Type 0) (xs : List ℕ) (i x : ℕ) → i < length xs → P i x
@@ -129,12 +131,11 @@ set-seen P xs i x l new old a =
     ]
 
 -- one rule more, before the others, takes the place of its action
-pub says-next : (p : Policy) (s : Sets) (rs : List RuleValue) (n i : ℕ) → i < n → n ≤ length rs → RuleFits mostActions (getD rs i noWords)
-    → (vectors : List ℕ) (x k : ℕ) → length vectors ≡ mostActions
-    → has x k ≡ ruleTrue p (getD rs i noWords) s
-    → Says p s (drop (i + 1) (take n rs)) vectors k → Says p s (drop i (take n rs)) (set vectors (getD rs i noWords .action) x) k
-says-next p s rs n i h l f vectors x k m e old =
-    let r = getD rs i noWords in
-    set-seen (λ a y. a < mostActions → has y k ≡ outcome p s (drop i (take n rs)) a) vectors (r .action) x (omega (arith, f .action, m))
-    (λ b. e ∙ outcome-found p s rs n i (r .action) h l refl)
-    (λ a q b. old a b ∙ outcome-passed p s rs n i a h l q)
+pub says-next : (p : Policy) (s : Sets) (rs : List RuleValue) (m i : ℕ) → i < m → m ≤ length rs
+    → (k : ℕ) {n b : ℕ} {P : ℕ → ℕ → Type 0} {old new : List ℕ} → let r = getD rs i noWords in
+    Placed n (r .action) P old new → b < n → has (inBlock new n b (r .action)) k ≡ ruleTrue p r s
+    → Says p s (drop (i + 1) (take m rs)) (inBlock old n b) k → Says p s (drop i (take m rs)) (inBlock new n b) k
+says-next p s rs m i h l k x g e old =
+    placed-seen (λ a y. a < mostActions → has y k ≡ outcome p s (drop i (take m rs)) a) x g
+    (λ b. e ∙ outcome-found p s rs m i (getD rs i noWords .action) h l refl)
+    (λ a q b. old a b ∙ outcome-passed p s rs m i a h l q)

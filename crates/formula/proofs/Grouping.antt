@@ -2,12 +2,12 @@
 use Prim.Native.Nat.{ℕ, zero, suc, _+_, _*_, _^_, _%_, _≤_, _<_}
 use mathlib.Core.Path.{_≡_, ap, ap₂, _∙_}
 use mathlib.Core.Bool.{Bool, true, false, cond}
-use native.Mathlib.Nat.{one-mul, pow-suc, add-zero, zero-add}
+use native.Mathlib.Nat.{add-zero, zero-add}
 use native.Mathlib.Numerals.{add-one}
 use native.Mathlib.Omega.{arith}
 use native.Mathlib.Decide.{decLe}
-use lib.Dec.{leb, lit<, lit≤}
-use lib.Pow.{pow-mono, pow-add, shl-exact}
+use lib.Dec.{leb, lit≤}
+use lib.Pow.{pow-add, shl-exact}
 use borrow.Author.Tests.{le-leb, lt-leb}
 use Rattle.sets.specs.Set.{setOf}
 use Rattle.sets.proofs.Laws.{setOf-lt, setOf-same}
@@ -15,13 +15,7 @@ use Rattle.policy.specs.Limits.{mostActions}
 use Rattle.formula.specs.Inner.Group.{groupSize, grouped}
 use Rattle.formula.specs.Inner.Lane.{entryBits}
 
-pub bit-fits : (f : ℕ → Bool) (a : ℕ) → a < groupSize → setOf f a + 2 ^ a < 2 ^ entryBits
-bit-fits f a h = let l : suc a ≤ entryBits = omega arith in omega (arith, setOf-lt f a, pow-suc 2 a, pow-mono l)
-
-pub bit-shifted : (a : ℕ) → a < groupSize → (1 * 2 ^ a) % 2 ^ entryBits ≡ 2 ^ a
-bit-shifted a h = shl-exact 1 a entryBits (lit< tt) (omega arith) ∙ one-mul (2 ^ a)
-
-pub setOf-next : (f : ℕ → Bool) (a : ℕ) → setOf f (a + 1) ≡ setOf f a + cond (f a) (2 ^ a) 0
+setOf-next : (f : ℕ → Bool) (a : ℕ) → setOf f (a + 1) ≡ setOf f a + cond (f a) (2 ^ a) 0
 unfolding setOf
 setOf-next f a = rw (add-one a)
 
@@ -55,9 +49,6 @@ module _ (f : ℕ → Bool) {low high : ℕ} (ql : low ≡ setOf (λ a. f (0 + a
 
   joined : low + (high * 2 ^ groupSize) % 2 ^ entryBits ≡ setOf f mostActions
   joined = ap₂ (λ (x y : ℕ). x + y) (first-group f ql) (shifted ∙ ap (λ (x : ℕ). x * 2 ^ groupSize) qh) ∙ setOf-join f groupSize groupSize
-
-  pub joined-fits : low + (high * 2 ^ groupSize) % 2 ^ entryBits < 2 ^ entryBits
-  joined-fits = omega (arith, joined, setOf-lt f mostActions)
 
   -- more actions
   pub two-groups : (n : ℕ) → groupSize < n → low + (high * 2 ^ groupSize) % 2 ^ entryBits ≡ setOf f (grouped n)

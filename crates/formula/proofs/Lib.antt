@@ -1,8 +1,10 @@
 pub mod Widths
 pub mod Vectors
+pub mod Placing
 pub mod Stack
 pub mod Granting
 pub mod Grouping
+pub mod Squares
 pub mod Pairing
 pub mod Numbering
 pub mod Checked

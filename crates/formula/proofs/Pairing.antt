@@ -1,7 +1,7 @@
 -- Pairs: going from one to the next, the vectors of all actions gain what each pair grants; those of an action, picked
 -- out.
 use Prim.Native.Nat.{ℕ, zero, suc, _+_, _^_, _≤_, _<_}
-use mathlib.Core.Path.{_≡_, refl, sym, _∙_, subst}
+use mathlib.Core.Path.{_≡_, refl, sym, _∙_}
 use mathlib.Core.Bool.{Bool, true, false, _&&_, _||_, and-false, or-false, or-assoc, false≢true}
 use mathlib.Core.List.{List, [], _∷_, List·Memᴰ, List·Memᴰ·head, List·Memᴰ·tail}
 use mathlib.Core.Logic.{⊎-elim}
@@ -31,7 +31,9 @@ use Rattle.policy.specs.declared.value.Pairs.{Pairs}
 use Rattle.formula.specs.Truth.{Sets, holds, truth, formulaTrue, pairHolds, pairTrue, grants}
 use Rattle.formula.specs.Inner.Fits.{PairFits, PairsFit}
 use Rattle.formula.specs.Inner.Grant.{some, partnerHeld, pairedAt, Paired, GrantsOf}
+use Rattle.formula.specs.Inner.Lane.{inBlock, Placed}
 use Rattle.formula.specs.declared.grant.Grants.{Grants}
+use Rattle.formula.proofs.Placing.{placed-seen}
 use Rattle.formula.proofs.Granting.{set-seen, outcome-all, outcome-past}
 
 -- what holds of each pair before the count, at a place
@@ -50,9 +52,9 @@ module _ (f : Pair → Bool) (xs : List Pair) (n i : ℕ) (h : i < n) (l : n ≤
   here = getD xs i (pair 0 0 0)
 
   -- the pair at place i is tested in one more number
-  pub later-more : (x y k : ℕ) → has y k ≡ f here → OrLater f xs n (i + 1) (bitOr x y) k ≡ OrLater f xs n i x k
+  pub later-more : (x y k : ℕ) → has y k ≡ (has x k || f here) → OrLater f xs n (i + 1) y k ≡ OrLater f xs n i x k
   unfolding any
-  later-more x y k e = rw (part-next (pair 0 0 0) xs i n h l, has-union x y k, e) (or-assoc (has x k) (f here) (any f (drop (i + 1) (take n xs))))
+  later-more x y k e = rw (part-next (pair 0 0 0) xs i n h l, e) (or-assoc (has x k) (f here) (any f (drop (i + 1) (take n xs))))
 
   -- or the test does not pass there
   pub later-passed : (x k : ℕ) → f here ≡ false → OrLater f xs n (i + 1) x k ≡ OrLater f xs n i x k
@@ -67,21 +69,22 @@ pub grants-stored : (p : Policy) (s : Sets) (g : Grants) (a : ℕ) → GrantsOf 
 unfolding grants formulaTrue pairTrue
 grants-stored p s g a x = rw (x .rules, x .pairs)
 
--- in lane k the vectors of all actions, with the pairs from place i on, say so
-abbrev pub Leads : Policy → Sets → List Pair → ℕ → ℕ → List ℕ → ℕ → (ℕ → Bool) → Type 0
-Leads p s xs n i vectors k so =
-    (a : ℕ) → a < mostActions → OrLater (λ x. eqb (x .action) a && pairHolds p s x) xs n i (getD vectors a 0) k ≡ so a
+-- in lane k the numbers of all actions, with the pairs from place i on, say so
+abbrev pub Leads : Policy → Sets → List Pair → ℕ → ℕ → (ℕ → ℕ) → ℕ → (ℕ → Bool) → Type 0
+Leads p s xs n i granted k so =
+    (a : ℕ) → a < mostActions → OrLater (λ x. eqb (x .action) a && pairHolds p s x) xs n i (granted a) k ≡ so a
 
-pub leads-next : (p : Policy) (s : Sets) (xs : List Pair) (n i : ℕ) → i < n → n ≤ length xs → getD xs i (pair 0 0 0) .action < mostActions
-    → (vectors : List ℕ) (y k : ℕ) → length vectors ≡ mostActions → has y k ≡ pairHolds p s (getD xs i (pair 0 0 0))
-    → (so : ℕ → Bool) → Leads p s xs n i vectors k so
-    → let a = getD xs i (pair 0 0 0) .action in Leads p s xs n (i + 1) (set vectors a (bitOr (getD vectors a 0) y)) k so
-leads-next p s xs n i h l f vectors y k m e so old =
+-- the action of the pair at place i gains what the pair grants
+pub leads-next : (p : Policy) (s : Sets) (xs : List Pair) (m i : ℕ) → i < m → m ≤ length xs
+    → (k : ℕ) {n b : ℕ} {P : ℕ → ℕ → Type 0} {old new : List ℕ} → let x = getD xs i (pair 0 0 0) in
+    Placed n (x .action) P old new → b < n → has (inBlock new n b (x .action)) k ≡ (has (inBlock old n b (x .action)) k || pairHolds p s x)
+    → (so : ℕ → Bool) → Leads p s xs m i (inBlock old n b) k so → Leads p s xs m (i + 1) (inBlock new n b) k so
+leads-next p s xs m i h l k {n} {b} {old = old} {new} z g e so lead =
     let x = getD xs i (pair 0 0 0) in
-    let is : ℕ → Pair → Bool = λ a z. eqb (z .action) a && pairHolds p s z in
-    set-seen (λ a z. a < mostActions → OrLater (is a) xs n (i + 1) z k ≡ so a) vectors (x .action) _ (omega (arith, m))
-    (λ b. later-more (is (x .action)) xs n i h l (getD vectors (x .action) 0) y k (rw (eq-eqb (x .action) (x .action) refl) e) ∙ old (x .action) b)
-    (λ a q b. later-passed (is a) xs n i h l (getD vectors a 0) k (rw (ne-eqb (x .action) a q)) ∙ old a b)
+    let is : ℕ → Pair → Bool = λ a y. eqb (y .action) a && pairHolds p s y in
+    placed-seen (λ a y. a < mostActions → OrLater (is a) xs m (i + 1) y k ≡ so a) z g
+    (λ f. later-more (is (x .action)) xs m i h l (inBlock old n b (x .action)) (inBlock new n b (x .action)) k (e ∙ rw (eq-eqb (x .action) (x .action) refl)) ∙ lead (x .action) f)
+    (λ a q f. later-passed (is a) xs m i h l (inBlock old n b a) k (rw (ne-eqb (x .action) a q)) ∙ lead a f)
 
 -- ---- no other action
 
@@ -132,6 +135,42 @@ pub some-next : (f : ℕ → Bool) (n : ℕ) → some f (n + 1) ≡ (some f n ||
 unfolding some
 some-next f n = rw (add-one n)
 
+-- one number more
+module _ (f : ℕ → Bool) (n : ℕ) where
+  pub some-more : {a : Bool} (b : Bool) → a ≡ (b || some f n) → (a || f n) ≡ (b || some f (n + 1))
+  some-more b e = rw (e, some-next f n) (or-assoc b (some f n) (f n))
+
+  pub some-passed : (b : Bool) → f n ≡ false → (b || some f n) ≡ (b || some f (n + 1))
+  some-passed b e = rw (some-next f n, e, or-false (some f n))
+
+pub or-none : (b : Bool) (f : ℕ → Bool) → b ≡ (b || some f 0)
+unfolding some
+or-none b f = sym (or-false b)
+
+-- the user value is held and one of the object values before w, and then w too
+module _ (p : Policy) (s : Sets) (v set : ℕ) where
+  abbrev before : ℕ → Bool
+  before = some (λ u. has set u && holds p s (Object u))
+
+  pub partner-none : (b : Bool) → b ≡ (b || (holds p s (User v) && before 0))
+  unfolding some
+  partner-none b = rw (and-false (holds p s (User v))) (sym (or-false b))
+
+  module _ (w : ℕ) where
+    pub partner-held : {a : Bool} (b : Bool) → has set w ≡ true → a ≡ (b || (holds p s (User v) && before w))
+        → (a || (holds p s (User v) && holds p s (Object w))) ≡ (b || (holds p s (User v) && before (w + 1)))
+    partner-held b h e =
+        rw (e, some-next (λ u. has set u && holds p s (Object u)) w, h) (spread b (holds p s (User v)) (before w) (holds p s (Object w)))
+      where
+        spread : (b x y z : Bool) → ((b || (x && y)) || (x && z)) ≡ (b || (x && (y || z)))
+        spread true x y z = refl
+        spread false true y z = refl
+        spread false false y z = refl
+
+    pub partner-passed : (b : Bool) → has set w ≡ false
+        → (b || (holds p s (User v) && before w)) ≡ (b || (holds p s (User v) && before (w + 1)))
+    partner-passed b h = rw (some-next (λ u. has set u && holds p s (Object u)) w, h, or-false (before w))
+
 pub none-held : (p : Policy) (s : Sets) → partnerHeld p s 0 ≡ false
 none-held p s =
     fails (partnerHeld p s 0)
@@ -156,8 +195,8 @@ module _ (a : ℕ) (xs : List Pair) (n i : ℕ) (h : i < n) (l : n ≤ length xs
       → PairedTo a xs n (i + 1) (set paired (next .user) (bitOr (getD paired (next .user) 0) y))
   paired-own e g y q v w j m =
       set-seen (λ u z. u < mostValues → OrLater (isAt a u w) xs n (i + 1) z w ≡ any (isAt a u w) (take n xs)) paired (next .user) _ g
-      (λ k. later-more (isAt a (next .user) w) xs n i h l (getD paired (next .user) 0) y w
-      (rw (q, has-one (next .object) w, eq-eqb (next .action) a e, eq-eqb (next .user) (next .user) refl)) ∙ b (next .user) w k m)
+      (λ k. later-more (isAt a (next .user) w) xs n i h l (getD paired (next .user) 0) _ w
+      (has-union (getD paired (next .user) 0) y w ∙ rw (q, has-one (next .object) w, eq-eqb (next .action) a e, eq-eqb (next .user) (next .user) refl)) ∙ b (next .user) w k m)
       (λ u z k. later-passed (isAt a u w) xs n i h l (getD paired u 0) w (rw (ne-eqb (next .user) u z, and-false)) ∙ b u w k m)
       v j
 

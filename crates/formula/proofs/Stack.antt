@@ -1,52 +1,66 @@
 -- A stack of vectors is a stack of truth values in each lane, running one word more is a step, and a false below an
 -- empty stack changes nothing.
-use Prim.Native.Nat.{ℕ, zero, suc, _+_, _-_, _≤_, _<_}
+use Prim.Native.Nat.{ℕ, zero, suc, _+_, _<_}
 use mathlib.Core.Path.{_≡_, refl, sym, ap, ap₂, _∙_}
 use mathlib.Core.Bool.{Bool, false, not, _&&_, _||_}
 use mathlib.Core.List.{List, [], _∷_}
 use native.Mathlib.Omega.{arith}
 use native.Mathlib.Numerals.{add-one}
-use lib.ListN.{length, getD, set}
-use lib.Seq.{getD-set-other}
+use lib.ListN.{length, getD}
 use Rattle.sets.specs.Set.{has}
-use Rattle.sets.proofs.Laws.{has-zero}
 use Rattle.words.specs.Word.{numbered}
 use Rattle.words.specs.declared.Word.{Word}
 use Rattle.words.specs.declared.Word.the-variants.{True, False, Holds, Compares, Not, And, Or}
 use Rattle.policy.specs.Policy.{Policy}
 use Rattle.policy.specs.Value.{wordsIn}
 use Rattle.formula.specs.Truth.{Sets, top, below, step, run, truth}
-use Rattle.formula.specs.Inner.Lane.{column}
+use Rattle.formula.specs.Inner.Lane.{inBlock, Placed, combined, column}
 
-column-set : (st : List ℕ) (n x d k : ℕ) → d ≤ n → column (set st n x) d k ≡ column st d k
+-- the lowest d places are the same
+pub column-same : (f g : ℕ → ℕ) (d k : ℕ) → ((i : ℕ) → i < d → f i ≡ g i) → column f d k ≡ column g d k
 unfolding column
-column-set st n x zero k h = refl
-column-set st n x (suc d) k h =
-    ap₂ (λ (y : ℕ) (l : List Bool). has y k ∷ l) (getD-set-other st n d x 0 (omega arith)) (column-set st n x d k (omega arith))
+column-same f g zero k e = refl
+column-same f g (suc d) k e = ap₂ (λ (y : ℕ) (l : List Bool). has y k ∷ l) (e d (omega arith)) (column-same f g d k (λ i h. e i (omega arith)))
 
--- a top that is stored lies below the next one
-pub column-over : (st : List ℕ) (d x k : ℕ) → getD st d 0 ≡ x → column st (d + 1) k ≡ has x k ∷ column st d k
+-- the top, and what lies below it
+pub column-top : (f : ℕ → ℕ) (d k : ℕ) → column f (d + 1) k ≡ has (f d) k ∷ column f d k
 unfolding column
-column-over st d x k e = rw (add-one d) (ap (λ (y : ℕ). has y k ∷ column st d k) e)
+column-top f d k = rw (add-one d)
 
-module _ (st : List ℕ) where
-  pub top-none : (d k : ℕ) → d ≡ 0 → has 0 k ≡ top (column st d k)
-  unfolding column
-  top-none d k e = rw e (has-zero k)
+module _ (n b i : ℕ) {P : ℕ → ℕ → Type 0} {old new : List ℕ} (x : Placed n i P old new) (h : b < n) where
+  -- what is put on place i lies on the places below it
+  pub column-put : (k : ℕ) → column (inBlock new n b) (i + 1) k ≡ has (inBlock new n b i) k ∷ column (inBlock old n b) i k
+  column-put k =
+      column-top (inBlock new n b) i k
+      ∙ ap (λ (l : List Bool). has (inBlock new n b i) k ∷ l) (column-same (inBlock new n b) (inBlock old n b) i k (λ j l. x .kept b j h (λ e. omega arith)))
 
-  pub top-some : (d k : ℕ) → (d ≡ 0 → ⊥) → has (getD st (d - 1) 0) k ≡ top (column st d k)
-  unfolding column
-  top-some zero k e = absurd (e refl)
-  top-some (suc d) k e = let q : suc d - 1 ≡ d = omega arith in rw q
+-- ---- top and below
 
-  pub below-none : (d k : ℕ) → d ≡ 0 → column st 0 k ≡ below (column st d k)
-  unfolding column
-  below-none d k e = rw e
+module _ (f : ℕ → ℕ) (d k : ℕ) where
+  pub top-on : top (column f (d + 1) k) ≡ has (f d) k
+  top-on = rw (column-top f d k)
 
-  pub below-some : (d k : ℕ) → (d ≡ 0 → ⊥) → column st (d - 1) k ≡ below (column st d k)
+  pub below-on : below (column f (d + 1) k) ≡ column f d k
+  below-on = rw (column-top f d k)
+
+-- ---- two taken together
+
+-- the two upper truth values of a stack taken together
+abbrev pub taken : Bool → List Bool → List Bool
+taken both bs = combined both (top (below bs)) (top bs) ∷ below (below bs)
+
+module _ (f g : ℕ → ℕ) (d k : ℕ) (both : Bool) where
+  -- nothing lies below the lowest place
+  pub taken-lowest : d ≡ 0 → has (g 0) k ≡ combined both false (has (f 0) k) → column g (0 + 1) k ≡ taken both (column f (d + 1) k)
   unfolding column
-  below-some zero k e = absurd (e refl)
-  below-some (suc d) k e = let q : suc d - 1 ≡ d = omega arith in rw q
+  taken-lowest q e = rw q (ap (λ (b : Bool). b ∷ []) e)
+
+  pub taken-lower : (e : ℕ) → d ≡ e + 1 → has (g e) k ≡ combined both (has (f e) k) (has (f (e + 1)) k) → ((i : ℕ) → i < e → g i ≡ f i)
+      → column g (e + 1) k ≡ taken both (column f (d + 1) k)
+  taken-lower e q h same =
+      rw q (
+      column-top g e k ∙ ap₂ (λ (b : Bool) (l : List Bool). b ∷ l) h (column-same g f e k same)
+      ∙ sym (rw (top-on f (e + 1) k, below-on f (e + 1) k, top-on f e k, below-on f e k)))
 
 -- ---- one word more
 
@@ -59,15 +73,10 @@ module _ (p : Policy) (s : Sets) where
   run-next (n ∷ ns) (suc i) bs h =
       let e : suc i + 1 ≡ suc (i + 1) = omega arith in rw e (run-next ns i (step p s (numbered n) bs) (omega arith))
 
-  -- a lane in which top and stack were what i words leave, after the next word
-  pub column-next : (ns st : List ℕ) (k i d e t x : ℕ) {w : Word} → i < length ns → w ≡ numbered (getD ns i 0)
-      → has t k ∷ column st d k ≡ run p s (wordsIn i ns) (false ∷ [])
-      → has x k ∷ column (set st d t) e k ≡ step p s w (has t k ∷ column (set st d t) d k)
-      → has x k ∷ column (set st d t) e k ≡ run p s (wordsIn (i + 1) ns) (false ∷ [])
-  column-next ns st k i d e t x {w} h q old new =
-      new
-      ∙ ap (λ (l : List Bool). step p s w (has t k ∷ l)) (column-set st d t d k (omega arith))
-      ∙ ap₂ (step p s) q old ∙ run-next ns i (false ∷ []) h
+  -- a stack that was what i words leave, after the next word
+  pub column-next : (ns : List ℕ) (i : ℕ) {w : Word} {old new : List Bool} → i < length ns → w ≡ numbered (getD ns i 0)
+      → old ≡ run p s (wordsIn i ns) (false ∷ []) → new ≡ step p s w old → new ≡ run p s (wordsIn (i + 1) ns) (false ∷ [])
+  column-next ns i h q old new = new ∙ ap₂ (step p s) q old ∙ run-next ns i (false ∷ []) h
 
 -- ---- false below an empty stack
 

@@ -8,7 +8,7 @@ use native.Mathlib.Decide.{ℕ-discrete}
 use native.Mathlib.Nat.{mod-lt, lt-of-lt-of-le}
 use native.Mathlib.Numerals.{add-one}
 use native.Mathlib.Omega.{arith}
-use lib.Bits.{bitOr, bitAnd, bitXor}
+use lib.Bits.{bitOr, bitXor}
 use lib.ListN.{length, getD, set, length-set}
 use lib.Pow.{pow-pos, pow-mono}
 use lib.Seq.{getD-set-same, getD-set-other}
@@ -18,12 +18,12 @@ use Rattle.basis.proofs.Numbers.{every-at}
 use Rattle.basis.proofs.Same.{agree-eq}
 use Rattle.basis.proofs.Table.{at}
 use Rattle.sets.specs.Set.{has}
-use Rattle.sets.proofs.Laws.{differs, has-xor, has-meet, has-union, has-none, has-mod, has-low, has-high}
+use Rattle.sets.proofs.Laws.{differs, has-xor, has-union, has-none, has-mod, has-low, has-high}
 use Rattle.sets.proofs.Count.{has-shifted}
 use Rattle.seniority.specs.Inner.{extended}
 use Rattle.seniority.proofs.Laws.{has-extended}
 use Rattle.policy.specs.Limits.{mostValues}
-use Rattle.formula.specs.Inner.Lane.{laneBits, lanes, vectorPlaces, Plain, Stands, extendedLanes}
+use Rattle.formula.specs.Inner.Lane.{laneBits, lanes, vectorPlaces, within, Plain, Stands, extendedLanes}
 
 -- ---- every lane at once
 
@@ -57,9 +57,9 @@ module _ (x y k : ℕ) (h : k < lanes) where
   place-implied = has-union (bitXor x ones) y k ∙ ap (λ (b : Bool). b || has y k) (has-not x k h) ∙ at-least (has x k) (has y k)
 
 -- one place more passes
-pub every-next : (f : ℕ → Bool) (n r x k : ℕ) → has r k ≡ every f n → has x k ≡ f n → has (bitAnd r x) k ≡ every f (n + 1)
+pub every-more : (f : ℕ → Bool) (n : ℕ) {a b : Bool} → a ≡ every f n → b ≡ f n → (a && b) ≡ every f (n + 1)
 unfolding every
-every-next f n r x k p q = rw (add-one n) (has-meet r x k ∙ ap₂ (λ (a b : Bool). a && b) p q)
+every-more f n p q = rw (add-one n) (ap₂ (λ (a b : Bool). a && b) p q)
 
 -- ---- consecutive sets
 
@@ -178,7 +178,7 @@ grown-line old new f g a b ha hb x e =
 -- a lane that held a set stands for it
 pub grown-stands : (old new : List ℕ) (f : ℕ → ℕ) (test : ℕ → ℕ → Bool) → Grown old new f
     → ((s v : ℕ) → has (f s) v ≡ test s v) → ((s : ℕ) → s < 2 ^ mostValues → (v : ℕ) → mostValues ≤ v → test s v ≡ false)
-    → (k s : ℕ) → Plain old k s → Stands test new k s
+    → (k s : ℕ) → Plain old k s → Stands test (within new) k s
 grown-stands old new f test x e none k s p =
     record {
       held = λ v h. ap (λ (y : ℕ). has y k) (x .same v h) ∙ p .held v h;

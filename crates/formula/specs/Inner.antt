@@ -4,3 +4,4 @@ pub mod Fits
 pub mod Grant
 pub mod Group
 pub mod Source
+pub mod Square

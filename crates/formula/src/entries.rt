@@ -1,12 +1,12 @@
-// Where every action is granted among 64 pairs of sets, and the same as table entries.
-ghost use Prim.Native.Nat.{ℕ, _+_, _≤_, _<_};
+// Where every action is granted among the pairs of sets of several blocks.
+ghost use Prim.Native.Nat.{ℕ, _*_, _≤_, _<_};
 ghost use mathlib.Core.Path.{_≡_};
 ghost use mathlib.Core.Bool.{false, _&&_, _||_};
 ghost use lib.Dec.{eqb};
-ghost use lib.ListN.{getD};
+ghost use lib.ListN.{length, getD};
 ghost use Rattle.basis.specs.Choice.{given};
 ghost use Rattle.basis.specs.Lists.{any};
-ghost use Rattle.sets.specs.Set.{has, setOf};
+ghost use Rattle.sets.specs.Set.{has};
 ghost use Rattle.policy.specs.Limits.{mostActions};
 ghost use Rattle.policy.specs.Policy.{Policy, formulaIn};
 ghost use Rattle.policy.specs.Value.{rulesOf, pairsOf};
@@ -14,109 +14,127 @@ ghost use Rattle.formula.specs.Truth as truth;
 ghost use Rattle.formula.specs.Truth.{Sets, truth as trueAt, pairHolds};
 ghost use Rattle.formula.specs.Inner.Fits.{RulesFit, PairsFit};
 ghost use Rattle.formula.specs.Inner.Grant.{GrantsOf};
-ghost use Rattle.formula.specs.Inner.Lane.{lanes, AttributesOf, InLane};
-ghost use Rattle.formula.specs.Inner.Group.{groupSize, grouped};
+ghost use Rattle.formula.specs.Inner.Source.{mostBlocks};
+ghost use Rattle.formula.specs.Inner.Lane.{vectorPlaces, stackPlaces, inBlock, AttributesOf, InBlock};
 use crate::attributes::Attributes;
+use crate::blocks::ONE_STACK;
+use crate::blocks::SIDE_BLOCKS;
+use crate::blocks::STACK;
+use crate::blockwise;
 use crate::grant;
 use crate::grant::Grants;
 use crate::pairs;
-use crate::side::VECTORS;
 use policy::limits::MOST_ACTIONS;
 use policy::value::Pairs;
 use policy::value::Rules;
 
-// For each action the pairs of sets at which its formula is true. The last rule comes first, so an action's first one
-// counts.
-fn by_rules(
+// Room for a number for each action and each block.
+pub const GRANTED: usize = MOST_ACTIONS * SIDE_BLOCKS;
+
+// Puts for each action where its formula is true. The last rule comes first, so an action's first one counts.
+fn put_by_rules(
     sides: Attributes,
-    users: &[u64; VECTORS],
-    objects: &[u64; VECTORS],
+    users: &[u64],
+    objects: &[u64],
+    n: usize,
     rules: Rules,
-) -> [u64; MOST_ACTIONS]
-    requires { ⌜ ((p : Policy) × AttributesOf p sides) × RulesFit mostActions rules ⌝ }
-    ensures { λ r. ⌜ ((p : Policy) (k : ℕ) (s : Sets) → AttributesOf p sides → InLane p (now (users .entry)) (now (objects .entry)) k s → (a : ℕ) → a < mostActions → has (getD r a 0) k ≡ given (formulaIn (rulesOf rules) a) false (trueAt p s)) ⌝ }
+    stack: &mut [u64],
+    granted: &mut [u64],
+)
+    requires { ⌜ ((p : Policy) × AttributesOf p sides) × (vectorPlaces * n ≤ length (now users)) × (vectorPlaces * n ≤ length (now objects)) × RulesFit mostActions rules × (stackPlaces * n ≤ length (now stack)) × (mostActions * n ≤ length (now granted)) × ((i : ℕ) → i < mostActions * n → getD (now granted) i 0 ≡ 0) ⌝ }
+    ensures { λ _. ⌜ (length (now (stack .exit)) ≡ length (now (stack .entry))) × (length (now (granted .exit)) ≡ length (now (granted .entry))) × ((b : ℕ) → b < n → (p : Policy) (k : ℕ) (s : Sets) → AttributesOf p sides → InBlock p (now (users .entry)) (now (objects .entry)) n b k s → (a : ℕ) → a < mostActions → has (inBlock (now (granted .exit)) n b a) k ≡ given (formulaIn (rulesOf rules) a) false (trueAt p s)) ⌝ }
 {
     let entries = rules.entries;
-    let mut r = [0u64; MOST_ACTIONS];
     let mut i = rules.count;
     while 0 < i {
         i -= 1;
         let rule = entries[i];
-        let a = rule.action as usize;
-        r[a] = grant::where_true(sides, users, objects, rule);
+        let d = grant::where_true(sides, users, objects, n, rule, stack);
+        blockwise::copy(stack, d, n, granted, rule.action as usize);
     }
-    r
 }
 
-// For each action the pairs of sets that are handed in, and those at which one of its pairs holds.
-fn with_pairs(
-    users: &[u64; VECTORS],
-    objects: &[u64; VECTORS],
-    from: [u64; MOST_ACTIONS],
-    pairs: Pairs,
-) -> [u64; MOST_ACTIONS]
-    requires { ⌜ PairsFit mostActions pairs ⌝ }
-    ensures { λ r. ⌜ ((p : Policy) (k : ℕ) (s : Sets) → InLane p (now (users .entry)) (now (objects .entry)) k s → (a : ℕ) → a < mostActions → has (getD r a 0) k ≡ (has (getD from a 0) k || any (λ x. eqb (x .action) a && pairHolds p s x) (pairsOf pairs))) ⌝ }
+// The same on a stack of its own, a small one for one block.
+fn put_rules(
+    sides: Attributes,
+    users: &[u64],
+    objects: &[u64],
+    n: usize,
+    rules: Rules,
+    granted: &mut [u64],
+)
+    requires { ⌜ ((p : Policy) × AttributesOf p sides) × (vectorPlaces * n ≤ length (now users)) × (vectorPlaces * n ≤ length (now objects)) × RulesFit mostActions rules × (n ≤ mostBlocks) × (mostActions * n ≤ length (now granted)) × ((i : ℕ) → i < mostActions * n → getD (now granted) i 0 ≡ 0) ⌝ }
+    ensures { λ _. ⌜ (length (now (granted .exit)) ≡ length (now (granted .entry))) × ((b : ℕ) → b < n → (p : Policy) (k : ℕ) (s : Sets) → AttributesOf p sides → InBlock p (now (users .entry)) (now (objects .entry)) n b k s → (a : ℕ) → a < mostActions → has (inBlock (now (granted .exit)) n b a) k ≡ given (formulaIn (rulesOf rules) a) false (trueAt p s)) ⌝ }
+{
+    if n == 1 {
+        let mut stack = [0u64; ONE_STACK];
+        put_by_rules(sides, users, objects, n, rules, &mut stack, granted);
+    } else {
+        let mut stack = [0u64; STACK];
+        put_by_rules(sides, users, objects, n, rules, &mut stack, granted);
+    }
+}
+
+// Adds for each action where one of its pairs holds.
+fn add_pairs(users: &[u64], objects: &[u64], n: usize, pairs: Pairs, granted: &mut [u64])
+    requires { ⌜ (vectorPlaces * n ≤ length (now users)) × (vectorPlaces * n ≤ length (now objects)) × PairsFit mostActions pairs × (mostActions * n ≤ length (now granted)) ⌝ }
+    ensures { λ _. ⌜ (length (now (granted .exit)) ≡ length (now (granted .entry))) × ((b : ℕ) → b < n → (p : Policy) (k : ℕ) (s : Sets) → InBlock p (now (users .entry)) (now (objects .entry)) n b k s → (a : ℕ) → a < mostActions → has (inBlock (now (granted .exit)) n b a) k ≡ (has (inBlock (now (granted .entry)) n b a) k || any (λ x. eqb (x .action) a && pairHolds p s x) (pairsOf pairs))) ⌝ }
 {
     let entries = pairs.entries;
-    let n = pairs.count;
-    let mut r = from;
+    let count = pairs.count;
     let mut i: usize = 0;
-    while i < n {
+    while i < count {
         let pair = entries[i];
-        let a = pair.action as usize;
-        r[a] = r[a] | pairs::held(users, objects, pair);
+        pairs::add_held(
+            users,
+            objects,
+            n,
+            pair.user as usize,
+            pair.object as usize,
+            granted,
+            pair.action as usize,
+        );
         i += 1;
     }
-    r
 }
 
-// For each action the pairs of sets at which it is granted.
-pub fn of_lanes(
+// Makes the first n numbers 0.
+fn clear(numbers: &mut [u64], n: usize)
+    requires { ⌜ n ≤ length (now numbers) ⌝ }
+    ensures { λ _. ⌜ (length (now (numbers .exit)) ≡ length (now (numbers .entry))) × ((i : ℕ) → i < n → getD (now (numbers .exit)) i 0 ≡ 0) ⌝ }
+{
+    for i in 0..n {
+        numbers[i] = 0;
+    }
+}
+
+// Puts for each action where it is granted among the pairs of sets of n blocks.
+pub fn put_granted(
     sides: Attributes,
-    users: &[u64; VECTORS],
-    objects: &[u64; VECTORS],
+    users: &[u64],
+    objects: &[u64],
+    n: usize,
     grants: Grants,
-) -> [u64; MOST_ACTIONS]
-    requires { ⌜ ((p : Policy) × AttributesOf p sides × GrantsOf p grants) ⌝ }
-    ensures { λ r. ⌜ ((p : Policy) (k : ℕ) (s : Sets) → AttributesOf p sides → GrantsOf p grants → InLane p (now (users .entry)) (now (objects .entry)) k s → (a : ℕ) → a < mostActions → has (getD r a 0) k ≡ truth.grants p a s) ⌝ }
+    granted: &mut [u64],
+)
+    requires { ⌜ ((p : Policy) × AttributesOf p sides × GrantsOf p grants) × (vectorPlaces * n ≤ length (now users)) × (vectorPlaces * n ≤ length (now objects)) × (n ≤ mostBlocks) × (mostActions * n ≤ length (now granted)) ⌝ }
+    ensures { λ _. ⌜ (length (now (granted .exit)) ≡ length (now (granted .entry))) × ((b : ℕ) → b < n → (p : Policy) (k : ℕ) (s : Sets) → AttributesOf p sides → GrantsOf p grants → InBlock p (now (users .entry)) (now (objects .entry)) n b k s → (a : ℕ) → a < mostActions → has (inBlock (now (granted .exit)) n b a) k ≡ truth.grants p a s) ⌝ }
 {
     let rules = grants.rules;
     let pairs = grants.pairs;
-    with_pairs(
-        users,
-        objects,
-        by_rules(sides, users, objects, rules),
-        pairs,
-    )
+    clear(granted, MOST_ACTIONS * n);
+    put_rules(sides, users, objects, n, rules, granted);
+    add_pairs(users, objects, n, pairs, granted);
 }
 
-// Entries are worked out eight actions at a time, so that the compiler knows how many.
-const GROUP: usize = 8;
-
-// Which of the eight actions from one on are granted in lane k, the first at bit 0.
-fn group(granted: &[u64; MOST_ACTIONS], from: usize, k: usize) -> u16
-    requires { ⌜ (from + groupSize ≤ mostActions) × (k < lanes) ⌝ }
-    ensures { λ r. ⌜ r ≡ setOf (λ a. has (getD (now (granted .entry)) (from + a) 0) k) groupSize ⌝ }
+// Where each action is granted in block b of n.
+pub fn in_block(granted: &[u64], n: usize, b: usize) -> [u64; MOST_ACTIONS]
+    requires { ⌜ (b < n) × (mostActions * n ≤ length (now granted)) ⌝ }
+    ensures { λ r. ⌜ ((a : ℕ) → a < mostActions → getD r a 0 ≡ inBlock (now (granted .entry)) n b a) ⌝ }
 {
-    let mut r: u16 = 0;
-    for a in 0..GROUP {
-        if (granted[from + a] >> k) % 2 == 1 {
-            r += 1 << a;
-        }
+    let mut r = [0u64; MOST_ACTIONS];
+    for a in 0..MOST_ACTIONS {
+        r[a] = granted[a * n + b];
     }
     r
-}
-
-// The table entry of lane k: bit a is set where action a is granted. Past so many actions none is, and the groups behind
-// them are not looked at.
-pub fn entry(granted: &[u64; MOST_ACTIONS], actions: u32, k: usize) -> u16
-    requires { ⌜ k < lanes ⌝ }
-    ensures { λ r. ⌜ r ≡ setOf (λ a. has (getD (now (granted .entry)) a 0) k) (grouped actions) ⌝ }
-{
-    let low = group(granted, 0, k);
-    if actions <= GROUP as u32 {
-        return low;
-    }
-    low + (group(granted, GROUP, k) << GROUP)
 }

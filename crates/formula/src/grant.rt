@@ -1,7 +1,8 @@
-// What grants an action, and where it does: the one place that says so, for 64 pairs of sets at once.
-ghost use Prim.Native.Nat.{ℕ, _≤_};
+// What grants an action, and where it does: the one place that says so, for blocks of 64 pairs of sets at once.
+ghost use Prim.Native.Nat.{ℕ, _*_, _≤_, _<_};
 ghost use mathlib.Core.Path.{_≡_};
 ghost use mathlib.Core.Bool.{false};
+ghost use lib.ListN.{length};
 ghost use Rattle.basis.specs.Choice.{given, there};
 ghost use Rattle.sets.specs.Set.{has};
 ghost use Rattle.policy.specs.Policy.{Policy, formulaIn, named as isNamed};
@@ -9,11 +10,10 @@ ghost use Rattle.policy.specs.Value.{wordPlaces, rulesOf, policyOf};
 ghost use Rattle.formula.specs.Truth.{Sets, truth};
 ghost use Rattle.formula.specs.Inner.Fits.{RulesFit, ValueFits};
 ghost use Rattle.formula.specs.Inner.Grant.{ruleTrue, grantsAt, GrantOf, GrantsOf};
-ghost use Rattle.formula.specs.Inner.Lane.{AttributesOf, InLane};
+ghost use Rattle.formula.specs.Inner.Lane.{vectorPlaces, stackPlaces, inBlock, AttributesOf, InBlock};
 use crate::attributes::Attributes;
 use crate::evaluate;
 use crate::pairs;
-use crate::side::VECTORS;
 use policy::limits::MOST_VALUES;
 use policy::value::Pairs;
 use policy::value::PolicyValue;
@@ -117,34 +117,37 @@ pub fn named(grants: Grants, action: u32) -> bool
     pairs::name(all, action)
 }
 
-// The pairs of sets at which the formula of a rule is true.
+// Works out at n blocks of pairs of sets where the formula of a rule is true, and says on which place of the stack it is.
 pub fn where_true(
     sides: Attributes,
-    users: &[u64; VECTORS],
-    objects: &[u64; VECTORS],
+    users: &[u64],
+    objects: &[u64],
+    n: usize,
     rule: RuleValue,
-) -> u64
-    requires { ⌜ ((p : Policy) × AttributesOf p sides) × (rule .count ≤ wordPlaces) ⌝ }
-    ensures { λ r. ⌜ ((p : Policy) (k : ℕ) (s : Sets) → AttributesOf p sides → InLane p (now (users .entry)) (now (objects .entry)) k s → has r k ≡ ruleTrue p rule s) ⌝ }
+    stack: &mut [u64],
+) -> usize
+    requires { ⌜ ((p : Policy) × AttributesOf p sides) × (vectorPlaces * n ≤ length (now users)) × (vectorPlaces * n ≤ length (now objects)) × (rule .count ≤ wordPlaces) × (stackPlaces * n ≤ length (now stack)) ⌝ }
+    ensures { λ r. ⌜ (r ≤ wordPlaces) × (length (now (stack .exit)) ≡ length (now (stack .entry))) × ((b : ℕ) → b < n → (p : Policy) (k : ℕ) (s : Sets) → AttributesOf p sides → InBlock p (now (users .entry)) (now (objects .entry)) n b k s → has (inBlock (now (stack .exit)) n b r) k ≡ ruleTrue p rule s) ⌝ }
 {
-    if rule.count == 0 {
-        return 0;
-    }
     let words = rule.words;
-    evaluate::truths(sides, users, objects, words, rule.count)
+    evaluate::truths(sides, users, objects, n, words, rule.count, stack)
 }
 
-// The pairs of sets at which this grants: those at which its formula is true, and those at which a pair of it holds.
+// Works out where this grants: where its formula is true, and where a pair of it holds.
 pub fn where_granted(
     sides: Attributes,
-    users: &[u64; VECTORS],
-    objects: &[u64; VECTORS],
+    users: &[u64],
+    objects: &[u64],
+    n: usize,
     grant: Grant,
-) -> u64
-    requires { ⌜ ((p : Policy) × AttributesOf p sides) × (grant .rule .count ≤ wordPlaces) ⌝ }
-    ensures { λ r. ⌜ ((p : Policy) (k : ℕ) (s : Sets) → AttributesOf p sides → InLane p (now (users .entry)) (now (objects .entry)) k s → has r k ≡ grantsAt p grant s) ⌝ }
+    stack: &mut [u64],
+) -> usize
+    requires { ⌜ ((p : Policy) × AttributesOf p sides) × (vectorPlaces * n ≤ length (now users)) × (vectorPlaces * n ≤ length (now objects)) × (grant .rule .count ≤ wordPlaces) × (stackPlaces * n ≤ length (now stack)) ⌝ }
+    ensures { λ r. ⌜ (r ≤ wordPlaces) × (length (now (stack .exit)) ≡ length (now (stack .entry))) × ((b : ℕ) → b < n → (p : Policy) (k : ℕ) (s : Sets) → AttributesOf p sides → InBlock p (now (users .entry)) (now (objects .entry)) n b k s → has (inBlock (now (stack .exit)) n b r) k ≡ grantsAt p grant s) ⌝ }
 {
     let rule = grant.rule;
     let paired = grant.paired;
-    where_true(sides, users, objects, rule) | pairs::any_held(users, objects, paired)
+    let d = where_true(sides, users, objects, n, rule, stack);
+    pairs::add_paired(users, objects, n, paired, stack, d);
+    d
 }

@@ -1,5 +1,5 @@
-// What formulas and pairs decide, at 64 pairs of a user set and an object set at once: bit k of a number is lane k,
-// which stands for one of them.
+// What formulas and pairs decide, at blocks of 64 pairs of a user set and an object set at once: bit k of a number is lane
+// k, which stands for one of them.
 ghost use Prim.Native.Nat.{_^_, _<_};
 ghost use mathlib.Core.Path.{_≡_};
 ghost use mathlib.Core.Bool.{true};
@@ -14,13 +14,16 @@ ghost use Rattle.formula.specs.Inner.Lane.{AttributesOf};
 
 pub mod attributes;
 pub mod blocks;
+mod blockwise;
 pub mod entries;
 mod evaluate;
 pub mod grant;
 mod pairs;
 pub mod side;
+pub mod turn;
 
 use crate::attributes::Attributes;
+use crate::blocks::ONE_STACK;
 use policy::limits;
 use policy::refusal::Refusal;
 use policy::value::PolicyValue;
@@ -44,7 +47,9 @@ fn allows(v: PolicyValue, sides: Attributes, action: u32, user: u32, object: u32
     let object_lines = object_side.seniority;
     let objects = side::with_seniors(side::spread(object), object_lines, object_side.lines);
     let grant = grant::of_action(grant::of_policy(v), action);
-    grant::where_granted(sides, &users, &objects, grant) % 2 == 1
+    let mut stack = [0u64; ONE_STACK];
+    let d = grant::where_granted(sides, &users, &objects, 1, grant, &mut stack);
+    stack[d] % 2 == 1
 }
 
 // The answer where check 11 passes.

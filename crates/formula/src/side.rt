@@ -2,14 +2,14 @@
 // MOST_VALUES + v whether it does with its juniors (users) or its seniors (objects) taken in.
 ghost use Prim.Native.Nat.{ℕ, _+_, _*_, _/_, _%_, _^_, _≤_, _<_};
 ghost use mathlib.Core.Path.{_≡_};
-ghost use lib.ListN.{take};
+ghost use lib.ListN.{length, take};
 ghost use Rattle.sets.specs.Set.{has};
 ghost use Rattle.seniority.specs.Seniority.{heldOrSenior, heldOrJunior};
 ghost use Rattle.seniority.specs.Inner.{Ordered};
 ghost use Rattle.policy.specs.Value.{linePlaces, sideOf};
 ghost use Rattle.policy.specs.Limits.{mostValues};
 ghost use Rattle.formula.specs.Inner.Fits.{SideFits};
-ghost use Rattle.formula.specs.Inner.Lane.{lanes, Plain, Stands, extendedLanes, grownBy};
+ghost use Rattle.formula.specs.Inner.Lane.{lanes, vectorPlaces, within, Plain, Stands, extendedLanes, grownBy};
 use policy::limits::MOST_VALUES;
 use policy::value::LINE_PLACES;
 use policy::value::SideValue;
@@ -107,7 +107,7 @@ fn extend(vectors: &mut [u64; VECTORS], a: u32, b: u32)
 // before its juniors.
 pub fn with_juniors(plain: [u64; VECTORS], lines: [Direct; LINE_PLACES], n: usize) -> [u64; VECTORS]
     requires { ⌜ (n ≤ linePlaces) × Ordered mostValues (take n lines) ⌝ }
-    ensures { λ r. ⌜ ((k s : ℕ) → Plain plain k s → Stands (heldOrSenior (take n lines)) r k s) ⌝ }
+    ensures { λ r. ⌜ (length r ≡ vectorPlaces) × ((k s : ℕ) → Plain plain k s → Stands (heldOrSenior (take n lines)) (within r) k s) ⌝ }
 {
     let mut r = plain;
     let mut i = n;
@@ -122,7 +122,7 @@ pub fn with_juniors(plain: [u64; VECTORS], lines: [Direct; LINE_PLACES], n: usiz
 // Object sets with all seniors of their values, by the first n lines: each junior is settled before its seniors.
 pub fn with_seniors(plain: [u64; VECTORS], lines: [Direct; LINE_PLACES], n: usize) -> [u64; VECTORS]
     requires { ⌜ (n ≤ linePlaces) × Ordered mostValues (take n lines) ⌝ }
-    ensures { λ r. ⌜ ((k s : ℕ) → Plain plain k s → Stands (heldOrJunior (take n lines)) r k s) ⌝ }
+    ensures { λ r. ⌜ (length r ≡ vectorPlaces) × ((k s : ℕ) → Plain plain k s → Stands (heldOrJunior (take n lines)) (within r) k s) ⌝ }
 {
     let mut r = plain;
     let mut i: usize = 0;
@@ -137,7 +137,7 @@ pub fn with_seniors(plain: [u64; VECTORS], lines: [Direct; LINE_PLACES], n: usiz
 // The sets of a side as seniority makes them: user sets with all juniors of their values, object sets with all seniors.
 pub fn closed(plain: [u64; VECTORS], side: SideValue, user: bool) -> [u64; VECTORS]
     requires { ⌜ SideFits side ⌝ }
-    ensures { λ r. ⌜ ((k s : ℕ) → Plain plain k s → Stands (grownBy user (sideOf side .lines)) r k s) ⌝ }
+    ensures { λ r. ⌜ ((k s : ℕ) → Plain plain k s → Stands (grownBy user (sideOf side .lines)) (within r) k s) ⌝ }
 {
     let lines = side.seniority;
     if user {

@@ -16,7 +16,7 @@ use Rattle.basis.proofs.Bools.{fails, never}
 use Rattle.basis.proofs.Counting.{first-least, first-is}
 use Rattle.basis.proofs.Same.{agree-eq, eq-agree}
 use Rattle.sets.specs.Set.{has, setOf}
-use Rattle.sets.proofs.Laws.{digit-eq, has-none, same-below, setOf-lt, setOf-is, has-setOf, has-setOf-none}
+use Rattle.sets.proofs.Laws.{digit-eq, has-none, same-below, setOf-lt, setOf-is, setOf-same, has-setOf, has-setOf-none}
 use Rattle.policy.specs.Limits.{actions, mostActions}
 use Rattle.policy.specs.Policy.{Policy, sets}
 use Rattle.policy.proofs.Forms.{actions-most}
@@ -24,6 +24,7 @@ use Rattle.formula.specs.Truth.{Sets, at, grants}
 use Rattle.formula.specs.Inner.Grant.{GrantsOf}
 use Rattle.formula.specs.declared.grant.Grants.{Grants}
 use Rattle.formula.specs.Inner.Group.{grouped}
+use Rattle.formula.specs.Inner.Lane.{within}
 use Rattle.formula.proofs.Grouping.{grouped-all, grouped-most}
 use Rattle.formula.proofs.Pairing.{grants-past}
 use Rattle.labels.specs.Compile.{entryOf}
@@ -42,13 +43,18 @@ setOf-within f g n m h same past =
     ])
 
 -- the entry of a lane is that of its sets
-pub lane-entry : (p : Policy) (g : Grants) → GrantsOf p g → (vectors : List ℕ) (k : ℕ) (s : Sets)
-    → ((a : ℕ) → a < mostActions → has (getD vectors a 0) k ≡ grants p a s) → laneEntry vectors (actions (p .form)) k ≡ entryOf p s
+pub lane-entry : (p : Policy) (g : Grants) → GrantsOf p g → (granted : ℕ → ℕ) (k : ℕ) (s : Sets)
+    → ((a : ℕ) → a < mostActions → has (granted a) k ≡ grants p a s) → laneEntry granted (actions (p .form)) k ≡ entryOf p s
 unfolding entryOf
-lane-entry p g x vectors k s h =
+lane-entry p g x granted k s h =
     let n = actions (p .form) in
     setOf-within _ (λ a. grants p a s) n (grouped n) (grouped-all n (actions-most (p .form)))
     (λ a l. h a (lt-of-lt-of-le l (grouped-most n))) (λ a l. grants-past p s g a x l)
+
+-- the same from the numbers of all actions, wherever they are kept
+pub lane-same : (xs : List ℕ) (granted : ℕ → ℕ) (n k : ℕ) → ((a : ℕ) → a < mostActions → getD xs a 0 ≡ granted a) → laneEntry (within xs) n k ≡ laneEntry granted n k
+lane-same xs granted n k e =
+    setOf-same _ _ (grouped n) (λ a l. ap (λ (x : ℕ). has x k) (e a (lt-of-lt-of-le l (grouped-most n))))
 
 -- ---- the first action at which two entries differ
 

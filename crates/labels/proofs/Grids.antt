@@ -3,6 +3,7 @@ use Prim.Native.Nat.{ℕ, _+_, _*_, _/_, _%_, _≤_, _<_}
 use mathlib.Core.Path.{_≡_, sym, ap₂, _∙_}
 use mathlib.Core.Bool.{Bool, true, false, not}
 use mathlib.Core.List.{List}
+use mathlib.Core.Logic.{⊎-elim}
 use native.Mathlib.Nat.{le-trans, mul-one}
 use native.Mathlib.Omega.{arith}
 use lib.Arith.{digits-lt, digits-div, digits-mod}
@@ -11,8 +12,10 @@ use lib.Pow.{pow-mono}
 use Rattle.basis.proofs.Places.{stored-next}
 use Rattle.policy.specs.Policy.{Policy, total, sets}
 use Rattle.policy.specs.Limits.{mostValues, mostSets}
-use Rattle.formula.specs.Inner.Lane.{AttributesOf, sideAt}
+use Rattle.formula.specs.Inner.Lane.{lanes, AttributesOf, sideAt}
+use Rattle.formula.specs.Inner.Source.{mostBlocks}
 use Rattle.formula.specs.declared.attributes.Attributes.{Attributes}
+use Rattle.formula.proofs.Numbering.{blocks-cover, side-blocks}
 use Rattle.labels.specs.Inner.Rows.{RowsOf, entryIn}
 use Rattle.labels.specs.Inner.Grid.{gridPlaces, turnedView, Inside, ViewOf}
 use Rattle.labels.specs.declared.rows.Rows.{Rows}
@@ -42,6 +45,15 @@ side-few x false = x .object .most
 
 pub others-few : (p : Policy) (from : Rows) → RowsOf p from → (n : ℕ) → n ≤ sets (sideAt (not (from .user)) p) → n ≤ mostSets
 others-few p from x n h = le-trans h (pow-mono (side-few (x .sides) (not (from .user))))
+
+-- the blocks of the other side are few, and have room for its sets
+module _ (p : Policy) (from : Rows) (x : RowsOf p from) where
+  pub row-blocks : from .blocks ≤ mostBlocks
+  row-blocks = rw (x .blocks) (side-blocks _ (side-few (x .sides) (not (from .user))))
+
+  pub row-covers : (n : ℕ) → n ≤ sets (sideAt (not (from .user)) p) → n ≤ from .blocks * lanes
+  row-covers n h =
+      rw (x .blocks) (⊎-elim (λ t. omega (arith, t .0, t .1)) (λ e. omega (arith, e)) (blocks-cover (total (sideAt (not (from .user)) p))))
 
 -- ---- filling
 

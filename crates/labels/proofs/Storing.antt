@@ -1,7 +1,7 @@
 -- Compiling: the labels that the code works out are those of the policy's sets, and what the parts leave in the buffers
 -- is what compiling is to leave there.
 use Prim.Native.Nat.{ℕ, _+_, _*_, _/_, _%_, _^_, _≤_, _<_}
-use mathlib.Core.Path.{_≡_, refl, ap, _∙_}
+use mathlib.Core.Path.{_≡_, refl, sym, ap, _∙_}
 use mathlib.Core.Bool.{Bool, true, false, _||_, and-false}
 use mathlib.Core.List.{List}
 use native.Mathlib.Nat.{le-trans, lt-of-lt-of-le}
@@ -9,11 +9,11 @@ use native.Mathlib.Omega.{arith}
 use lib.Dec.{eqb, ltb}
 use lib.ListN.{length, getD}
 use lib.Pow.{pow-mono}
-use borrow.Author.Tests.{eqb-true, lt-ltb, le-ltb}
+use borrow.Author.Tests.{eqb-true, ltb-false, lt-ltb, le-ltb}
 use Rattle.basis.specs.Choice.{firstBroken}
 use Rattle.basis.specs.Lists.{over}
 use Rattle.basis.specs.Numbers.{upTo}
-use Rattle.basis.proofs.Bools.{or-right, and-left, and-right}
+use Rattle.basis.proofs.Bools.{or-right, or-neither, and-left, and-right}
 use Rattle.policy.specs.Limits.{values, actions, storedWidths, ownWidths, mostSets}
 use Rattle.policy.specs.Policy.{Side, Policy, sets}
 use Rattle.policy.specs.Value.{policyOf}
@@ -28,12 +28,12 @@ use Rattle.policy.proofs.Parts.{SideParts, parts}
 use Rattle.policy.proofs.Valid.{valid-whole}
 use Rattle.formula.specs.Truth.{Sets, at, grants}
 use Rattle.labels.specs.Compile.{entryOf}
-use Rattle.labels.specs.Compile.{likeUsers, likeObjects, NU, NO, entry, userLabel, objectLabel, userResult, objectResult, tableResult, lent, counts, stored, used, fitsWidths, tooShort, compile, compileBuffers, Compiles}
+use Rattle.labels.specs.Compile.{likeUsers, likeObjects, NU, NO, entry, userLabel, objectLabel, userResult, objectResult, tableResult, Buffers, lent, counts, stored, used, fitsWidths, tooShort, compile, compileBuffers, Compiles}
+use Rattle.labels.specs.Labelling.{usersAlike}
 use Rattle.labels.specs.Rows.{rowsAlike}
 use Rattle.labels.specs.Inner.Grid.{cell, turnedView, likeStill, ViewOf, Kept, Labelled, Puts}
 use Rattle.labels.specs.Inner.Labels.{LabelsOf}
 use Rattle.labels.specs.Inner.Rows.{entryIn}
-use Rattle.labels.specs.declared.assign.Labels.{Labels}
 use Rattle.labels.specs.declared.grid.View.{View}
 use Rattle.labels.specs.declared.Counts.{Counts}
 use Rattle.labels.specs.declared.Compiled.the-variants.{Stored, Refused}
@@ -67,40 +67,45 @@ module _ {p : Policy} (grid : List ℕ) {view : View} (K : Kept p grid view) (v 
       ap (λ (y : ℕ). getD grid y 0) e ∙ K u x hu hx) o q ho hq) s)
 
 -- by strips: user sets by all object sets, object sets by the lowest user set of each label
-module _ {p : Policy} {view : View} (v : ViewOf p view) (every : List ℕ) {labels leaders : List ℕ} {count : ℕ} (all : (i : ℕ) → i < view .columns → getD every i 0 ≡ i)
-    (U : Labelled (rowsAlike (entryIn p false every) (view .columns)) (view .rows) labels leaders count) where
-  rows-labelled : Labelled (rowsAlike (λ u o. entryOf p (at u o)) (view .columns)) (view .rows) labels leaders count
-  rows-labelled =
-      labelled-same (λ u w hu hw.
-      alike-same _ _ (view .columns) u w (λ o h. ap (λ (x : ℕ). entryOf p (at u x)) (all o h)) (λ o h. ap (λ (x : ℕ). entryOf p (at w x)) (all o h))) U
+module _ {p : Policy} {view : View} (v : ViewOf p view) where
+  entries-tell : (u w : ℕ) → u < view .rows → w < view .rows
+      → rowsAlike (λ u o. entryOf p (at u o)) (view .columns) u w ≡ usersAlike (grants p) (actions (p .form)) (view .columns) u w
+  unfolding entryOf
+  entries-tell = rows-alike (λ u o. entryOf p (at u o)) (grants p) (actions (p .form)) (view .rows) (view .columns) (λ u o hu ho. refl)
 
-  pub users-by-strips : Labelled (likeUsers p) (sets (p .user)) labels leaders count
-  unfolding likeUsers entryOf
-  users-by-strips =
+  pub users-by-strips : {labels leaders : List ℕ} {count : ℕ} (every : List ℕ) → ((i : ℕ) → i < view .columns → getD every i 0 ≡ i)
+      → Labelled (rowsAlike (entryIn p false every) (view .columns)) (view .rows) labels leaders count
+      → Labelled (likeUsers p) (sets (p .user)) labels leaders count
+  unfolding likeUsers
+  users-by-strips every all s =
       rw (← v .users, ← v .objects)
-      (labelled-same (rows-alike (λ u o. entryOf p (at u o)) (grants p) (actions (p .form)) (view .rows) (view .columns) (λ u o hu ho. refl)) rows-labelled)
+      (labelled-same (λ u w hu hw.
+      alike-same _ _ (view .columns) u w (λ o h. ap (λ (x : ℕ). entryOf p (at u x)) (all o h)) (λ o h. ap (λ (x : ℕ). entryOf p (at w x)) (all o h))
+      ∙ entries-tell u w hu hw) s)
 
-  pub objects-by-strips : {ls fs : List ℕ} {n : ℕ} → Labelled (rowsAlike (entryIn p true leaders) count) (view .columns) ls fs n
-      → Labelled (likeObjects p) (sets (p .object)) ls fs n
-  unfolding likeObjects entryOf
-  objects-by-strips s =
+  pub objects-by-strips : {labels leaders ls fs : List ℕ} {count n : ℕ} → Labelled (likeUsers p) (sets (p .user)) labels leaders count
+      → Labelled (rowsAlike (entryIn p true leaders) count) (view .columns) ls fs n → Labelled (likeObjects p) (sets (p .object)) ls fs n
+  unfolding likeUsers likeObjects entryOf
+  objects-by-strips U s =
+      let rows = labelled-same (λ u w hu hw. sym (entries-tell u w hu hw)) (rw (← v .users, ← v .objects) at U) in
       rw (← v .users, ← v .objects)
       (labelled-same (λ o q ho hq.
-      leaders-enough (λ u x. entryOf p (at u x)) (view .rows) (view .columns) rows-labelled o q ho hq
+      leaders-enough (λ u x. entryOf p (at u x)) (view .rows) (view .columns) rows o q ho hq
       ∙ columns-alike (λ x u. entryOf p (at u x)) (grants p) (actions (p .form)) (view .rows) (view .columns) (λ x u hx hu. refl) o q ho hq) s)
 
--- how many there are
-pub counts-are : {p : Policy} {x : Labels} → LabelsOf p x → (x .users .count ≡ NU p) × (x .objects .count ≡ NO p)
-unfolding NU NO
-counts-are L = (L .users .counted, L .objects .counted)
+module _ {p : Policy} {uls ufs ols ofs : List ℕ} {n : Counts} (L : LabelsOf p uls ufs ols ofs n) where
+  -- how many there are
+  pub counts-are : (n .users ≡ NU p) × (n .objects ≡ NO p)
+  unfolding NU NO
+  counts-are = (L .users .counted, L .objects .counted)
 
--- and that they are few
-module _ {p : Policy} {view : View} {x : Labels} (L : LabelsOf p x) (v : ViewOf p view) where
-  pub users-few : x .users .count ≤ mostSets
-  users-few = omega (arith, labelled-few (L .users), v .users, v .few-users)
+  -- and that they are few
+  module _ {view : View} (v : ViewOf p view) where
+    pub users-few : n .users ≤ mostSets
+    users-few = omega (arith, labelled-few (L .users), v .users, v .few-users)
 
-  pub objects-few : x .objects .count ≤ mostSets
-  objects-few = omega (arith, labelled-few (L .objects), v .objects, v .few-objects)
+    pub objects-few : n .objects ≤ mostSets
+    objects-few = omega (arith, labelled-few (L .objects), v .objects, v .few-objects)
 
 -- ---- the widths
 
@@ -131,27 +136,33 @@ sets-few v ok w own =
 abbrev short : List ℕ → List ℕ → Bool
 short buffer result = ltb (length buffer) (length result)
 
-module _ (p : Policy) (w : Widths) (us os ts : List ℕ) where
-  users-short : length us < sets (p .user) → tooShort p (lent w us os ts) ≡ true
-  users-short h = rw (lt-ltb (length us) (length (userResult p)) (rw (length-userResult p) h))
+module _ (p : Policy) (b : Buffers) where
+  pub users-short : length (b .users) < sets (p .user) → tooShort p b ≡ true
+  users-short h = rw (lt-ltb (length (b .users)) (length (userResult p)) (rw (length-userResult p) h))
 
-  objects-short : length os < sets (p .object) → tooShort p (lent w us os ts) ≡ true
+  pub objects-short : length (b .objects) < sets (p .object) → tooShort p b ≡ true
   objects-short h =
-      or-right (short us (userResult p)) (short os (objectResult p) || short ts (tableResult p))
-      (rw (lt-ltb (length os) (length (objectResult p)) (rw (length-objectResult p) h)))
+      or-right (short (b .users) (userResult p)) (short (b .objects) (objectResult p) || short (b .table) (tableResult p))
+      (rw (lt-ltb (length (b .objects)) (length (objectResult p)) (rw (length-objectResult p) h)))
 
-  table-short : length ts < NU p * NO p → tooShort p (lent w us os ts) ≡ true
-  table-short h =
-      or-right (short us (userResult p)) (short os (objectResult p) || short ts (tableResult p))
-      (or-right (short os (objectResult p)) (short ts (tableResult p))
-      (lt-ltb (length ts) (length (tableResult p)) (rw (length-tableResult p) h)))
-
-  none-short : sets (p .user) ≤ length us → sets (p .object) ≤ length os → NU p * NO p ≤ length ts → tooShort p (lent w us os ts) ≡ false
-  none-short a b c =
+  -- where the labels have room, the table tells
+  pub table-short : sets (p .user) ≤ length (b .users) → sets (p .object) ≤ length (b .objects)
+      → ltb (length (b .table)) (NU p * NO p) ≡ tooShort p b
+  table-short hu ho =
       rw (
-        le-ltb (length us) (length (userResult p)) (rw (length-userResult p) a),
-        le-ltb (length os) (length (objectResult p)) (rw (length-objectResult p) b),
-        le-ltb (length ts) (length (tableResult p)) (rw (length-tableResult p) c),
+        le-ltb (length (b .users)) (length (userResult p)) (rw (length-userResult p) hu),
+        le-ltb (length (b .objects)) (length (objectResult p)) (rw (length-objectResult p) ho),
+        length-tableResult p,
+      )
+
+  pub none-short : tooShort p b ≡ false
+      → (sets (p .user) ≤ length (b .users)) × (sets (p .object) ≤ length (b .objects)) × (NU p * NO p ≤ length (b .table))
+  none-short e =
+      let x = or-neither (short (b .users) (userResult p)) (short (b .objects) (objectResult p) || short (b .table) (tableResult p)) e in
+      let y = or-neither (short (b .objects) (objectResult p)) (short (b .table) (tableResult p)) (x .1) in (
+        rw (length-userResult p) at (ltb-false (length (b .users)) (length (userResult p)) (x .0)),
+        rw (length-objectResult p) at (ltb-false (length (b .objects)) (length (objectResult p)) (y .0)),
+        rw (length-tableResult p) at (ltb-false (length (b .table)) (length (tableResult p)) (y .1)),
       )
 
 -- a refusal changes nothing
@@ -168,7 +179,7 @@ module _ (v : PolicyValue) (w : Widths) (us os ts : List ℕ) where
   refused-widths e = refused-11 (rw (e, and-false))
 
 module _ (v : PolicyValue) (w : Widths) (ok : valid v ≡ true) (own : ownWidths (v .form) w ≡ true) (us os ts : List ℕ) where
-  refused-short : tooShort (policyOf v) (lent w us os ts) ≡ true → Compiles v (lent w us os ts) (Refused BufferTooShort) (lent w us os ts)
+  pub refused-short : tooShort (policyOf v) (lent w us os ts) ≡ true → Compiles v (lent w us os ts) (Refused BufferTooShort) (lent w us os ts)
   unfolding compile compileBuffers firstBroken
   refused-short e = record { answer = rw (ok, own, e); buffers = rw (ok, own, e) }
 
@@ -190,36 +201,23 @@ used-stored v e c q = rw (e, q)
 
 -- ---- once both sides are labelled
 
-module _ (v : PolicyValue) (w : Widths) (ok : valid v ≡ true) (own : ownWidths (v .form) w ≡ true) (us os ts : List ℕ) {view : View} (W : ViewOf (policyOf v) view) where
-  pub short-users : length us < view .rows → Compiles v (lent w us os ts) (Refused BufferTooShort) (lent w us os ts)
-  short-users h = refused-short v w ok own us os ts (users-short (policyOf v) w us os ts (rw (← W .users) h))
+module _ (v : PolicyValue) (w : Widths) (ok : valid v ≡ true) (own : ownWidths (v .form) w ≡ true) (us os ts : List ℕ) {view : View} (W : ViewOf (policyOf v) view)
+    {uls ufs ols ofs : List ℕ} {n : Counts} (L : LabelsOf (policyOf v) uls ufs ols ofs n) where
+  -- the entry of two labels is that of their leaders
+  leaders-entry : (ul ol : ℕ) → ul < n .users → ol < n .objects → entryOf (policyOf v) (at (getD ufs ul 0) (getD ofs ol 0)) ≡ entry (policyOf v) ul ol
+  unfolding entry
+  leaders-entry ul ol hu ho = rw (L .users .leaders-are ul hu, L .objects .leaders-are ol ho)
 
-  pub short-objects : length os < view .columns → Compiles v (lent w us os ts) (Refused BufferTooShort) (lent w us os ts)
-  short-objects h = refused-short v w ok own us os ts (objects-short (policyOf v) w us os ts (rw (← W .objects) h))
-
-  module _ {x : Labels} (L : LabelsOf (policyOf v) x) where
-    pub short-table : length ts < x .users .count * x .objects .count → Compiles v (lent w us os ts) (Refused BufferTooShort) (lent w us os ts)
-    short-table h =
-        let n = counts-are L in refused-short v w ok own us os ts (table-short (policyOf v) w us os ts (rw (← n .0, ← n .1) h))
-
-    -- the entry of two labels is that of their leaders
-    leaders-entry : (ul ol : ℕ) → ul < x .users .count → ol < x .objects .count
-        → entryOf (policyOf v) (at (getD (x .users .leaders) ul 0) (getD (x .objects .leaders) ol 0)) ≡ entry (policyOf v) ul ol
-    unfolding entry
-    leaders-entry ul ol hu ho = rw (L .users .leaders-are ul hu, L .objects .leaders-are ol ho)
-
-    -- what three writers leave that put the labels and the table there
-    pub stored-all : (us′ os′ ts′ : List ℕ) → view .rows ≤ length us → view .columns ≤ length os → x .users .count * x .objects .count ≤ length ts
-        → Puts (x .users .labels) (view .rows) us us′ → Puts (x .objects .labels) (view .columns) os os′
-        → ((f : ℕ → ℕ → ℕ) → ((ul ol : ℕ) → ul < x .users .count → ol < x .objects .count
-        → entryOf (policyOf v) (at (getD (x .users .leaders) ul 0) (getD (x .objects .leaders) ol 0)) ≡ f ul ol)
-        → ts′ ≡ over (upTo (λ i. f (i / x .objects .count) (i % x .objects .count)) (x .users .count * x .objects .count)) ts)
-        → Compiles v (lent w us os ts) (Stored (record { users = x .users .count; objects = x .objects .count })) (lent w us′ os′ ts′)
-    unfolding userResult objectResult tableResult
-    stored-all us′ os′ ts′ hu ho ht wu wo wt =
-        let n = counts-are L in
-        let e = none-short (policyOf v) w us os ts (rw (← W .users) hu) (rw (← W .objects) ho) (rw (← n .0, ← n .1) ht) in
-        stored-long v w ok own us os ts (record { users = x .users .count; objects = x .objects .count }) us′ os′ ts′ e (n .0) (n .1)
-        (wu (userLabel (policyOf v)) (rw (W .users) (L .users .labels-are)) ∙ rw (W .users))
-        (wo (objectLabel (policyOf v)) (rw (W .objects) (L .objects .labels-are)) ∙ rw (W .objects))
-        (wt (entry (policyOf v)) leaders-entry ∙ rw (n .0, n .1))
+  -- what three writers leave that put the labels and the table there
+  pub stored-all : (us′ os′ ts′ : List ℕ) → tooShort (policyOf v) (lent w us os ts) ≡ false
+      → Puts uls (view .rows) us us′ → Puts ols (view .columns) os os′
+      → ((f : ℕ → ℕ → ℕ) → ((ul ol : ℕ) → ul < n .users → ol < n .objects → entryOf (policyOf v) (at (getD ufs ul 0) (getD ofs ol 0)) ≡ f ul ol)
+      → ts′ ≡ over (upTo (λ i. f (i / n .objects) (i % n .objects)) (n .users * n .objects)) ts)
+      → Compiles v (lent w us os ts) (Stored n) (lent w us′ os′ ts′)
+  unfolding userResult objectResult tableResult
+  stored-all us′ os′ ts′ e wu wo wt =
+      let m = counts-are L in
+      stored-long v w ok own us os ts n us′ os′ ts′ e (m .0) (m .1)
+      (wu (userLabel (policyOf v)) (rw (W .users) (L .users .labels-are)) ∙ rw (W .users))
+      (wo (objectLabel (policyOf v)) (rw (W .objects) (L .objects .labels-are)) ∙ rw (W .objects))
+      (wt (entry (policyOf v)) leaders-entry ∙ rw (m .0, m .1))

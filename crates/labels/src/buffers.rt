@@ -12,14 +12,13 @@ ghost use Rattle.policy.specs.Value.{policyOf};
 ghost use Rattle.policy.specs.Valid.{valid};
 ghost use Rattle.policy.specs.declared.value.PolicyValue.{PolicyValue};
 ghost use Rattle.formula.specs.Truth.{at};
-ghost use Rattle.labels.specs.Compile.{entryOf, Compiles};
+ghost use Rattle.labels.specs.Compile.{entryOf, NU, NO, tooShort, Compiles};
 ghost use Rattle.labels.specs.Inner.Grid.{gridPlaces, Fit, ViewOf, Kept, Leading, Puts};
 ghost use Rattle.labels.specs.Inner.Labels.{LabelsOf};
 ghost use Rattle.labels.specs.Inner.Lending.{lentIn, lentAs};
 ghost use Rattle.labels.specs.Inner.Rows.{RowsOf, Stored};
 use crate::Compiled;
 use crate::Counts;
-use crate::assign::Labels;
 use crate::grid;
 use crate::grid::PLACES;
 use crate::grid::View;
@@ -130,12 +129,40 @@ fn put_table(
     }
 }
 
+// Whether some buffer is shorter than what is to be put there.
+fn too_short(
+    view: View,
+    counts: Counts,
+    widths: Widths,
+    users: &[u8],
+    objects: &[u8],
+    table: &[u8],
+    wide_users: &[u16],
+    wide_objects: &[u16],
+    wide_table: &[u16],
+) -> bool
+    ensures { λ r. ⌜ ((p : Policy) → ViewOf p view → counts .users ≡ NU p → counts .objects ≡ NO p → r ≡ tooShort p (lentAs widths (now (users .entry)) (now (objects .entry)) (now (table .entry)) (now («wide_users» .entry)) (now («wide_objects» .entry)) (now («wide_table» .entry)))) ⌝ }
+{
+    if lending::length(widths.label, users, wide_users) < view.rows {
+        return true;
+    }
+    if lending::length(widths.label, objects, wide_objects) < view.columns {
+        return true;
+    }
+    let places = counts.users as usize * counts.objects as usize;
+    lending::length(widths.entry, table, wide_table) < places
+}
+
 // The labels of a valid policy and their table, into the three buffers if these are long enough.
 pub fn store(
     grid: &[u16; PLACES],
     from: Rows,
     view: View,
-    labels: Labels,
+    user_labels: &[u16; MOST_SETS],
+    user_leaders: &[u16; MOST_SETS],
+    object_labels: &[u16; MOST_SETS],
+    object_leaders: &[u16; MOST_SETS],
+    counts: Counts,
     widths: Widths,
     users: &mut [u8],
     objects: &mut [u8],
@@ -144,37 +171,30 @@ pub fn store(
     wide_objects: &mut [u16],
     wide_table: &mut [u16],
 ) -> Compiled
-    requires { ⌜ (from .user ≡ true) × ((p : Policy) × RowsOf p from × ViewOf p view × LabelsOf p labels × (view .rows * view .columns ≤ gridPlaces → Kept p (now grid) view)) × (from .actions ≤ widths .entry) × (view .rows ≤ 2 ^ (widths .label)) × (view .columns ≤ 2 ^ (widths .label)) ⌝ }
-    ensures { λ r. ⌜ ((v : PolicyValue) → valid v ≡ true → ownWidths (v .form) widths ≡ true → RowsOf (policyOf v) from → ViewOf (policyOf v) view → LabelsOf (policyOf v) labels → (view .rows * view .columns ≤ gridPlaces → Kept (policyOf v) (now (grid .entry)) view) → Compiles v (lentAs widths (now (users .entry)) (now (objects .entry)) (now (table .entry)) (now («wide_users» .entry)) (now («wide_objects» .entry)) (now («wide_table» .entry))) r (lentAs widths (now (users .exit)) (now (objects .exit)) (now (table .exit)) (now («wide_users» .exit)) (now («wide_objects» .exit)) (now («wide_table» .exit)))) ⌝ }
+    requires { ⌜ (from .user ≡ true) × ((p : Policy) × RowsOf p from × ViewOf p view × LabelsOf p (now «user_labels») (now «user_leaders») (now «object_labels») (now «object_leaders») counts × (view .rows * view .columns ≤ gridPlaces → Kept p (now grid) view)) × (from .actions ≤ widths .entry) × (view .rows ≤ 2 ^ (widths .label)) × (view .columns ≤ 2 ^ (widths .label)) ⌝ }
+    ensures { λ r. ⌜ ((v : PolicyValue) → valid v ≡ true → ownWidths (v .form) widths ≡ true → RowsOf (policyOf v) from → ViewOf (policyOf v) view → LabelsOf (policyOf v) (now («user_labels» .entry)) (now («user_leaders» .entry)) (now («object_labels» .entry)) (now («object_leaders» .entry)) counts → (view .rows * view .columns ≤ gridPlaces → Kept (policyOf v) (now (grid .entry)) view) → Compiles v (lentAs widths (now (users .entry)) (now (objects .entry)) (now (table .entry)) (now («wide_users» .entry)) (now («wide_objects» .entry)) (now («wide_table» .entry))) r (lentAs widths (now (users .exit)) (now (objects .exit)) (now (table .exit)) (now («wide_users» .exit)) (now («wide_objects» .exit)) (now («wide_table» .exit)))) ⌝ }
 {
-    let nu = labels.users.count;
-    let no = labels.objects.count;
-    if lending::length(widths.label, users, wide_users) < view.rows {
+    if too_short(
+        view,
+        counts,
+        widths,
+        users,
+        objects,
+        table,
+        wide_users,
+        wide_objects,
+        wide_table,
+    ) {
         return Compiled::Refused(Refusal::BufferTooShort);
     }
-    if lending::length(widths.label, objects, wide_objects) < view.columns {
-        return Compiled::Refused(Refusal::BufferTooShort);
-    }
-    let places = nu * no;
-    if lending::length(widths.entry, table, wide_table) < places {
-        return Compiled::Refused(Refusal::BufferTooShort);
-    }
-    let counts = Counts {
-        users: nu as u32,
-        objects: no as u32,
-    };
-    let user_labels = labels.users.labels;
-    put_user_labels(widths.label, users, wide_users, &user_labels, view.rows);
-    let object_labels = labels.objects.labels;
+    put_user_labels(widths.label, users, wide_users, user_labels, view.rows);
     put_object_labels(
         widths.label,
         objects,
         wide_objects,
-        &object_labels,
+        object_labels,
         view.columns,
     );
-    let user_leaders = labels.users.leaders;
-    let object_leaders = labels.objects.leaders;
     put_table(
         widths.entry,
         table,
@@ -182,10 +202,10 @@ pub fn store(
         grid,
         from,
         view,
-        &user_labels,
-        &user_leaders,
-        &object_labels,
-        &object_leaders,
+        user_labels,
+        user_leaders,
+        object_labels,
+        object_leaders,
         counts,
     );
     Compiled::Stored(counts)

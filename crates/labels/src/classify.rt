@@ -10,22 +10,13 @@ use crate::grid::PLACES;
 use crate::grid::View;
 use policy::limits::MOST_SETS;
 
-// The label of each row, the lowest row of each label, and how many labels there are.
-pub struct Classes {
-    pub labels: [u16; MOST_SETS],
-    pub leaders: [u16; MOST_SETS],
-    pub count: usize,
-}
-
-// One label for all rows, before any column is looked at.
-pub fn alike() -> Classes
-    ensures { λ r. ⌜ (r .count ≡ 1) × ((u : ℕ) → getD (r .labels) u 0 ≡ 0) × (getD (r .leaders) 0 0 ≡ 0) ⌝ }
+// One label for all rows, before any column is looked at; and how many labels these are.
+pub fn alike(labels: &mut [u16; MOST_SETS], leaders: &mut [u16; MOST_SETS]) -> usize
+    ensures { λ r. ⌜ (r ≡ 1) × ((u : ℕ) → getD (now (labels .exit)) u 0 ≡ 0) × (getD (now (leaders .exit)) 0 0 ≡ 0) ⌝ }
 {
-    Classes {
-        labels: [0; MOST_SETS],
-        leaders: [0; MOST_SETS],
-        count: 1,
-    }
+    *labels = [0; MOST_SETS];
+    *leaders = [0; MOST_SETS];
+    1
 }
 
 // The first of `count` labels whose leader had one label with row u before, and is like it in the grid; or `count` where
@@ -57,26 +48,29 @@ fn label_of(
     count
 }
 
-// The labels of the rows: of two that had one label before, only those keep one that are alike in the grid.
-pub fn classify(grid: &[u16; PLACES], view: View, before: &[u16; MOST_SETS]) -> Classes
+// Puts the label of each row and the lowest row of each label: of two rows that had one label before, only those keep one
+// that are alike in the grid. Says how many labels there are.
+pub fn classify(
+    grid: &[u16; PLACES],
+    view: View,
+    before: &[u16; MOST_SETS],
+    labels: &mut [u16; MOST_SETS],
+    leaders: &mut [u16; MOST_SETS],
+) -> usize
     requires { ⌜ Inside view ⌝ }
-    ensures { λ r. ⌜ Labelled (likeStill (now (before .entry)) (now (grid .entry)) view) (view .rows) (r .labels) (r .leaders) (r .count) ⌝ }
+    ensures { λ r. ⌜ Labelled (likeStill (now (before .entry)) (now (grid .entry)) view) (view .rows) (now (labels .exit)) (now (leaders .exit)) r ⌝ }
 {
     let rows = view.rows;
-    let mut labels = [0u16; MOST_SETS];
-    let mut leaders = [0u16; MOST_SETS];
+    *labels = [0; MOST_SETS];
+    *leaders = [0; MOST_SETS];
     let mut count: usize = 0;
     for u in 0..rows {
-        let l = label_of(grid, view, before, &leaders, count, u);
+        let l = label_of(grid, view, before, leaders, count, u);
         labels[u] = l as u16;
         if l == count {
             leaders[count] = u as u16;
             count += 1;
         }
     }
-    Classes {
-        labels,
-        leaders,
-        count,
-    }
+    count
 }

@@ -1,5 +1,5 @@
 // A grid: rows one after the other, as many entries as are kept at once.
-ghost use Prim.Native.Nat.{ℕ, _+_, _*_, _≤_, _<_};
+ghost use Prim.Native.Nat.{ℕ, _+_, _*_, _≤_, _<_, min};
 ghost use mathlib.Core.Path.{_≡_};
 ghost use mathlib.Core.Bool.{not};
 ghost use lib.Dec.{leb};
@@ -62,6 +62,13 @@ pub fn holds(view: View) -> bool
     ensures { λ r. ⌜ r ≡ leb (view .rows * view .columns) gridPlaces ⌝ }
 {
     view.rows * view.columns <= PLACES
+}
+
+// The lesser of two numbers.
+pub fn least(a: usize, b: usize) -> usize
+    ensures { λ r. ⌜ r ≡ min a b ⌝ }
+{
+    if a < b { a } else { b }
 }
 
 // The first n sets, in order.

@@ -19,6 +19,7 @@ mod whole;
 
 use crate::grid::PLACES;
 use policy::limits;
+use policy::limits::MOST_SETS;
 use policy::limits::Widths;
 use policy::refusal::Refusal;
 use policy::value::PolicyValue;
@@ -84,12 +85,28 @@ fn compile(
     let sides = from.sides;
     let view = grid::view_of(sides);
     let mut entries = [0u16; PLACES];
-    let labels = assign::label(&mut entries, from, view);
+    let mut user_labels = [0u16; MOST_SETS];
+    let mut user_leaders = [0u16; MOST_SETS];
+    let mut object_labels = [0u16; MOST_SETS];
+    let mut object_leaders = [0u16; MOST_SETS];
+    let counts = assign::label(
+        &mut entries,
+        from,
+        view,
+        &mut user_labels,
+        &mut user_leaders,
+        &mut object_labels,
+        &mut object_leaders,
+    );
     buffers::store(
         &entries,
         from,
         view,
-        labels,
+        &user_labels,
+        &user_leaders,
+        &object_labels,
+        &object_leaders,
+        counts,
         widths,
         users,
         objects,
@@ -183,11 +200,20 @@ pub fn used(policy: PolicyValue) -> Compiled
     let sides = from.sides;
     let view = grid::view_of(sides);
     let mut entries = [0u16; PLACES];
-    let labels = assign::label(&mut entries, from, view);
-    Compiled::Stored(Counts {
-        users: labels.users.count as u32,
-        objects: labels.objects.count as u32,
-    })
+    let mut user_labels = [0u16; MOST_SETS];
+    let mut user_leaders = [0u16; MOST_SETS];
+    let mut object_labels = [0u16; MOST_SETS];
+    let mut object_leaders = [0u16; MOST_SETS];
+    let counts = assign::label(
+        &mut entries,
+        from,
+        view,
+        &mut user_labels,
+        &mut user_leaders,
+        &mut object_labels,
+        &mut object_leaders,
+    );
+    Compiled::Stored(counts)
 }
 
 // Whether no action and no object set tells two user sets apart, or else some that do: the lowest object set, and at it

@@ -11,7 +11,6 @@ ghost use Rattle.labels.specs.Rows.{rowsAlike};
 ghost use Rattle.labels.specs.Inner.Rows.{RowsOf, entryIn};
 ghost use Rattle.labels.specs.Inner.Grid.{gridPlaces, Labelled};
 use crate::classify;
-use crate::classify::Classes;
 use crate::classify::classify;
 use crate::grid;
 use crate::grid::PLACES;
@@ -19,38 +18,35 @@ use crate::grid::View;
 use crate::rows::Rows;
 use policy::limits::MOST_SETS;
 
-fn least(a: usize, b: usize) -> usize
-    ensures { λ r. ⌜ (r ≤ a) × (r ≤ b) × (0 < a → 0 < b → 0 < r) ⌝ }
-{
-    if a < b { a } else { b }
-}
-
-// The labels of n sets, by the rows of the first k of the chosen sets of the other side.
+// Puts the labels of n sets and the lowest set of each label, by the rows of the first k of the chosen sets of the other
+// side. Says how many labels there are.
 pub fn classes(
     grid: &mut [u16; PLACES],
     from: Rows,
     chosen: &[u16; MOST_SETS],
     k: usize,
     n: usize,
-) -> Classes
+    labels: &mut [u16; MOST_SETS],
+    leaders: &mut [u16; MOST_SETS],
+) -> usize
     requires { ⌜ ((p : Policy) × RowsOf p from × (n ≡ sets (sideAt (not (from .user)) p))) × (length (now grid) ≡ gridPlaces) × (0 < n) × (n ≤ mostSets) × (k ≤ mostSets) × ((i : ℕ) → i < k → getD (now chosen) i 0 < mostSets) ⌝ }
-    ensures { λ r. ⌜ (length (now (grid .exit)) ≡ gridPlaces) × ((p : Policy) → RowsOf p from → n ≡ sets (sideAt (not (from .user)) p) → Labelled (rowsAlike (entryIn p (from .user) (now (chosen .entry))) k) n (r .labels) (r .leaders) (r .count)) ⌝ }
+    ensures { λ r. ⌜ (length (now (grid .exit)) ≡ gridPlaces) × ((p : Policy) → RowsOf p from → n ≡ sets (sideAt (not (from .user)) p) → Labelled (rowsAlike (entryIn p (from .user) (now (chosen .entry))) k) n (now (labels .exit)) (now (leaders .exit)) r) ⌝ }
 {
     let most = PLACES / n;
-    let mut classes = classify::alike();
+    let mut count = classify::alike(labels, leaders);
     let mut start: usize = 0;
     while start < k {
-        let count = least(most, k - start);
-        grid::fill(grid, from, chosen, start, count, n);
+        let columns = grid::least(most, k - start);
+        grid::fill(grid, from, chosen, start, columns, n);
         let view = View {
             rows: n,
-            columns: count,
+            columns,
             down: 1,
             along: n,
         };
-        let before = classes.labels;
-        classes = classify(grid, view, &before);
-        start += count;
+        let before = *labels;
+        count = classify(grid, view, &before, labels, leaders);
+        start += columns;
     }
-    classes
+    count
 }

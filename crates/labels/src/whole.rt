@@ -4,23 +4,39 @@ ghost use Prim.Native.Nat.{ℕ, _+_, _*_, _≤_, _<_};
 ghost use mathlib.Core.Path.{_≡_};
 ghost use mathlib.Core.Bool.{true};
 ghost use lib.ListN.{length, getD};
+ghost use Rattle.policy.specs.Limits.{mostActions};
 ghost use Rattle.policy.specs.Policy.{Policy};
-ghost use Rattle.formula.specs.Inner.Lane.{lanes};
+ghost use Rattle.formula.specs.Inner.Group.{groupSize};
+ghost use Rattle.formula.specs.Inner.Lane.{lanes, within, inBlock};
 ghost use Rattle.labels.specs.Inner.Rows.{RowsOf, laneEntry};
 ghost use Rattle.labels.specs.Inner.Grid.{gridPlaces, ViewOf, Kept};
+use crate::grid;
 use crate::grid::PLACES;
 use crate::grid::View;
-use crate::rows;
 use crate::rows::Rows;
 use formula::attributes;
 use formula::blocks;
+use formula::blocks::SIDE_VECTORS;
 use formula::entries;
+use formula::entries::GRANTED;
 use formula::side;
 use formula::side::LANES;
+use formula::turn;
+use formula::turn::GROUP;
 use policy::limits::MOST_ACTIONS;
 
-// Puts the entries of the first `count` lanes from a place on.
-pub fn put_lanes(
+// Puts the first `count` of eight entries from a place on.
+fn put_some(places: &mut [u16], entries: &[u16; GROUP], start: usize, count: usize)
+    requires { ⌜ (count ≤ groupSize) × (start + count ≤ length (now places)) ⌝ }
+    ensures { λ _. ⌜ (length (now (places .exit)) ≡ length (now (places .entry))) × ((f : ℕ → ℕ) → ((i : ℕ) → i < start → getD (now (places .entry)) i 0 ≡ f i) → ((k : ℕ) → k < count → getD (now (entries .entry)) k 0 ≡ f (start + k)) → (i : ℕ) → i < start + count → getD (now (places .exit)) i 0 ≡ f i) ⌝ }
+{
+    for k in 0..count {
+        places[start + k] = entries[k];
+    }
+}
+
+// Puts the entries of the first `count` lanes of a block from a place on, eight at a time.
+fn put_lanes(
     places: &mut [u16],
     granted: &[u64; MOST_ACTIONS],
     actions: u32,
@@ -28,10 +44,39 @@ pub fn put_lanes(
     count: usize,
 )
     requires { ⌜ (count ≤ lanes) × (start + count ≤ length (now places)) ⌝ }
-    ensures { λ _. ⌜ (length (now (places .exit)) ≡ length (now (places .entry))) × ((f : ℕ → ℕ) → ((i : ℕ) → i < start → getD (now (places .entry)) i 0 ≡ f i) → ((k : ℕ) → k < count → laneEntry (now (granted .entry)) actions k ≡ f (start + k)) → (i : ℕ) → i < start + count → getD (now (places .exit)) i 0 ≡ f i) ⌝ }
+    ensures { λ _. ⌜ (length (now (places .exit)) ≡ length (now (places .entry))) × ((f : ℕ → ℕ) → ((i : ℕ) → i < start → getD (now (places .entry)) i 0 ≡ f i) → ((k : ℕ) → k < count → laneEntry (within (now (granted .entry))) actions k ≡ f (start + k)) → (i : ℕ) → i < start + count → getD (now (places .exit)) i 0 ≡ f i) ⌝ }
 {
-    for k in 0..count {
-        places[start + k] = entries::entry(granted, actions, k);
+    let mut done: usize = 0;
+    let mut q: usize = 0;
+    while done < count {
+        let eight = turn::entries(granted, actions, q);
+        let m = grid::least(GROUP, count - done);
+        put_some(places, &eight, start + done, m);
+        done += GROUP;
+        q += 1;
+    }
+}
+
+// Puts the entries of `count` pairs of sets from a place on, which are in n blocks.
+pub fn put_blocks(
+    places: &mut [u16],
+    granted: &[u64],
+    n: usize,
+    actions: u32,
+    start: usize,
+    count: usize,
+)
+    requires { ⌜ (count ≤ n * lanes) × (start + count ≤ length (now places)) × (mostActions * n ≤ length (now granted)) ⌝ }
+    ensures { λ _. ⌜ (length (now (places .exit)) ≡ length (now (places .entry))) × ((f : ℕ → ℕ) → ((i : ℕ) → i < start → getD (now (places .entry)) i 0 ≡ f i) → ((b k : ℕ) → b < n → k < lanes → b * lanes + k < count → laneEntry (inBlock (now (granted .entry)) n b) actions k ≡ f (start + (b * lanes + k))) → (i : ℕ) → i < start + count → getD (now (places .exit)) i 0 ≡ f i) ⌝ }
+{
+    let mut done: usize = 0;
+    let mut b: usize = 0;
+    while done < count {
+        let block = entries::in_block(granted, n, b);
+        let m = grid::least(LANES, count - done);
+        put_lanes(places, &block, actions, start + done, m);
+        done += LANES;
+        b += 1;
     }
 }
 
@@ -45,27 +90,23 @@ pub fn fill(grid: &mut [u16; PLACES], from: Rows, view: View)
     let object_starts = sides.object;
     let user_values = attributes::total(user_starts);
     let object_values = attributes::total(object_starts);
-    let object_blocks = blocks::blocks_of(object_values);
+    let n = from.blocks;
     let side = from.side;
-    let sets = from.others;
+    let objects = from.others;
     let grants = from.grants;
-    let actions = from.actions;
     let places = view.rows * view.columns;
+    let mut users = [0u64; SIDE_VECTORS];
+    let mut granted = [0u64; GRANTED];
     let mut start: usize = 0;
-    let mut b: usize = 0;
+    let mut q: usize = 0;
     while start < places {
-        let users = side::closed(side::part(b as u32, object_values, user_values), side, true);
-        let block = sets[b % object_blocks];
-        let objects = block.vectors;
-        let granted = entries::of_lanes(sides, &users, &objects, grants);
-        put_lanes(
-            grid,
-            &granted,
-            actions,
-            start,
-            rows::in_block(places - start),
-        );
-        start += LANES;
-        b += 1;
+        let b = (q * n) as u32;
+        let block = side::closed(side::part(b, object_values, user_values), side, true);
+        blocks::put_over(&block, n, &mut users);
+        entries::put_granted(sides, &users, &objects, n, grants, &mut granted);
+        let m = grid::least(n * LANES, places - start);
+        put_blocks(grid, &granted, n, from.actions, start, m);
+        start += n * LANES;
+        q += 1;
     }
 }

@@ -1,7 +1,8 @@
 // The policy value: what the text says, line by line and in text order; every place past a count is blank.
 ghost use mathlib.Core.Path.{_≡_};
-ghost use Rattle.policy.specs.Policy.{blank};
-ghost use Rattle.policy.specs.Value.{valueOf};
+ghost use mathlib.Core.List.{[]};
+ghost use Rattle.policy.specs.Policy.{blankSide, blank};
+ghost use Rattle.policy.specs.Value.{sideValue, register, valueOf};
 use crate::limits;
 use seniority::Direct;
 
@@ -96,24 +97,36 @@ pub struct PolicyValue {
     pub pairs: Pairs,
 }
 
-// The blank value, which stands beside a refusal: no line of any kind.
-pub fn blank() -> PolicyValue
-    ensures { λ r. ⌜ r ≡ valueOf blank ⌝ }
+// A side with no line.
+fn blank_side() -> SideValue
+    ensures { λ r. ⌜ r ≡ sideValue blankSide ⌝ }
 {
     let direct = Direct {
         senior: 0,
         junior: 0,
     };
-    let side = SideValue {
+    SideValue {
         attributes: 0,
         widths: [0; WIDTH_PLACES],
         lines: 0,
         seniority: [direct; LINE_PLACES],
-    };
-    let register = Register {
+    }
+}
+
+// No user and no object.
+fn blank_register() -> Register
+    ensures { λ r. ⌜ r ≡ register [] ⌝ }
+{
+    Register {
         count: 0,
         entries: [Entry { number: 0, set: 0 }; ENTRY_PLACES],
-    };
+    }
+}
+
+// The blank value, which stands beside a refusal: no line of any kind.
+pub fn blank() -> PolicyValue
+    ensures { λ r. ⌜ r ≡ valueOf blank ⌝ }
+{
     let conflicts = Conflicts {
         count: 0,
         entries: [Conflict { set: 0, most: 0 }; CONFLICT_PLACES],
@@ -136,12 +149,13 @@ pub fn blank() -> PolicyValue
         count: 0,
         entries: [pair; PAIR_PLACES],
     };
+    // Each side and each register is made in its place, so that it is not copied there.
     PolicyValue {
         form: 0,
-        user: side,
-        object: side,
-        users: register,
-        objects: register,
+        user: blank_side(),
+        object: blank_side(),
+        users: blank_register(),
+        objects: blank_register(),
         conflicts,
         rules,
         pairs,

@@ -161,9 +161,19 @@ unfolding readText
 long-refused t h = rw (lt-ltb textBytes (length t) h) (λ x. x)
 
 module _ {t : List ℕ} {c : Cursor} (f : FirstOf t c) where
+  -- where what is read so far leaves a cursor at a fault
+  fault-refused : (d : Cursor) (p : Policy) → left t c blank ≡ left t d p → (w : Refusal) → d .ahead ≡ Fault w
+      → {x : Reading} → ReadAs (Refused (numberOf w) (d .line)) x → ReadAs (readText t) x
+  fault-refused d p e w q = rw (f .left, e, said-fault d t p w q) (λ x. x)
+
+  pub form-refused : {r : FormRead} → FormFrom t c r → (w : Refusal) → r .cursor .ahead ≡ Fault w
+      → {x : Reading} → ReadAs (Refused (numberOf w) (r .cursor .line)) x → ReadAs (readText t) x
+  unfolding blank
+  form-refused {r} h = fault-refused (r .cursor) _ (h .left blank refl)
+
   pub sides-refused : {s : SidesRead} → SidesFrom t c s → (w : Refusal) → s .cursor .ahead ≡ Fault w
       → {x : Reading} → ReadAs (Refused (numberOf w) (s .cursor .line)) x → ReadAs (readText t) x
-  sides-refused {s} h w q = rw (f .left, h .lines .left, said-fault (s .cursor) t (withSides (s .form) (h .user) (h .object)) w q) (λ x. x)
+  sides-refused {s} h = fault-refused (s .cursor) _ (h .lines .left)
 
   module _ {r : ListsRead} (l : ListsFrom t c r) (d : Cursor) (e : (p : Policy) → left t (r .cursor) p ≡ left t d p)
       (v : Verdict) (s : (t : List ℕ) (p : Policy) → left t d p ≡ outcomeOf v p) where

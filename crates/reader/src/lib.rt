@@ -73,7 +73,14 @@ pub fn read(text: &[u8]) -> Reading
         return refused(Refusal::TextTooLong, 0);
     }
     let c = cursor::first(text);
-    let s = sides::read(text, c);
+    let f = form::read(text, c);
+    let c = f.cursor;
+    // Where the form is refused, there is no side to make room for.
+    let a = c.ahead;
+    if let Ahead::Fault(why) = a {
+        return refused(why, c.line);
+    }
+    let s = sides::read(text, f);
     let c = s.cursor;
     // Where the sides are refused, there is no list to make room for.
     let a = c.ahead;

@@ -1,7 +1,8 @@
-// The form of a text, and the user side and the object side.
-ghost use Rattle.reader.specs.Inner.Cursor.{Stands};
-ghost use Rattle.reader.specs.Inner.Lists.{SidesFrom};
+// The user side and the object side of a text, beside its form.
+ghost use Rattle.reader.specs.Inner.Lists.{FormFrom, SidesFrom};
+ghost use Rattle.reader.specs.declared.cursor.Cursor.{Cursor};
 use crate::cursor::Cursor;
+use crate::form::FormRead;
 use checks::side::Shape;
 use policy::value::SideValue;
 use text::kind::Kind;
@@ -16,12 +17,11 @@ pub struct SidesRead {
     pub cursor: Cursor,
 }
 
-// The lines of the form, the attributes and the seniorities, which a text starts with.
-pub fn read(text: &[u8], cursor: Cursor) -> SidesRead
-    requires { ⌜ Stands (now text) cursor ⌝ }
-    ensures { λ r. ⌜ SidesFrom (now (text .entry)) cursor r ⌝ }
+// The lines of the attributes and the seniorities behind this form.
+pub fn read(text: &[u8], f: FormRead) -> SidesRead
+    requires { ⌜ ((c : Cursor) × FormFrom (now text) c f) ⌝ }
+    ensures { λ r. ⌜ ((c : Cursor) → FormFrom (now (text .entry)) c f → SidesFrom (now (text .entry)) c r) ⌝ }
 {
-    let f = crate::form::read(text, cursor);
     let c = f.cursor;
     let most = policy::limits::values(f.form);
     let u = crate::widths::read(text, c, Kind::Uattr, most);

@@ -20,7 +20,7 @@ use Rattle.formula.specs.Inner.Source.{SourceOf}
 use Rattle.formula.specs.declared.blocks.Source.{Source}
 use Rattle.tuples.specs.Tuples.{tuples}
 use Rattle.tuples.specs.Inner.Blocks.{mostBlocks, pairBlocks, tupleAt, StripOf}
-use Rattle.tuples.specs.Inner.Marks.{marked, passing}
+use Rattle.tuples.specs.Inner.Marks.{stripWords, marked, passing}
 use Rattle.tuples.specs.declared.marks.Marks.{Marks}
 use Rattle.tuples.proofs.From.{passing-all, passing-end}
 use Rattle.tuples.proofs.Numbering.{blocks-few}
@@ -38,12 +38,13 @@ use Rattle.report.proofs.Onward.{some-onward}
 
 -- a cursor with other bytes held, one with other tuples of its strip, and one in its next strip
 abbrev pub holding : Cursor → Held → Cursor
-holding c h = record { source = c .source; grants = c .grants; listed = c .listed; done = c .done; tuples = c .tuples; held = h }
+holding c h = record { source = c .source; objects = c .objects; grants = c .grants; listed = c .listed; done = c .done; tuples = c .tuples; held = h }
 
 abbrev pub listing : Cursor → ℕ → Cursor
 listing c from =
     record {
       source = c .source;
+      objects = c .objects;
       grants = c .grants;
       listed = c .listed;
       done = c .done;
@@ -62,6 +63,7 @@ abbrev pub onward : Cursor → Marks → Cursor
 onward c m =
     record {
       source = c .source;
+      objects = c .objects;
       grants = c .grants;
       listed = c .listed;
       done = c .done;
@@ -142,6 +144,11 @@ module _ {p : Policy} {c : Cursor} (s : Standing p c) where
   pub strip-within : c .tuples .first + c .tuples .marks .count ≤ c .tuples .end
   strip-within = omega (arith, s .tuples .strip .within, s .tuples .end)
 
+  -- the lines of its tuples can be put
+  pub tuples-ready : (c .tuples .values < 32) × (c .tuples .first * lanes ≤ mostTuples) × (c .tuples .marks .count ≤ stripWords) × (c .tuples .from ≤ marksEnd (c .tuples))
+  tuples-ready =
+      (omega (arith, s .tuples .values, s .source .sides .object .most), omega (arith, end-few, strip-within), s .tuples .strip .few, s .tuples .within)
+
   strip-inside : c .tuples .first * lanes + marksEnd (c .tuples) ≤ numbersEnd (c .tuples)
   strip-inside = omega (arith, strip-within)
 
@@ -221,6 +228,7 @@ abbrev pub begun : Cursor → ℕ → Marks → Held → Cursor
 begun c a m h =
     record {
       source = c .source;
+      objects = c .objects;
       grants = c .grants;
       listed = c .listed;
       done = c .done + 1;
@@ -229,7 +237,7 @@ begun c a m h =
     }
 
 -- they are no more than all pairs of sets
-pub tuples-few : (p : Policy) (a : ℕ) {x : Source} → SourceOf p x → length (tuples p a) ≤ mostTuples
+pub tuples-few : (p : Policy) (a : ℕ) {x : Source} {objects : List ℕ} → SourceOf p x objects → length (tuples p a) ≤ mostTuples
 tuples-few p a s = omega (arith, tuples-count p a, count-le (tupleAt p a) (pairBlocks p * lanes), blocks-few p (s .sides))
 
 -- no lines of tuples are left past the end of the numbers

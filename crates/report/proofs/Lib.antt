@@ -2,6 +2,8 @@ pub mod Short
 pub mod Whole
 pub mod Rest
 pub mod Going
+pub mod Pieces
+pub mod Running
 pub mod Onward
 pub mod Left
 pub mod Collecting

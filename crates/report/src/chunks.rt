@@ -61,6 +61,7 @@ pub fn start(text: &[u8]) -> Cursor
     let sides = source.sides;
     let starts = sides.object;
     let values = attributes::total(starts);
+    let objects = blocks::of_side(object, values, false);
     let end = tuples::blocks::pair_blocks(sides);
     let marks = marks::none();
     let tuples = Tuples {
@@ -75,6 +76,7 @@ pub fn start(text: &[u8]) -> Cursor
     let listed = listed::of_grants(grants, limits::actions(policy.form));
     Cursor {
         source,
+        objects,
         grants,
         listed,
         done: 0,

@@ -1,14 +1,19 @@
 // A place in a report: what is left of it from there on, and how that is handed out.
-ghost use Prim.Native.Nat.{_+_, _≤_, _<_};
+ghost use Prim.Native.Nat.{_+_, _*_, _≤_, _<_};
 ghost use mathlib.Core.Path.{_≡_};
 ghost use mathlib.Core.Bool.{false};
 ghost use lib.ListN.{length};
+ghost use Rattle.policy.specs.Limits.{mostTuples};
 ghost use Rattle.policy.specs.Policy.{Policy};
-ghost use Rattle.report.specs.Inner.Lines.{lineRoom};
+ghost use Rattle.formula.specs.Inner.Lane.{lanes};
+ghost use Rattle.tuples.specs.Inner.Marks.{stripWords, marked};
+ghost use Rattle.report.specs.Inner.Lines.{lineRoom, tupleText, Some};
 ghost use Rattle.report.specs.Inner.Cursor.{Standing, Handed, Same, marksEnd, numbersEnd, nextNumber, isOver, remaining};
 use crate::lines;
+use crate::lines::Lines;
 use crate::lines::ROOM;
 use crate::listed::Listed;
+use formula::blocks::SIDE_VECTORS;
 use formula::blocks::Source;
 use formula::grant;
 use formula::grant::Grants;
@@ -40,6 +45,7 @@ pub struct Tuples {
 // What is left: the bytes held, then the lines of these tuples, then the blocks of the listed actions from `done` on.
 pub struct Cursor {
     pub source: Source,
+    pub objects: [u64; SIDE_VECTORS],
     pub grants: Grants,
     pub listed: Listed,
     pub done: usize,
@@ -77,7 +83,8 @@ pub fn is_over(c: Cursor) -> bool
     listed.count <= c.done
 }
 
-fn least(a: usize, b: usize) -> usize
+// The lesser of two numbers.
+pub fn least(a: usize, b: usize) -> usize
     ensures { λ r. ⌜ (r ≤ a) × (r ≤ b) × (0 < a → 0 < b → 0 < r) ⌝ }
 {
     if a < b { a } else { b }
@@ -103,15 +110,14 @@ fn hand_held(c: Cursor, buf: &mut [u8]) -> Chunk
     Chunk { count, next }
 }
 
-// The lines of the tuples that are left, as long as there is room for a line.
-fn hand_tuples(c: Cursor, buf: &mut [u8]) -> Chunk
-    requires { ⌜ ((p : Policy) × Standing p c) × (c .held .to ≤ c .held .from) × (c .tuples .from < marksEnd (c .tuples)) × (lineRoom ≤ length (now buf)) ⌝ }
-    ensures { λ r. ⌜ ((p : Policy) → Standing p c → Handed p c (now (buf .entry)) (now (buf .exit)) r) × (remaining (r .next) + lineRoom < remaining c) × (r .next .held ≡ c .held) ⌝ }
+// The lines of tuples, as long as there is room for a line.
+fn put_tuples(tuples: Tuples, buf: &mut [u8]) -> Lines
+    requires { ⌜ (tuples .values < 32) × (tuples .first * lanes ≤ mostTuples) × (tuples .marks .count ≤ stripWords) × (tuples .from ≤ marksEnd tuples) ⌝ }
+    ensures { λ r. ⌜ Some (λ k. tupleText (tuples .action) (tuples .values) (tuples .first * lanes + k)) (marked (tuples .marks .words)) (marksEnd tuples) (tuples .from) (now (buf .entry)) (now (buf .exit)) r ⌝ }
 {
-    let tuples = c.tuples;
     let marks = tuples.marks;
     let words = marks.words;
-    let lines = lines::tuple_lines(
+    lines::tuple_lines(
         tuples.action,
         tuples.values,
         tuples.first * LANES,
@@ -119,17 +125,18 @@ fn hand_tuples(c: Cursor, buf: &mut [u8]) -> Chunk
         marks.count,
         tuples.from,
         buf,
-    );
-    let rest = Tuples {
-        action: tuples.action,
-        values: tuples.values,
-        first: tuples.first,
-        end: tuples.end,
-        from: lines.next,
-        marks,
-    };
+    )
+}
+
+// The lines of the tuples that are left, as long as there is room for a line.
+fn hand_tuples(c: Cursor, buf: &mut [u8]) -> Chunk
+    requires { ⌜ ((p : Policy) × Standing p c) × (c .held .to ≤ c .held .from) × (c .tuples .from < marksEnd (c .tuples)) × (lineRoom ≤ length (now buf)) ⌝ }
+    ensures { λ r. ⌜ ((p : Policy) → Standing p c → Handed p c (now (buf .entry)) (now (buf .exit)) r) × (remaining (r .next) + lineRoom < remaining c) × (r .next .held ≡ c .held) ⌝ }
+{
+    let tuples = c.tuples;
+    let lines = put_tuples(tuples, buf);
     let mut next = c;
-    next.tuples = rest;
+    next.tuples.from = lines.next;
     Chunk {
         count: lines.at,
         next,
@@ -142,13 +149,15 @@ fn hold_tuples(c: Cursor) -> Cursor
     ensures { λ r. ⌜ ((p : Policy) → Standing p c → Same p c r) × (remaining r < remaining c) ⌝ }
 {
     let mut line = blank();
-    let chunk = hand_tuples(c, &mut line);
+    let tuples = c.tuples;
+    let lines = put_tuples(tuples, &mut line);
     let held = Held {
         from: 0,
-        to: chunk.count,
+        to: lines.at,
         bytes: line,
     };
-    let mut next = chunk.next;
+    let mut next = c;
+    next.tuples.from = lines.next;
     next.held = held;
     next
 }
@@ -162,10 +171,12 @@ fn with_strip(c: Cursor) -> Cursor
     let made = tuples.marks;
     let first = tuples.first + made.count;
     let source = c.source;
+    let objects = c.objects;
     let grants = c.grants;
     let mut words = [0u64; WORDS];
     let count = blocks::marks(
         source,
+        &objects,
         grant::of_action(grants, tuples.action),
         first,
         &mut words,
@@ -194,11 +205,12 @@ fn with_action(c: Cursor) -> Cursor
     let i = c.done;
     let action = actions[i];
     let source = c.source;
+    let objects = c.objects;
     let grants = c.grants;
     let grant = grant::of_action(grants, action);
     let mut words = [0u64; WORDS];
-    let n = blocks::marks(source, grant, 0, &mut words);
-    let count = strips::count(source, grant, &words, n);
+    let n = blocks::marks(source, &objects, grant, 0, &mut words);
+    let count = strips::count(source, &objects, grant, &words, n);
     let marks = Marks { count: n, words };
     let mut line = blank();
     let to = lines::action_line(action, count as u32, &mut line);
@@ -218,6 +230,7 @@ fn with_action(c: Cursor) -> Cursor
     };
     Cursor {
         source,
+        objects,
         grants,
         listed,
         done: i + 1,

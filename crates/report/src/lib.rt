@@ -4,6 +4,7 @@ mod counts;
 mod cursor;
 mod lines;
 mod listed;
+mod runs;
 
 pub use cursor::Chunk;
 pub use cursor::Cursor;

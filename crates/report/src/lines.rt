@@ -1,13 +1,16 @@
 // The lines of a report, each put at the start of a lent buffer.
 ghost use mathlib.Core.Path.{_≡_};
 ghost use Prim.Native.Nat.{_+_, _*_, _/_, _%_, _^_, _<_, _≤_};
-ghost use lib.ListN.{length};
+ghost use lib.ListN.{length, getD};
 ghost use Rattle.policy.specs.Limits.{mostTuples};
 ghost use Rattle.formula.specs.Inner.Lane.{lanes};
 ghost use Rattle.tuples.specs.Inner.Marks.{stripWords, marked};
 ghost use Rattle.writer.specs.Inner.Put.{Put};
 ghost use Rattle.report.specs.Report.{refusalLine, labelsLine, actionLine};
 ghost use Rattle.report.specs.Inner.Lines.{lineRoom, ended, tupleText, Some};
+use crate::cursor;
+use crate::runs;
+use crate::runs::ENDS;
 use formula::side::LANES;
 use tuples::marks;
 use tuples::marks::WORDS;
@@ -63,18 +66,33 @@ fn object_set(n: u32, values: u32) -> u32
     n % (1 << values)
 }
 
-// The line of a tuple.
-fn tuple_line(action: u32, values: u32, n: u32, buf: &mut [u8]) -> usize
-    requires { ⌜ (values < 32) × (lineRoom ≤ length (now buf)) ⌝ }
-    ensures { λ r. ⌜ Put (tupleText action values n) 0 (now (buf .entry)) (now (buf .exit)) r ⌝ }
+// How many numbers from t on have the user set of t and their bits in the word of bit x.
+fn run_length(values: u32, t: u32, x: usize) -> usize
+    requires { ⌜ values < 32 ⌝ }
+    ensures { λ r. ⌜ (0 < r) × (t % 2 ^ values + r ≤ 2 ^ values) × (x % lanes + r ≤ lanes) ⌝ }
 {
-    let user = user_set(n, values);
-    let object = object_set(n, values);
-    line::put_three(b"tuple", action, user, object, buf)
+    let of_set = (1 << values) - object_set(t, values);
+    cursor::least(of_set as usize, LANES - x % LANES)
+}
+
+// Word b.
+fn word(words: &[u64; WORDS], b: usize) -> u64
+    requires { ⌜ b < stripWords ⌝ }
+    ensures { λ r. ⌜ r ≡ getD (now (words .entry)) b 0 ⌝ }
+{
+    words[b]
+}
+
+// The bits from x on of its word.
+fn word_from(words: &[u64; WORDS], x: usize) -> u64
+    requires { ⌜ x < stripWords * lanes ⌝ }
+    ensures { λ r. ⌜ (r ≡ getD (now (words .entry)) (x / lanes) 0 / 2 ^ (x % lanes)) × (getD (now (words .entry)) (x / lanes) 0 < 2 ^ lanes) ⌝ }
+{
+    word(words, x / LANES) >> (x % LANES)
 }
 
 // The lines of the tuples that the first n words mark from their bit `from` on, as long as there is room for a line.
-// The first bit of these words is number `start`.
+// The first bit of these words is number `start`. They are put run by run, since the lines of a run start alike.
 pub fn tuple_lines(
     action: u32,
     values: u32,
@@ -88,6 +106,9 @@ pub fn tuple_lines(
     ensures { λ r. ⌜ Some (λ k. tupleText action values (start + k)) (marked (now (words .entry))) (n * lanes) from (now (buf .entry)) (now (buf .exit)) r ⌝ }
 {
     let end = n * LANES;
+    let mut ends = [0u8; ENDS];
+    let tabled = runs::fill_ends(values, buf.len() / ROOM, &mut ends);
+    let mut head = runs::start_of(action, 0);
     let mut at = 0;
     let mut next = from;
     while next < end {
@@ -98,9 +119,14 @@ pub fn tuple_lines(
         if end <= x {
             return Lines { at, next: x };
         }
-        let m = tuple_line(action, values, (start + x) as u32, &mut buf[at..]);
-        at += m;
-        next = x + 1;
+        let t = (start + x) as u32;
+        head = runs::start_for(user_set(t, values), head);
+        let count = run_length(values, t, x);
+        let w = word_from(words, x);
+        let object = object_set(t, values);
+        let lines = runs::run_lines(head, &ends, tabled, object, w, count, &mut buf[at..]);
+        at += lines.at;
+        next = x + lines.next;
     }
     Lines { at, next }
 }

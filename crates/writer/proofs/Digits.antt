@@ -10,6 +10,8 @@ use lib.Seq.{drop-cons, drop-set-lt, getD-set-same, take-all}
 use Rattle.basis.specs.Bytes.{byte}
 use Rattle.text.specs.Number.{decimal}
 use Rattle.text.proofs.RoundTrip.{decimal-one, decimal-more}
+use Rattle.writer.specs.Inner.Put.{Room, Put, lastDigit}
+use Rattle.writer.proofs.Putting.{room-first, room-next, put-next, put-byte}
 
 -- a byte in front of what stands behind a place
 set-drop : (ds : List ℕ) (i d : ℕ) → i < length ds → drop i (set ds i d) ≡ d ∷ drop (suc i) ds
@@ -66,3 +68,60 @@ module _ {m n : ℕ} {digits : List ℕ} {from rest : ℕ} (x : Behind m n digit
         take-all (m - from) (drop from (set digits from d)) l
         ∙ set-drop digits from d (omega (arith, x .places, x .inside))
         ∙ sym (x .are ∙ rw (decimal-one rest h, e, r))
+
+-- ---- one, two or three digits, put one after the other
+
+pub last-put : (n : ℕ) {d at : ℕ} {b : List ℕ} → d ≡ byte "0" + n % 10 → Room (lastDigit n) at b → Put (lastDigit n) at b (set b at d) (at + 1)
+last-put n e h = rw e (put-byte h)
+
+one-is : (n : ℕ) → n < 10 → decimal n ≡ lastDigit n
+one-is n h =
+    let e : n % 10 ≡ n = omega arith in
+    rw e (decimal-one n h)
+
+two-is : (n : ℕ) → 10 ≤ n → n < 100 → decimal n ≡ lastDigit (n / 10) ++ lastDigit n
+two-is n l h = rw (decimal-more n l, one-is (n / 10) (omega arith))
+
+three-is : (n : ℕ) → 100 ≤ n → n < 1000 → decimal n ≡ lastDigit (n / 10 / 10) ++ (lastDigit (n / 10) ++ lastDigit n)
+three-is n l h =
+    rw (decimal-more n (omega arith), two-is (n / 10) (omega arith) (omega arith))
+    (append-assoc (lastDigit (n / 10 / 10)) (lastDigit (n / 10)) (lastDigit n))
+
+module _ {n at : ℕ} {b : List ℕ} where
+  pub one-room : n < 10 → Room (decimal n) at b → Room (lastDigit n) at b
+  one-room h x = rw (one-is n h) at x
+
+  pub one-put : {m : List ℕ} {r : ℕ} → n < 10 → Put (lastDigit n) at b m r → Put (decimal n) at b m r
+  one-put h x = rw (one-is n h) x
+
+  module _ (l : 10 ≤ n) (h : n < 100) where
+    two-of : Room (decimal n) at b → Room (lastDigit (n / 10) ++ lastDigit n) at b
+    two-of x = rw (two-is n l h) at x
+
+    pub two-room : Room (decimal n) at b → Room (lastDigit (n / 10)) at b
+    two-room x = room-first _ _ (two-of x)
+
+    module _ {m : List ℕ} {r : ℕ} (p : Put (lastDigit (n / 10)) at b m r) where
+      pub two-next : Room (decimal n) at b → Room (lastDigit n) r m
+      two-next x = room-next (two-of x) p
+
+      pub two-put : {k : List ℕ} {q : ℕ} → Put (lastDigit n) r m k q → Put (decimal n) at b k q
+      two-put y = rw (two-is n l h) (put-next p y)
+
+  module _ (l : 100 ≤ n) (h : n < 1000) where
+    three-of : Room (decimal n) at b → Room (lastDigit (n / 10 / 10) ++ (lastDigit (n / 10) ++ lastDigit n)) at b
+    three-of x = rw (three-is n l h) at x
+
+    pub three-room : Room (decimal n) at b → Room (lastDigit (n / 10 / 10)) at b
+    three-room x = room-first _ _ (three-of x)
+
+    module _ {m : List ℕ} {r : ℕ} (p : Put (lastDigit (n / 10 / 10)) at b m r) where
+      pub three-second : Room (decimal n) at b → Room (lastDigit (n / 10)) r m
+      three-second x = room-first _ _ (room-next (three-of x) p)
+
+      module _ {k : List ℕ} {q : ℕ} (y : Put (lastDigit (n / 10)) r m k q) where
+        pub three-third : Room (decimal n) at b → Room (lastDigit n) q k
+        three-third x = room-next (room-next (three-of x) p) y
+
+        pub three-put : {j : List ℕ} {s : ℕ} → Put (lastDigit n) q k j s → Put (decimal n) at b j s
+        three-put z = rw (three-is n l h) (put-next p (put-next y z))

@@ -1,5 +1,5 @@
 // Bytes, put into a buffer from a place on; each call gives the place where they end.
-ghost use Rattle.writer.specs.Inner.Put.{Room, Put, field, feed};
+ghost use Rattle.writer.specs.Inner.Put.{Room, Put, field, feed, lone};
 
 // The bytes s.
 pub fn put(s: &[u8], buf: &mut [u8], at: usize) -> usize
@@ -29,5 +29,14 @@ pub fn put_feed(buf: &mut [u8], at: usize) -> usize
     ensures { λ r. ⌜ Put feed at (now (buf .entry)) (now (buf .exit)) r ⌝ }
 {
     buf[at] = b'\n';
+    at + 1
+}
+
+// A comma.
+pub fn put_comma(buf: &mut [u8], at: usize) -> usize
+    requires { ⌜ Room lone at (now buf) ⌝ }
+    ensures { λ r. ⌜ Put lone at (now (buf .entry)) (now (buf .exit)) r ⌝ }
+{
+    buf[at] = b',';
     at + 1
 }

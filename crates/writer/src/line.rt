@@ -4,7 +4,7 @@ ghost use mathlib.Core.Bool.{true};
 ghost use Prim.Native.Nat.{_≤_};
 ghost use lib.ListN.{take};
 ghost use Rattle.policy.specs.Value.{wordPlaces};
-ghost use Rattle.writer.specs.Inner.Put.{Room, Put, allInDigits, wordFields, bareLine, oneLine, twoLine, threeLine, formulaLine};
+ghost use Rattle.writer.specs.Inner.Put.{Room, Put, allInDigits, wordFields, bareLine, oneLine, twoLine, threeLine, formulaLine, startLine, endLine};
 use crate::bytes;
 use crate::number;
 use crate::word;
@@ -49,6 +49,26 @@ pub fn put_three(word: &[u8], a: u32, b: u32, c: u32, buf: &mut [u8]) -> usize
     at = number::put(a, buf, at);
     at = number::put(b, buf, at);
     at = number::put(c, buf, at);
+    bytes::put_feed(buf, at)
+}
+
+// The start of a line of a word and three numbers, up to the third.
+pub fn put_start(word: &[u8], a: u32, b: u32, buf: &mut [u8]) -> usize
+    requires { ⌜ Room (startLine (now word) a b) 0 (now buf) ⌝ }
+    ensures { λ r. ⌜ Put (startLine (now (word .entry)) a b) 0 (now (buf .entry)) (now (buf .exit)) r ⌝ }
+{
+    let mut at = bytes::put(word, buf, 0);
+    at = number::put(a, buf, at);
+    at = number::put(b, buf, at);
+    bytes::put_comma(buf, at)
+}
+
+// Its end: the third number and the line feed.
+pub fn put_end(c: u32, buf: &mut [u8], start: usize) -> usize
+    requires { ⌜ Room (endLine c) start (now buf) ⌝ }
+    ensures { λ r. ⌜ Put (endLine c) start (now (buf .entry)) (now (buf .exit)) r ⌝ }
+{
+    let at = number::put_digits(c, buf, start);
     bytes::put_feed(buf, at)
 }
 

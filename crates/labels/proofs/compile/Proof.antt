@@ -44,22 +44,23 @@ seen c = c .view-of .ensures _ (c .before .before .rows-of .ensures .1 .sides)
 
 label-requires : tie.Need-label-requires
 label-requires c κs =
-    let r = c .before .before .before .rows-of .ensures in (r .0, (_, r .1, seen (c .before)), length-replicate {A = ℕ} gridPlaces 0)
+    let r = c .before .before .before .before .before .before .before .rows-of .ensures in (r .0, (_, r .1, seen (c .before .before .before .before .before)), length-replicate {A = ℕ} gridPlaces 0)
 
 store-requires : tie.Need-store-requires
 unfolding policyOf
 store-requires c κs =
-    let r = c .before .before .before .before .before .before .before .before .before .before .before .rows-of .ensures in
-    let w = seen (c .before .before .before .before .before .before .before .before .before) in
-    let l = c .before .before .before .before .before .before .before .label .ensures _ (r .1) w in
-    let few = sets-few _ (ok (c .before .before .before .before .before .before .before .before .before .before .before .before .before .before)) _ (own (c .before .before .before .before .before .before .before .before .before .before .before .before)) in
-    (r .0, (_, r .1, w, l .0, l .1), rw (r .1 .actions) (actions-few _ _ (own (c .before .before .before .before .before .before .before .before .before .before .before .before))), rw (w .users) (few .0), rw (w .objects) (few .1))
+    let r = c .before .before .before .before .before .before .before .before .before .before .before .before .before .before .before .before .before .before .before .rows-of .ensures in
+    let w = seen (c .before .before .before .before .before .before .before .before .before .before .before .before .before .before .before .before .before) in
+    let l = c .before .before .before .before .before .before .before .before .before .before .before .label .ensures _ (r .1) w in
+    let few = sets-few _ (ok (c .before .before .before .before .before .before .before .before .before .before .before .before .before .before .before .before .before .before .before .before .before .before)) _ (own (c .before .before .before .before .before .before .before .before .before .before .before .before .before .before .before .before .before .before .before .before)) in
+    (r .0, (_, r .1, w, l .0, l .1), rw (r .1 .actions) (actions-few _ _ (own (c .before .before .before .before .before .before .before .before .before .before .before .before .before .before .before .before .before .before .before .before))), rw (w .users) (few .0), rw (w .objects) (few .1))
 
 returns-3 : tie.Need-returns-3
 returns-3 c =
-    let r = c .before .before .before .before .before .before .before .before .before .before .before .before .before .before .before .before .before .before .before .before .before .before .before .before .rows-of .ensures .1 in
-    let l = c .before .before .before .before .before .before .before .before .before .before .before .before .before .before .before .before .before .before .before .before .label .ensures _ r (seen (c .before .before .before .before .before .before .before .before .before .before .before .before .before .before .before .before .before .before .before .before .before .before)) in
-    c .before .before .before .before .before .before .before .before .before .before .before .before .store .ensures _ (ok (c .before .before .before .before .before .before .before .before .before .before .before .before .before .before .before .before .before .before .before .before .before .before .before .before .before .before .before)) (own (c .before .before .before .before .before .before .before .before .before .before .before .before .before .before .before .before .before .before .before .before .before .before .before .before .before)) r (seen (c .before .before .before .before .before .before .before .before .before .before .before .before .before .before .before .before .before .before .before .before .before .before)) (l .0) (l .1)
+    let r = c .before .before .before .before .before .before .before .before .before .before .before .before .before .before .before .before .before .before .before .before .before .before .before .before .before .before .before .before .before .before .before .before .rows-of .ensures .1 in
+    let w = seen (c .before .before .before .before .before .before .before .before .before .before .before .before .before .before .before .before .before .before .before .before .before .before .before .before .before .before .before .before .before .before) in
+    let l = c .before .before .before .before .before .before .before .before .before .before .before .before .before .before .before .before .before .before .before .before .before .before .before .before .label .ensures _ r w in
+    c .before .before .before .before .before .before .before .before .before .before .before .before .store .ensures _ (ok (c .before .before .before .before .before .before .before .before .before .before .before .before .before .before .before .before .before .before .before .before .before .before .before .before .before .before .before .before .before .before .before .before .before .before .before)) (own (c .before .before .before .before .before .before .before .before .before .before .before .before .before .before .before .before .before .before .before .before .before .before .before .before .before .before .before .before .before .before .before .before .before)) r w (l .0) (l .1)
 
 same-length : tie.Need-same-length
 same-length c = search needs

@@ -1,17 +1,11 @@
--- The labels of both sides as the code keeps them.
-use Prim.Native.Nat.{ℕ, _<_}
-use mathlib.Core.Path.{_≡_}
-use mathlib.Core.Bool.{Bool}
+-- The labels of both sides as the code keeps them: for each side its labels, and the lowest set of each.
+use Prim.Native.Nat.{ℕ}
 use mathlib.Core.List.{List}
 use Rattle.policy.specs.Policy.{Policy, sets}
 use Rattle.labels.specs.Compile.{likeUsers, likeObjects}
 use Rattle.labels.specs.Inner.Grid.{Labelled}
-use Rattle.labels.specs.declared.classify.Classes.{Classes}
-use Rattle.labels.specs.declared.assign.Labels.{Labels}
+use Rattle.labels.specs.declared.Counts.{Counts}
 
-abbrev pub ClassesOf : (ℕ → ℕ → Bool) → ℕ → Classes → Type 0
-ClassesOf like m c = Labelled like m (c .labels) (c .leaders) (c .count)
-
-pub record LabelsOf (p : Policy) (x : Labels) : Type 0 where
-  pub users : ClassesOf (likeUsers p) (sets (p .user)) (x .users)
-  pub objects : ClassesOf (likeObjects p) (sets (p .object)) (x .objects)
+pub record LabelsOf (p : Policy) (userLabels userLeaders objectLabels objectLeaders : List ℕ) (n : Counts) : Type 0 where
+  pub users : Labelled (likeUsers p) (sets (p .user)) userLabels userLeaders (n .users)
+  pub objects : Labelled (likeObjects p) (sets (p .object)) objectLabels objectLeaders (n .objects)

@@ -3,7 +3,7 @@ use Prim.Native.Nat.{ℕ, _<_}
 use mathlib.Core.Path.{_≡_}
 use mathlib.Core.Bool.{Bool, false, not}
 use mathlib.Core.List.{List}
-use lib.ListN.{getD}
+use lib.ListN.{length, getD}
 use Rattle.basis.specs.Numbers.{first, agree}
 use Rattle.sets.specs.Set.{has, setOf}
 use Rattle.policy.specs.Limits.{actions, mostActions}
@@ -14,7 +14,7 @@ use Rattle.formula.specs.Inner.Fits.{SideFits}
 use Rattle.formula.specs.Inner.Grant.{GrantsOf}
 use Rattle.formula.specs.Inner.Group.{grouped}
 use Rattle.formula.specs.Inner.Lane.{lanes, AttributesOf, Stands, sideAt, grownBy, beside}
-use Rattle.formula.specs.Inner.Source.{blocksOf, noBlock, Numbered}
+use Rattle.formula.specs.Inner.Source.{blocksOf, sideVectors, Numbered}
 use Rattle.labels.specs.Compile.{entryOf}
 use Rattle.labels.specs.declared.rows.Rows.{Rows}
 
@@ -24,13 +24,14 @@ pub record RowsOf (p : Policy) (x : Rows) : Type 0 where
   pub fits : SideFits (x .side)
   pub other : sideAt (not (x .user)) p ≡ sideOf (x .other)
   pub other-fits : SideFits (x .other)
-  pub others : (b : ℕ) → b < blocksOf (total (sideAt (not (x .user)) p))
-      → Numbered (not (x .user)) (sideAt (not (x .user)) p) (total (sideAt (not (x .user)) p)) b (getD (x .others) b noBlock)
+  pub blocks : x .blocks ≡ blocksOf (total (sideAt (not (x .user)) p))
+  pub long : length (x .others) ≡ sideVectors
+  pub others : Numbered (not (x .user)) (sideAt (not (x .user)) p) (total (sideAt (not (x .user)) p)) (x .others)
   pub grants : GrantsOf p (x .grants)
   pub actions : x .actions ≡ actions (p .form)
 
 -- lane k of two sides' vectors stands for a set of the one and a set of the other
-pub record InLanes (p : Policy) (user : Bool) (fixed others : List ℕ) (k s t : ℕ) : Type 0 where
+pub record InLanes (p : Policy) (user : Bool) (fixed others : ℕ → ℕ) (k s t : ℕ) : Type 0 where
   pub lane : k < lanes
   pub here : Stands (grownBy user (sideAt user p .lines)) fixed k s
   pub there : Stands (grownBy (not user) (sideAt (not user) p .lines)) others k t
@@ -39,9 +40,9 @@ pub record InLanes (p : Policy) (user : Bool) (fixed others : List ℕ) (k s t :
 abbrev pub entryIn : Policy → Bool → List ℕ → ℕ → ℕ → ℕ
 entryIn p user sets t i = entryOf p (beside user (getD sets i 0) t)
 
--- the entry of lane k, from the vectors of all actions, where there are n
-abbrev pub laneEntry : List ℕ → ℕ → ℕ → ℕ
-laneEntry vectors n k = setOf (λ a. has (getD vectors a 0) k) (grouped n)
+-- the entry of lane k, from the numbers of all actions, where there are n
+abbrev pub laneEntry : (ℕ → ℕ) → ℕ → ℕ → ℕ
+laneEntry granted n k = setOf (λ a. has (granted a) k) (grouped n)
 
 -- unless it is kept elsewhere, the row of user set u stands here, at n object sets
 abbrev pub Stored : Policy → Bool → List ℕ → ℕ → ℕ → Type 0

@@ -68,7 +68,7 @@ pub record TuplesFit (p : Policy) (t : Tuples) : Type 0 where
 
 -- the cursor is one of this policy
 pub record Standing (p : Policy) (c : Cursor) : Type 0 where
-  pub source : SourceOf p (c .source)
+  pub source : SourceOf p (c .source) (c .objects)
   pub grants : GrantsOf p (c .grants)
   pub stored : Stores (listed p) (c .listed)
   pub within : c .done ≤ c .listed .count

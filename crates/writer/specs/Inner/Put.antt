@@ -1,10 +1,11 @@
 -- What a function that writes into a lent buffer does, and the texts that the parts of a line are.
-use Prim.Native.Nat.{ℕ, _+_, _≤_}
+use Prim.Native.Nat.{ℕ, _+_, _%_, _≤_}
 use mathlib.Core.Path.{_≡_}
 use mathlib.Core.Bool.{Bool, _&&_}
 use mathlib.Core.List.{List, [], _∷_, _++_}
 use lib.Dec.{leb}
 use lib.ListN.{length, take, drop}
+use Rattle.basis.specs.Bytes.{byte}
 use Rattle.basis.specs.Lists.{all, over}
 use Rattle.seniority.specs.declared.Direct.{Direct}
 use Rattle.text.specs.Number.{decimal}
@@ -47,6 +48,13 @@ field f = comma ∷ f
 abbrev pub feed : List ℕ
 feed = lineFeed ∷ []
 
+-- a comma alone, and the last digit of a number
+abbrev pub lone : List ℕ
+lone = comma ∷ []
+
+abbrev pub lastDigit : ℕ → List ℕ
+lastDigit n = (byte "0" + n % 10) ∷ []
+
 abbrev pub numberField : ℕ → List ℕ
 numberField n = field (decimal n)
 
@@ -69,6 +77,13 @@ twoLine word a b = word ++ (numberField a ++ (numberField b ++ feed))
 
 unfoldable pub threeLine : List ℕ → ℕ → ℕ → ℕ → List ℕ
 threeLine word a b c = word ++ (numberField a ++ (numberField b ++ (numberField c ++ feed)))
+
+-- such a line with three numbers in two parts: up to the third number, and from there on
+unfoldable pub startLine : List ℕ → ℕ → ℕ → List ℕ
+startLine word a b = word ++ (numberField a ++ (numberField b ++ lone))
+
+unfoldable pub endLine : ℕ → List ℕ
+endLine c = decimal c ++ feed
 
 unfoldable pub formulaLine : List ℕ → ℕ → List ℕ → List ℕ
 formulaLine word a ns = word ++ (numberField a ++ (wordFields ns ++ feed))

@@ -1,4 +1,5 @@
 -- `board::lending::take` meets its contract: each case is the call of that name.
+use mathlib.Core.Path.{refl, _∙_}
 use borrow.Author.Needs.{needs}
 use Rattle.board.proofs.lending.take.Statement.{statement}
 use Rattle.board.proofs.lending.take.Tie as tie
@@ -30,8 +31,11 @@ close-requires c κs = search needs
 enum-known-call-5 : tie.Need-enum-known-call-5
 enum-known-call-5 c = search needs
 
-request-requires : tie.Need-request-requires
-request-requires c κs = search needs
+of-requires : tie.Need-of-requires
+of-requires c κs = search needs
+
+answered-requires : tie.Need-answered-requires
+answered-requires c κs = search needs
 
 returns : tie.Need-returns
 returns c = rw (c .before .before .call .given .1) (c .«open» .ensures _)
@@ -46,7 +50,7 @@ returns-4 : tie.Need-returns-4
 returns-4 c = rw (c .before .before .call4 .given .1) (c .close .ensures _)
 
 returns-5 : tie.Need-returns-5
-returns-5 c = rw (c .before .before .call5 .given .1) (c .request .ensures)
+returns-5 c = rw (c .before .before .before .call5 .given .1) (c .answered .ensures ∙ c .before .of .ensures _ refl)
 
 pub take-spec : {M : Type 1} → statement M
 take-spec =
@@ -61,7 +65,8 @@ take-spec =
     enum-known-call-4
     close-requires
     enum-known-call-5
-    request-requires
+    of-requires
+    answered-requires
     returns
     returns-2
     returns-3

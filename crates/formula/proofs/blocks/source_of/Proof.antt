@@ -1,6 +1,5 @@
--- `formula::blocks::source_of` meets its contract: the object sets are those of all the side's values.
-use Prim.Native.Nat.{_≤_}
-use mathlib.Core.Path.{_≡_, refl, sym, ap, _∙_}
+-- `formula::blocks::source_of` meets its contract: the blocks are those of all the object side's values.
+use mathlib.Core.Path.{_≡_, refl, ap, _∙_}
 use mathlib.Core.List.{[]}
 use native.Mathlib.Omega.{arith}
 use borrow.Author.Needs.{needs}
@@ -25,19 +24,11 @@ object-total : (c : tie.After-total) → c .total .result ≡ total (sideOf (c .
 object-total c =
     let a = c .before .before .before .args in c .total .ensures (sideOf (a .object)) (c .before .before .of-sides .ensures (bare (a .user) (a .object)) refl refl .object)
 
-of-side-requires : tie.Need-of-side-requires
-of-side-requires c κs = (c .before .before .before .pre .1, omega (arith, object-total c, c .before .before .before .pre .1 .most))
+blocks-of-requires : tie.Need-blocks-of-requires
+blocks-of-requires c κs = omega (arith, object-total c, c .before .before .before .pre .1 .most)
 
 returns : tie.Need-returns
-returns c p u o =
-    let t = c .before in
-    let e : t .total .result ≡ total (p .object) = object-total t ∙ ap total (sym o) in
-    record {
-      sides = t .before .before .of-sides .ensures p u o;
-      user = u;
-      fits = t .before .before .before .pre .0;
-      objects = λ b k h g. rw (o, ← object-total t) (c .of-side .ensures b (omega (arith, ap blocksOf e)) k g);
-    }
+returns c = (c .before .before .before .of-sides .ensures, refl, c .blocks-of .ensures ∙ ap blocksOf (object-total (c .before)))
 
 pub source-of-spec : {M : Type 1} → statement M
-source-of-spec = tie.close (tie.spec of-sides-requires total-requires of-side-requires returns)
+source-of-spec = tie.close (tie.spec of-sides-requires total-requires blocks-of-requires returns)

@@ -12,11 +12,11 @@ with-seniors-requires c κs = search needs
 
 returns : tie.Need-returns
 unfolding sideOf
-returns c = rw (c .before .if1 .taken) (c .with-juniors .ensures)
+returns c = rw (c .before .if1 .taken) (c .with-juniors .ensures .1)
 
 returns-2 : tie.Need-returns-2
 unfolding sideOf
-returns-2 c = rw (c .before .if1 .left) (c .with-seniors .ensures)
+returns-2 c = rw (c .before .if1 .left) (c .with-seniors .ensures .1)
 
 pub closed-spec : {M : Type 1} → statement M
 closed-spec = tie.close (tie.spec with-juniors-requires with-seniors-requires returns returns-2)

@@ -66,9 +66,11 @@ loop-again c =
 returns : tie.Need-returns Inv-loop μ-loop
 returns c =
     let a = c .before .before .args in let l = c .before .loop in let o = c .before .before .pre .1 in
-    let e : l .i ≡ 0 = omega arith in
-    grown-stands (a .plain) (l .r) (lowered (take (a .n) (a .t2))) (heldOrSenior (take (a .n) (a .t2))) (rw e at (l .inv .2))
-    (has-lowered mostValues (take (a .n) (a .t2)) o) (heldOrSenior-none mostValues (take (a .n) (a .t2)) o)
+    let e : l .i ≡ 0 = omega arith in (
+      l .inv .2 .long,
+      grown-stands (a .plain) (l .r) (lowered (take (a .n) (a .t2))) (heldOrSenior (take (a .n) (a .t2))) (rw e at (l .inv .2))
+          (has-lowered mostValues (take (a .n) (a .t2)) o) (heldOrSenior-none mostValues (take (a .n) (a .t2)) o),
+    )
 
 pub with-juniors-spec : {M : Type 1} → statement M
 with-juniors-spec =

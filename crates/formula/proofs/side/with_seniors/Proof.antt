@@ -66,12 +66,14 @@ returns : tie.Need-returns Inv-loop μ-loop
 unfolding raised
 returns c =
     let a = c .before .before .args in let l = c .before .loop in let o = c .before .before .pre .1 in
-    let k : length (take (a .n) (a .t2)) ≤ l .i = omega (arith, length-take-le (a .n) (a .t2) (l .inv .1)) in
-    grown-stands (a .plain) (l .r) (l .inv .2) (heldOrJunior (take (a .n) (a .t2))) (l .inv .3)
-    (λ s v.
-    let e : l .inv .2 s ≡ raised (take (a .n) (a .t2)) s = rw (drop-of-length-le (take (a .n) (a .t2)) k) at (l .inv .4 s) in
-    rw e (has-raised mostValues (take (a .n) (a .t2)) o s v))
-    (heldOrJunior-none mostValues (take (a .n) (a .t2)) o)
+    let k : length (take (a .n) (a .t2)) ≤ l .i = omega (arith, length-take-le (a .n) (a .t2) (l .inv .1)) in (
+      l .inv .3 .long,
+      grown-stands (a .plain) (l .r) (l .inv .2) (heldOrJunior (take (a .n) (a .t2))) (l .inv .3)
+          (λ s v.
+          let e : l .inv .2 s ≡ raised (take (a .n) (a .t2)) s = rw (drop-of-length-le (take (a .n) (a .t2)) k) at (l .inv .4 s) in
+          rw e (has-raised mostValues (take (a .n) (a .t2)) o s v))
+          (heldOrJunior-none mostValues (take (a .n) (a .t2)) o),
+    )
 
 pub with-seniors-spec : {M : Type 1} → statement M
 with-seniors-spec =

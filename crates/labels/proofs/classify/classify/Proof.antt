@@ -11,31 +11,31 @@ use Rattle.labels.proofs.classify.classify.Statement.{statement}
 use Rattle.labels.proofs.classify.classify.Tie as tie
 
 abbrev Inv-loop : tie.InvT-loop
-Inv-loop grid view before rows labels₀ leaders₀ count₀ u₀ labels leaders count u = Turned (likeStill before grid view) rows u labels leaders count
+Inv-loop grid view before labels₀ leaders₀ rows count₀ u₀ labels leaders count u = Turned (likeStill before grid view) rows u labels leaders count
 
 abbrev μ-loop : tie.MeasureT-loop
-μ-loop grid view before rows labels₀ leaders₀ count₀ u₀ labels leaders count u = rows - u
+μ-loop grid view before labels₀ leaders₀ rows count₀ u₀ labels leaders count u = rows - u
 
 loop-holds : tie.Need-loop-holds Inv-loop μ-loop
-loop-holds c = turned-none _ _ _ _ (c .pre .few-rows) (c .pre .few-rows)
+loop-holds c = turned-none _ _ _ _ (c .before .before .pre .few-rows) (c .before .before .pre .few-rows)
 
 label-of-requires : tie.Need-label-of-requires Inv-loop μ-loop
 label-of-requires c κs =
     let l = c .before .before in
-    let s = l .before .pre in
+    let s = c .before .before .before .before .before .pre in
     (s, c .before .loop-test .taken, omega (arith, s .few-rows), leader-row (rows-equivalence _ _ _) (l .loop .inv))
 
 cast-labels : tie.Need-cast-labels Inv-loop μ-loop
 cast-labels c =
     let l = c .before .before .before in
-    let s = l .before .pre in
+    let s = c .before .before .before .before .before .before .pre in
     omega (arith, s .few-rows, found-le (rows-equivalence _ _ _) (l .loop .inv) (c .before .before .loop-test .taken) _ (c .label-of .ensures))
 
 mul-labels : tie.Need-mul-labels Inv-loop μ-loop
 mul-labels c = search needs
 
-array-write-labels : tie.Need-array-write-labels Inv-loop μ-loop
-array-write-labels c = search needs
+element-write-labels : tie.Need-element-write-labels Inv-loop μ-loop
+element-write-labels c = search needs
 
 cast-leaders : tie.Need-cast-leaders Inv-loop μ-loop
 cast-leaders c = search needs
@@ -43,8 +43,8 @@ cast-leaders c = search needs
 mul-leaders : tie.Need-mul-leaders Inv-loop μ-loop
 mul-leaders c = search needs
 
-array-write-leaders : tie.Need-array-write-leaders Inv-loop μ-loop
-array-write-leaders c = omega arith
+element-write-leaders : tie.Need-element-write-leaders Inv-loop μ-loop
+element-write-leaders c = omega arith
 
 add-count : tie.Need-add-count Inv-loop μ-loop
 add-count c = omega arith
@@ -78,10 +78,10 @@ classify-spec =
     label-of-requires
     cast-labels
     mul-labels
-    array-write-labels
+    element-write-labels
     cast-leaders
     mul-leaders
-    array-write-leaders
+    element-write-leaders
     add-count
     add-u
     loop-less

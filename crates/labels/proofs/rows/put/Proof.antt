@@ -1,124 +1,95 @@
--- `labels::rows::put` meets its contract: the sets before `start` have their entries, and each lane of the next block
--- stands for the set and one of the other side.
-use Prim.Native.Nat.{ℕ, _+_, _-_, _*_, _%_, _≤_, _<_}
-use mathlib.Core.Path.{_≡_, refl, ap}
+-- `labels::rows::put` meets its contract: with the set in every lane, the lanes of the blocks are those of the other side.
+use Prim.Native.Nat.{ℕ, _+_, _*_, _%_, _≤_, _<_}
+use mathlib.Core.Path.{_≡_, refl, ap, _∙_}
 use mathlib.Core.Bool.{not}
 use mathlib.Core.List.{List}
-use mathlib.Core.Logic.{⊎-elim}
-use native.Mathlib.Nat.{mod-eq-of-lt, not-suc-le-zero}
 use native.Mathlib.Omega.{arith}
-use lib.ListN.{length, getD}
+use native.Mathlib.Nat.{mod-eq-of-lt, zero-add, not-suc-le-zero}
 use borrow.Author.Needs.{needs}
-use Rattle.policy.specs.Limits.{mostSets, actions as actionsOf}
 use Rattle.policy.specs.Policy.{Side, Policy, total, sets}
 use Rattle.policy.specs.Value.{sideOf}
-use Rattle.formula.specs.Inner.Grant.{GrantsOf}
-use Rattle.formula.specs.Inner.Lane.{lanes, AttributesOf, Stands, sideAt, grownBy, beside}
-use Rattle.formula.specs.Inner.Source.{blocksOf, noBlock}
-use Rattle.formula.proofs.Numbering.{blocks-cover}
+use Rattle.formula.specs.Inner.Lane.{lanes, inBlock, Stands, sideAt, grownBy, beside}
+use Rattle.formula.specs.Inner.Source.{blocksOf}
+use Rattle.formula.proofs.Placing.{stands-moved, blocks-room}
 use Rattle.labels.specs.Compile.{entryOf}
 use Rattle.labels.specs.Inner.Rows.{RowsOf, InLanes}
 use Rattle.labels.specs.declared.rows.Rows.{Rows}
-use Rattle.labels.proofs.Grids.{others-few}
+use Rattle.labels.proofs.Entries.{lane-entry}
+use Rattle.labels.proofs.Grids.{others-few, row-blocks, row-covers}
 use Rattle.labels.proofs.rows.put.Statement.{statement}
 use Rattle.labels.proofs.rows.put.Tie as tie
 
--- the lanes of the blocks, with one set of this side in all of them
+-- the lanes of a block, with one set of this side in all of them
 lanes-stand : (p : Policy) (x : Rows) → RowsOf p x → (fixed : List ℕ) (s n : ℕ) → n ≤ sets (sideAt (not (x .user)) p)
-    → ((k : ℕ) → k < lanes → Stands (grownBy (x .user) (sideOf (x .side) .lines)) fixed k s)
-    → (b k : ℕ) → b * lanes + k < n → k < lanes → InLanes p (x .user) fixed (getD (x .others) b noBlock .vectors) k s (b * lanes + k)
-lanes-stand p x r fixed s n few stand b k h g =
-    let other = sideAt (not (x .user)) p in
-    let w : b < blocksOf (total (sideAt (not (x .user)) p)) =
-    ⊎-elim (λ t. omega (arith, t .0, t .1)) (λ e. omega (arith, e)) (blocks-cover (total (sideAt (not (x .user)) p))) in
+    → (b k : ℕ) → b < x .blocks → k < lanes → b * lanes + k < n
+    → Stands (grownBy (x .user) (sideOf (x .side) .lines)) (inBlock fixed (x .blocks) b) k s
+    → InLanes p (x .user) (inBlock fixed (x .blocks) b) (inBlock (x .others) (x .blocks) b) k s (b * lanes + k)
+lanes-stand p x r fixed s n few b k hb hk h stand =
     let e : (b * lanes + k) % sets (sideAt (not (x .user)) p) ≡ b * lanes + k = mod-eq-of-lt (omega arith) in
-    record { lane = g; here = rw (ap (λ (y : Side). y .lines) (r .side)) (stand k g); there = rw e at (r .others b w k g) }
+    let w : b < blocksOf (total (sideAt (not (x .user)) p)) = omega (arith, r .blocks) in
+    record {
+      lane = hk;
+      here = rw (ap (λ (y : Side). y .lines) (r .side)) stand;
+      there = rw (r .blocks) (rw e at (r .others b k w hk));
+    }
 
-abbrev Inv-loop : tie.InvT-loop
-Inv-loop row₀ s n user sides grants actions fixed blocks start₀ b₀ row start b =
-    (start ≡ b * lanes) × (n ≤ mostSets) × (length row ≡ mostSets)
-    × ((p : Policy) → AttributesOf p sides → GrantsOf p grants → actions ≡ actionsOf (p .form) → ((c k : ℕ) → c * lanes + k < n → k < lanes → InLanes p user fixed (getD blocks c noBlock .vectors) k s (c * lanes + k))
-    → (o : ℕ) → o < start → o < n → getD row o 0 ≡ entryOf p (beside user s o))
-
-abbrev μ-loop : tie.MeasureT-loop
-μ-loop row₀ s n user sides grants actions fixed blocks start₀ b₀ row start b = n - start
-
-spread-requires : tie.Need-spread-requires Inv-loop μ-loop
+spread-requires : tie.Need-spread-requires
 spread-requires c κs = search needs
 
-closed-requires : tie.Need-closed-requires Inv-loop μ-loop
+closed-requires : tie.Need-closed-requires
 closed-requires c κs = c .before .before .before .before .pre .0 .1 .fits
 
-loop-holds : tie.Need-loop-holds Inv-loop μ-loop
-loop-holds c =
-    let h = c .before .before .before .before .before .before .pre in
-    (refl, others-few (h .0 .0) _ (h .0 .1) _ (h .0 .2), h .2, λ p x g e l o b. absurd (not-suc-le-zero b))
+put-over-requires : tie.Need-put-over-requires
+put-over-requires c κs = let h = c .before .before .before .before .before .before .before .pre .0 in (row-blocks (h .0) _ (h .1), refl)
 
-mul-block : tie.Need-mul-block Inv-loop μ-loop
-mul-block c = search needs
+slice-aggregate-put-granted : tie.Need-slice-aggregate-put-granted
+slice-aggregate-put-granted c = search needs
 
-array-copy-out-block : tie.Need-array-copy-out-block Inv-loop μ-loop
-array-copy-out-block c = search needs
+slice-aggregate-put-granted-2 : tie.Need-slice-aggregate-put-granted-2
+slice-aggregate-put-granted-2 c = search needs
 
-sub-in-block : tie.Need-sub-in-block Inv-loop μ-loop
-sub-in-block c = search needs
+slice-aggregate-put-granted-3 : tie.Need-slice-aggregate-put-granted-3
+slice-aggregate-put-granted-3 c = search needs
 
-in-block-requires : tie.Need-in-block-requires Inv-loop μ-loop
-in-block-requires c κs = search needs
+put-granted-requires : tie.Need-put-granted-requires
+put-granted-requires c κs =
+    let h = c .before .before .before .before .before .before .before .before .before .before .before .before .pre .0 in let m = row-blocks (h .0) _ (h .1) in let r = blocks-room _ m in
+    ((h .0, h .1 .sides, h .1 .grants), omega (arith, r, c .before .before .before .before .put-over .ensures .0), omega (arith, r, h .1 .long), m, omega (arith, m))
 
-put-block-requires : tie.Need-put-block-requires Inv-loop μ-loop
-put-block-requires c κs =
-    let l = c .before .before .before .before .before .before .before .loop in
-    let h = c .before .before .before .before .before .before .before .before .before .before .before .before .before .before .pre .0 in
-    ((h .0, h .1 .sides, h .1 .grants, h .1 .actions), omega (arith, c .in-block .ensures), omega (arith, c .in-block .ensures, l .inv .1), l .inv .2)
+slice-aggregate-put-blocks : tie.Need-slice-aggregate-put-blocks
+slice-aggregate-put-blocks c = search needs
 
-add-start : tie.Need-add-start Inv-loop μ-loop
-add-start c = search needs
+put-blocks-requires : tie.Need-put-blocks-requires
+put-blocks-requires c κs =
+    let h = c .before .before .before .before .before .before .before .before .before .before .before .before .before .before .before .before .pre in let m = row-blocks (h .0 .0) _ (h .0 .1) in
+    (row-covers (h .0 .0) _ (h .0 .1) _ (h .0 .2), omega (arith, others-few (h .0 .0) _ (h .0 .1) _ (h .0 .2), h .2), omega (arith, m, c .before .before .before .put-granted .ensures .0))
 
-add-b : tie.Need-add-b Inv-loop μ-loop
-add-b c = search needs
-
-loop-less : tie.Need-loop-less Inv-loop μ-loop
-loop-less c = search needs
-
-loop-again : tie.Need-loop-again Inv-loop μ-loop
-loop-again c =
-    let l = c .before .before .before .before .before .before .before .before .loop in
-    let m = c .before .in-block .ensures in
-    let e : (l .b + 1) * lanes ≡ l .b * lanes + lanes = omega arith in (
-      omega (arith, l .inv .0),
-      l .inv .1,
-      c .put-block .ensures .0,
-      λ p x g e′ y o a b.
-          c .put-block .ensures .1 p _ x g e′ (λ k h. rw (l .inv .0) (y (l .b) k (omega (arith, l .inv .0)) (omega arith)))
-          (λ i h. l .inv .3 p x g e′ y i h (omega (arith, c .before .before .before .before .before .before .before .loop-test .taken))) o (omega (arith, m)),
+returns : tie.Need-returns
+returns c =
+    let t = c .before .before .before .before .before .before .before .before .before .before .before .before .before .before .before .before .before in let a = t .args in (
+      c .put-blocks .ensures .0 ∙ t .pre .2,
+      λ p o x few h.
+          c .put-blocks .ensures .1 (λ i. entryOf p (beside (a .from .user) (a .s) i)) (λ i l. absurd (not-suc-le-zero l))
+          (λ b k hb hk hn.
+          rw (x .actions, zero-add (b * lanes + k))
+          (lane-entry p _ (x .grants) (inBlock (c .before .before .before .before .put-granted .last .1 .1 .1 .1 .1 .1 .0) (a .from .blocks) b) k _
+          (c .before .before .before .before .put-granted .ensures .1 b hb p k (a .s) (b * lanes + k) (x .sides) (x .grants)
+          (lanes-stand p (a .from) x (c .before .before .before .before .before .before .before .before .before .put-over .last .1 .1 .0) (a .s) (a .n) few b k hb hk hn
+          (stands-moved (λ v m. c .before .before .before .before .before .before .before .before .before .put-over .ensures .1 b v hb m) (c .before .before .before .before .before .before .before .before .before .before .before .before .closed .ensures k _ (c .before .before .before .before .before .before .before .before .before .before .before .before .before .spread .ensures k hk)))))))
+          o (omega arith),
     )
-
-returns : tie.Need-returns Inv-loop μ-loop
-returns c = (
-  c .before .loop .inv .2,
-  λ p o x few h.
-      let a = c .before .before .before .before .before .before .before .before .args in
-      c .before .loop .inv .3 p (x .sides) (x .grants) (x .actions)
-      (lanes-stand p (a .from) x (c .before .before .before .closed .result) (a .s) (a .n) few (λ k g. c .before .before .before .closed .ensures k _ (c .before .before .before .before .spread .ensures k g))) o (omega arith) h,
-)
 
 pub put-spec : {M : Type 1} → statement M
 put-spec =
     tie.close
     (tie.spec
-    Inv-loop
-    μ-loop
     spread-requires
     closed-requires
-    loop-holds
-    mul-block
-    array-copy-out-block
-    sub-in-block
-    in-block-requires
-    put-block-requires
-    add-start
-    add-b
-    loop-less
-    loop-again
+    put-over-requires
+    slice-aggregate-put-granted
+    slice-aggregate-put-granted-2
+    slice-aggregate-put-granted-3
+    put-granted-requires
+    slice-aggregate-put-blocks
+    put-blocks-requires
     returns)

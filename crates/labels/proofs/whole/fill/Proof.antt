@@ -1,74 +1,63 @@
 -- `labels::whole::fill` meets its contract: the places before `start` have the entries of their numbers, and the lanes of
--- the next block stand for the next numbers.
+-- the next row of blocks stand for the next numbers.
 use Prim.Native.Nat.{ℕ, _+_, _-_, _*_, _/_, _%_, _^_, _≤_, _<_}
-use mathlib.Core.Path.{_≡_, refl, sym, ap, ap₂, _∙_}
-use mathlib.Core.Bool.{true, false}
+use mathlib.Core.Path.{_≡_, refl, ap, ap₂, _∙_}
+use mathlib.Core.Bool.{true}
 use mathlib.Core.List.{List}
-use native.Mathlib.Nat.{mul-le-mul, mod-lt, mod-eq-of-lt, div-lt-iff-lt-mul, not-suc-le-zero}
 use native.Mathlib.Omega.{arith}
+use native.Mathlib.Nat.{zero-mul, mul-one, mul-le-mul-left, mul-le-mul, mod-eq-of-lt, div-lt-iff-lt-mul, not-suc-le-zero}
 use lib.Arith.{digits-lt, digits-div, digits-mod}
 use lib.ListN.{length, getD}
 use lib.Pow.{pow-pos}
 use borrow.Author.Needs.{needs}
 use Rattle.seniority.specs.Seniority.{heldOrSenior}
-use Rattle.policy.specs.Limits.{mostSets, actions as actionsOf}
+use Rattle.policy.specs.Limits.{mostActions}
 use Rattle.policy.specs.Policy.{Side, Policy, total, sets as setsOf}
 use Rattle.policy.specs.Value.{sideOf}
-use Rattle.policy.specs.declared.value.SideValue.{SideValue}
 use Rattle.formula.specs.Truth.{at}
-use Rattle.formula.specs.Inner.Grant.{GrantsOf}
-use Rattle.formula.specs.Inner.Lane.{lanes, AttributesOf, Stands, InLane}
-use Rattle.formula.specs.Inner.Source.{blocksOf, noBlock, Numbered}
-use Rattle.formula.specs.declared.attributes.Attributes.{Attributes}
-use Rattle.formula.specs.declared.blocks.Block.{Block}
-use Rattle.formula.specs.declared.grant.Grants.{Grants}
-use Rattle.formula.proofs.Numbering.{block-part, side-blocks}
+use Rattle.formula.specs.Inner.Lane.{lanes, inBlock, Stands, InBlock}
+use Rattle.formula.specs.Inner.Source.{blocksOf, mostBlocks, sideVectors}
+use Rattle.formula.proofs.Numbering.{row-high, row-low}
+use Rattle.formula.proofs.Placing.{next-place, blocks-room, stands-moved}
 use Rattle.labels.specs.Compile.{entryOf}
 use Rattle.labels.specs.Inner.Grid.{gridPlaces}
 use Rattle.labels.specs.Inner.Rows.{RowsOf}
+use Rattle.labels.specs.declared.rows.Rows.{Rows}
 use Rattle.labels.proofs.Entries.{lane-entry}
-use Rattle.labels.proofs.Grids.{row-place}
+use Rattle.labels.proofs.Grids.{row-place, row-blocks}
 use Rattle.labels.proofs.whole.fill.Statement.{statement}
 use Rattle.labels.proofs.whole.fill.Tie as tie
-
--- what the loop uses is a policy's
-pub record Of (p : Policy) (sides : Attributes) (users objects : ℕ) (side : SideValue) (blocks : List Block) (grants : Grants) (actions places : ℕ) : Type 0 where
-  pub attributes : AttributesOf p sides
-  pub user-values : users ≡ total (p .user)
-  pub object-values : objects ≡ total (p .object)
-  pub user : p .user ≡ sideOf side
-  pub others : (b : ℕ) → b < blocksOf (total (p .object)) → Numbered false (p .object) (total (p .object)) b (getD blocks b noBlock)
-  pub granted : GrantsOf p grants
-  pub count : actions ≡ actionsOf (p .form)
-  pub size : places ≡ setsOf (p .user) * setsOf (p .object)
 
 -- the entry of the sets that a number stands for
 abbrev numbered : Policy → ℕ → ℕ
 numbered p i = entryOf p (at (i / setsOf (p .object)) (i % setsOf (p .object)))
 
--- lane k of block b stands for the sets of the number 64 b + k
-lane-stands : {p : Policy} {sides : Attributes} {users objects : ℕ} {side : SideValue} {blocks : List Block} {grants : Grants} {actions places : ℕ}
-    → Of p sides users objects side blocks grants actions places → (vectors : List ℕ) (b k count : ℕ) → count ≡ blocksOf objects → k < lanes → b * lanes + k < places
-    → Stands (heldOrSenior (sideOf side .lines)) vectors k ((b * lanes + k) / 2 ^ objects % 2 ^ users)
-    → InLane p vectors (getD blocks (b % count) noBlock .vectors) k (at ((b * lanes + k) / setsOf (p .object)) ((b * lanes + k) % setsOf (p .object)))
-unfolding blocksOf
-lane-stands {p} x vectors b k count e g h stand =
-    let n = total (p .object) in
-    let q : count ≡ blocksOf (total (p .object)) = e ∙ ap blocksOf (x .object-values) in
-    let u : (b * lanes + k) / setsOf (p .object) < setsOf (p .user) = div-lt-iff-lt-mul (pow-pos (total (p .object))) .1 (rw (← x .size) h) in
+-- lane k of block b in row q stands for the sets of its number
+lane-stands : (p : Policy) (x : Rows) → RowsOf p x → x .user ≡ true → (users : List ℕ) (q b k : ℕ) → b < x .blocks → k < lanes
+    → (q * x .blocks + b) * lanes + k < setsOf (p .user) * setsOf (p .object)
+    → Stands (heldOrSenior (sideOf (x .side) .lines)) (inBlock users (x .blocks) b) k ((q * x .blocks * lanes + k) / 2 ^ total (p .object) % 2 ^ total (p .user))
+    → let i = (q * x .blocks + b) * lanes + k in InBlock p users (x .others) (x .blocks) b k (at (i / setsOf (p .object)) (i % setsOf (p .object)))
+lane-stands p x r t users q b k hb hk h stand =
+    let e : x .blocks ≡ blocksOf (total (p .object)) = rw t at (r .blocks) in
+    let w : b < blocksOf (total (p .object)) = omega (arith, e) in
+    let side : p .user ≡ sideOf (x .side) = rw t at (r .side) in
+    let u : ((q * blocksOf (total (p .object)) + b) * lanes + k) / setsOf (p .object) < setsOf (p .user) =
+    div-lt-iff-lt-mul (pow-pos (total (p .object))) .1 (rw e at h) in
+    let high = row-high (total (p .object)) q b k w hk in
     record {
-      lane = g;
-      user = rw (ap (λ (s : Side). s .lines) (x .user)) (rw (x .user-values, x .object-values, mod-eq-of-lt u) at stand);
-      object = rw (← block-part (total (p .object)) b k g, ← q) (x .others (b % count) (rw (← q) (mod-lt b (rw q (pow-pos _)))) k g);
+      lane = hk;
+      user = rw (e, ap (λ (s : Side). s .lines) side) (rw (e, ← high, mod-eq-of-lt u) at stand);
+      object = rw (e, row-low (total (p .object)) q b k w hk) ((rw t at (r .others)) b k w hk);
     }
 
 abbrev Inv-loop : tie.InvT-loop
-Inv-loop grid₀ sides user-values object-values object-blocks side sets grants actions places start₀ b₀ grid start b =
-    (start ≡ b * lanes) × (length grid ≡ gridPlaces)
-    × ((p : Policy) → Of p sides user-values object-values side sets grants actions places → (i : ℕ) → i < start → i < places → getD grid i 0 ≡ numbered p i)
+Inv-loop grid₀ from sides user-values object-values n side objects grants places users₀ granted₀ start₀ q₀ grid users granted start q =
+    (start ≡ q * n * lanes) × (length grid ≡ gridPlaces) × (length users ≡ sideVectors)
+    × (length granted ≡ mostActions * mostBlocks)
+    × ((p : Policy) → RowsOf p from → places ≡ setsOf (p .user) * setsOf (p .object) → (i : ℕ) → i < start → i < places → getD grid i 0 ≡ numbered p i)
 
 abbrev μ-loop : tie.MeasureT-loop
-μ-loop grid₀ sides user-values object-values object-blocks side sets grants actions places start₀ b₀ grid start b = places - start
+μ-loop grid₀ from sides user-values object-values n side objects grants places users₀ granted₀ start₀ q₀ grid users granted start q = places - start
 
 total-requires : tie.Need-total-requires Inv-loop μ-loop
 total-requires c κs = search needs
@@ -76,110 +65,117 @@ total-requires c κs = search needs
 total-requires-2 : tie.Need-total-requires-2 Inv-loop μ-loop
 total-requires-2 c κs = search needs
 
--- what the policy of the contract says of both sides
-users-are : (c : tie.After-total2 Inv-loop μ-loop) (p : Policy) → RowsOf p (c .before .before .before .before .before .args .from) → c .before .total .result ≡ total (p .user)
-users-are c p rows = c .before .total .ensures (p .user) (rows .sides .user)
-
-objects-are : (c : tie.After-total2 Inv-loop μ-loop) (p : Policy) → RowsOf p (c .before .before .before .before .before .args .from) → c .total2 .result ≡ total (p .object)
-objects-are c p rows = c .total2 .ensures (p .object) (rows .sides .object)
-
-blocks-of-requires : tie.Need-blocks-of-requires Inv-loop μ-loop
-blocks-of-requires c κs = let s = c .before .before .before .before .before .pre .1 in omega (arith, objects-are c (s .0) (s .1), s .1 .sides .object .most)
-
 mul-places : tie.Need-mul-places Inv-loop μ-loop
-mul-places c = let v = c .before .before .before .before .before .before .before .before .before .before .pre .1 .2 in omega (arith, mul-le-mul (v .few-users) (v .few-objects))
+mul-places c = let v = c .before .before .before .before .before .before .before .before .before .pre .1 .2 in omega (arith, mul-le-mul (v .few-users) (v .few-objects))
 
 loop-holds : tie.Need-loop-holds Inv-loop μ-loop
-loop-holds c = (refl, c .before .before .before .before .before .before .before .before .before .before .pre .2, λ p x i h. absurd (not-suc-le-zero h))
+loop-holds c = (omega (arith, zero-mul (c .before .before .before .before .before .before .before .before .before .args .from .blocks)), c .before .before .before .before .before .before .before .before .before .pre .2, refl, refl, λ p x e i h. absurd (not-suc-le-zero h))
 
--- a block's number is small
-few : (c : tie.In-loop Inv-loop μ-loop) → c .before .loop .b * lanes < gridPlaces
-few c = omega (arith, c .before .loop .inv .0, c .loop-test .taken, c .before .before .before .before .before .before .before .before .before .before .before .before .pre .3)
+-- a row is counted once for each of its blocks
+le-mul : (q n : ℕ) → 0 < n → q ≤ q * n
+le-mul q n h = let l : 1 ≤ n = h in omega (arith, mul-one q, mul-le-mul-left q l)
 
-cast-part : tie.Need-cast-part Inv-loop μ-loop
-cast-part c = omega (arith, few c)
+-- a row's first block has a small number
+few : (c : tie.In-loop Inv-loop μ-loop) → c .before .loop .q * c .before .before .before .before .before .before .before .before .before .before .before .args .from .blocks * lanes < gridPlaces
+few c = omega (arith, c .before .loop .inv .0, c .loop-test .taken, c .before .before .before .before .before .before .before .before .before .before .before .pre .3)
+
+-- and there is one
+some-blocks : (p : Policy) (x : Rows) → RowsOf p x → 0 < x .blocks
+unfolding blocksOf
+some-blocks p x r = rw (r .blocks) (pow-pos _)
+
+mul-b : tie.Need-mul-b Inv-loop μ-loop
+mul-b c = omega (arith, few c)
+
+cast-b : tie.Need-cast-b Inv-loop μ-loop
+cast-b c = omega (arith, few c)
 
 part-requires : tie.Need-part-requires Inv-loop μ-loop
 part-requires c κs =
-    let s = c .before .before .before .before .before .before .before .before .before .before .before .before .pre .1 in
-    (omega (arith, objects-are (c .before .before .before .before .before .before .before) (s .0) (s .1), s .1 .sides .object .most), omega (arith, users-are (c .before .before .before .before .before .before .before) (s .0) (s .1), s .1 .sides .user .most))
+    let s = c .before .before .before .before .before .before .before .before .before .before .before .pre .1 in
+    let o = c .before .before .before .before .before .before .total2 .ensures (s .0 .object) (s .1 .sides .object) in let u = c .before .before .before .before .before .before .before .total .ensures (s .0 .user) (s .1 .sides .user) in
+    (omega (arith, o, s .1 .sides .object .most), omega (arith, u, s .1 .sides .user .most))
 
 closed-requires : tie.Need-closed-requires Inv-loop μ-loop
-closed-requires c κs = c .before .before .before .before .before .before .before .before .before .before .before .before .before .pre .1 .1 .fits
+closed-requires c κs = c .before .before .before .before .before .before .before .before .before .before .before .before .pre .1 .1 .fits
 
--- there are few blocks of object sets, and one at least
-some-blocks : (c : tie.After-blocks-of Inv-loop μ-loop) → (0 < c .blocks-of .result) × (c .blocks-of .result ≤ mostSets / lanes)
-unfolding blocksOf
-some-blocks c =
-    let s = c .before .before .before .before .before .before .pre .1 in
-    let e = objects-are (c .before) (s .0) (s .1) in
-    rw (c .blocks-of .ensures) (pow-pos _, side-blocks _ (omega (arith, e, s .1 .sides .object .most)))
+put-over-requires : tie.Need-put-over-requires Inv-loop μ-loop
+put-over-requires c κs = let s = c .before .before .before .before .before .before .before .before .before .before .before .before .before .before .before .pre .1 in (row-blocks (s .0) _ (s .1), c .before .before .before .before .before .loop .inv .2)
 
-rem-block : tie.Need-rem-block Inv-loop μ-loop
-rem-block c = let s = some-blocks (c .before .before .before .before .before .before .before .before) .0 in omega arith
+slice-aggregate-put-granted : tie.Need-slice-aggregate-put-granted Inv-loop μ-loop
+slice-aggregate-put-granted c = search needs
 
-mul-block : tie.Need-mul-block Inv-loop μ-loop
-mul-block c = let s = some-blocks (c .before .before .before .before .before .before .before .before) in omega (arith, s .1, mod-lt (c .before .before .before .loop .b) (s .0))
+slice-aggregate-put-granted-2 : tie.Need-slice-aggregate-put-granted-2 Inv-loop μ-loop
+slice-aggregate-put-granted-2 c = search needs
 
-array-copy-out-block : tie.Need-array-copy-out-block Inv-loop μ-loop
-array-copy-out-block c = let s = some-blocks (c .before .before .before .before .before .before .before .before) in omega (arith, s .1, mod-lt (c .before .before .before .loop .b) (s .0))
+slice-aggregate-put-granted-3 : tie.Need-slice-aggregate-put-granted-3 Inv-loop μ-loop
+slice-aggregate-put-granted-3 c = search needs
 
-of-lanes-requires : tie.Need-of-lanes-requires Inv-loop μ-loop
-of-lanes-requires c κs = let s = c .before .before .before .before .before .before .before .before .before .before .before .before .before .before .before .before .before .before .pre .1 in (s .0, s .1 .sides, s .1 .grants)
+put-granted-requires : tie.Need-put-granted-requires Inv-loop μ-loop
+put-granted-requires c κs =
+    let s = c .before .before .before .before .before .before .before .before .before .before .before .before .before .before .before .before .before .before .before .pre .1 in let l = c .before .before .before .before .before .before .before .before .before .loop in let m = row-blocks (s .0) _ (s .1) in let r = blocks-room _ m in
+    ((s .0, s .1 .sides, s .1 .grants), omega (arith, r, c .before .before .before .put-over .ensures .0), omega (arith, r, s .1 .long), m, omega (arith, m, l .inv .3))
 
-sub-in-block : tie.Need-sub-in-block Inv-loop μ-loop
-sub-in-block c = search needs
+mul-least : tie.Need-mul-least Inv-loop μ-loop
+mul-least c = let s = c .before .before .before .before .before .before .before .before .before .before .before .before .before .before .before .before .before .before .before .before .before .pre .1 in omega (arith, row-blocks (s .0) _ (s .1))
 
-in-block-requires : tie.Need-in-block-requires Inv-loop μ-loop
-in-block-requires c κs = search needs
+sub-least : tie.Need-sub-least Inv-loop μ-loop
+sub-least c = omega (arith, c .before .before .before .before .before .before .before .before .before .before .loop-test .taken)
 
-put-lanes-requires : tie.Need-put-lanes-requires Inv-loop μ-loop
-put-lanes-requires c κs =
-    (omega (arith, c .in-block .ensures), omega (arith, c .in-block .ensures, c .before .before .before .before .before .before .before .before .before .before .before .loop .inv .1, c .before .before .before .before .before .before .before .before .before .before .loop-test .taken, c .before .before .before .before .before .before .before .before .before .before .before .before .before .before .before .before .before .before .before .before .before .before .pre .3))
+least-requires : tie.Need-least-requires Inv-loop μ-loop
+least-requires c κs = search needs
+
+slice-aggregate-put-blocks : tie.Need-slice-aggregate-put-blocks Inv-loop μ-loop
+slice-aggregate-put-blocks c = search needs
+
+put-blocks-requires : tie.Need-put-blocks-requires Inv-loop μ-loop
+put-blocks-requires c κs =
+    let t = c .before .before .before .before .before .before .before .before .before .before .before .before .before .before .before .before .before .before .before .before .before .before .before .before .pre in let s = t .1 in let l = c .before .before .before .before .before .before .before .before .before .before .before .before .before .before .loop in let m = c .before .before .least .ensures in
+    (omega (arith, m), omega (arith, m, l .inv .1, c .before .before .before .before .before .before .before .before .before .before .before .before .before .loop-test .taken, t .3), omega (arith, row-blocks (s .0) _ (s .1), c .before .before .before .before .put-granted .ensures .0, l .inv .3))
+
+mul-start : tie.Need-mul-start Inv-loop μ-loop
+mul-start c = let s = c .before .before .before .before .before .before .before .before .before .before .before .before .before .before .before .before .before .before .before .before .before .before .before .before .before .pre .1 in omega (arith, row-blocks (s .0) _ (s .1))
 
 add-start : tie.Need-add-start Inv-loop μ-loop
-add-start c = omega (arith, c .before .before .before .before .before .before .before .before .before .before .before .loop-test .taken, c .before .before .before .before .before .before .before .before .before .before .before .before .before .before .before .before .before .before .before .before .before .before .before .pre .3)
+add-start c = let t = c .before .before .before .before .before .before .before .before .before .before .before .before .before .before .before .before .before .before .before .before .before .before .before .before .before .pre in omega (arith, row-blocks (t .1 .0) _ (t .1 .1), c .before .before .before .before .before .before .before .before .before .before .before .before .before .before .loop-test .taken, t .3)
 
-add-b : tie.Need-add-b Inv-loop μ-loop
-add-b c = omega (arith, few (c .before .before .before .before .before .before .before .before .before .before .before))
+add-q : tie.Need-add-q Inv-loop μ-loop
+add-q c = let t = c .before .before .before .before .before .before .before .before .before .before .before .before .before .before .before .before .before .before .before .before .before .before .before .before .before .pre in omega (arith, few (c .before .before .before .before .before .before .before .before .before .before .before .before .before .before), le-mul (c .before .before .before .before .before .before .before .before .before .before .before .before .before .before .before .loop .q) _ (some-blocks (t .1 .0) _ (t .1 .1)))
 
 loop-less : tie.Need-loop-less Inv-loop μ-loop
-loop-less c = omega (arith, c .before .before .before .before .before .before .before .before .before .before .before .loop-test .taken)
+loop-less c = let t = c .before .before .before .before .before .before .before .before .before .before .before .before .before .before .before .before .before .before .before .before .before .before .before .before .before .pre in omega (arith, c .before .before .before .before .before .before .before .before .before .before .before .before .before .before .loop-test .taken, some-blocks (t .1 .0) _ (t .1 .1))
 
 loop-again : tie.Need-loop-again Inv-loop μ-loop
 loop-again c =
-    let l = c .before .before .before .before .before .before .before .before .before .before .before .before .loop in
-    let m = c .before .in-block .ensures in
-    let e : (l .b + 1) * lanes ≡ l .b * lanes + lanes = omega arith in (
-      omega (arith, l .inv .0),
-      c .put-lanes .ensures .0 ∙ l .inv .1,
-      λ p x i a b. c .put-lanes .ensures .1 (numbered p) (λ j h. l .inv .2 p x j h (omega (arith, c .before .before .before .before .before .before .before .before .before .before .before .loop-test .taken))) (λ k h.
-          rw (l .inv .0, x .count) (lane-entry p _ (x .granted) (c .before .before .before .before .of-lanes .result) k _ (c .before .before .before .before .of-lanes .ensures p k _ (x .attributes) (x .granted)
-          (lane-stands x (c .before .before .before .before .before .before .before .before .before .closed .result) (l .b) k _ (c .before .before .before .before .before .before .before .before .before .before .before .before .before .before .before .before .before .blocks-of .ensures) (omega (arith, m)) (omega (arith, m, l .inv .0, c .before .before .before .before .before .before .before .before .before .before .before .loop-test .taken))
-          (c .before .before .before .before .before .before .before .before .before .closed .ensures k _ (c .before .before .before .before .before .before .before .before .before .before .part .ensures k (omega (arith, m)))))))) i (omega (arith, m)),
+    let l = c .before .before .before .before .before .before .before .before .before .before .before .before .before .before .before .loop in let t = c .before .before .before .before .before .before .before .before .before .before .before .before .before .before .before .before .before .before .before .before .before .before .before .before .before in let from = t .args .from in let test = c .before .before .before .before .before .before .before .before .before .before .before .before .before .before .loop-test .taken in
+    let m = c .before .before .before .least .ensures in let x = c .put-blocks .ensures in let g = c .before .before .before .before .before .put-granted in let o = c .before .before .before .before .before .before .before .before .before .put-over in (
+      rw (next-place (l .q) (from .blocks)) (omega (arith, l .inv .0)),
+      x .0 ∙ l .inv .1,
+      o .ensures .0,
+      g .ensures .0 ∙ l .inv .3,
+      λ p rows size i h k.
+          x .1 (numbered p) (λ j b. l .inv .4 p rows size j b (omega (arith, test)))
+          (λ b k hb hk hm.
+          let e : l .start + (b * lanes + k) ≡ (l .q * from .blocks + b) * lanes + k = omega (arith, l .inv .0) in
+          rw (e, rows .actions)
+          (lane-entry p _ (rows .grants) (inBlock (g .last .1 .1 .1 .1 .1 .0) (from .blocks) b) k _
+          (g .ensures .1 b hb p k _ (rows .sides) (rows .grants)
+          (lane-stands p from rows (t .pre .0) (o .last .1 .1 .0) (l .q) b k hb hk (omega (arith, e, size, m, test))
+          (rw (c .before .before .before .before .before .before .before .before .before .before .before .before .before .before .before .before .before .before .before .before .total2 .ensures (p .object) (rows .sides .object), c .before .before .before .before .before .before .before .before .before .before .before .before .before .before .before .before .before .before .before .before .before .total .ensures (p .user) (rows .sides .user))
+          at (stands-moved (λ v w. o .ensures .1 b v hb w) (c .before .before .before .before .before .before .before .before .before .before .before .before .closed .ensures k _ (c .before .before .before .before .before .before .before .before .before .before .before .before .before .part .ensures k hk))))))))
+          i (omega (arith, m)),
     )
 
 returns : tie.Need-returns Inv-loop μ-loop
-returns c = (
-  c .before .loop .inv .1,
-  λ p rows v u o hu ho.
-      let s = c .before .before .before .before .before .before .before .before .before .before .before .before .pre in
-      let x : Of p _ _ _ _ _ _ _ _ =
-      record {
-        attributes = rows .sides;
-        user-values = users-are (c .before .before .before .before .before .before .before) p rows;
-        object-values = objects-are (c .before .before .before .before .before .before .before) p rows;
-        user = rw (s .0) at (rows .side);
-        others = rw (s .0) at (rows .others);
-        granted = rows .grants;
-        count = rows .actions;
-        size = ap₂ (λ (a b : ℕ). a * b) (v .users) (v .objects);
-      } in
-      let b : u * c .before .before .before .before .before .before .before .before .before .before .before .before .args .view .columns + o < c .before .before .before .before .before .before .before .before .before .before .before .before .args .view .rows * c .before .before .before .before .before .before .before .before .before .before .before .before .args .view .columns = digits-lt hu ho in
-      ap (λ (y : ℕ). getD (c .before .loop .grid) y 0) (row-place v u o)
-      ∙ c .before .loop .inv .2 p x _ (omega (arith, c .loop-test .left)) b
-      ∙ rw (← v .objects) (ap₂ (λ (a b : ℕ). entryOf p (at a b)) (digits-div u ho) (digits-mod u ho)),
-)
+returns c =
+    let t = c .before .before .before .before .before .before .before .before .before .before .before in let a = t .args in (
+      c .before .loop .inv .1,
+      λ p rows v u o hu ho.
+          let b : u * a .view .columns + o < a .view .rows * a .view .columns = digits-lt hu ho in
+          ap (λ (y : ℕ). getD (c .before .loop .grid) y 0) (row-place v u o)
+          ∙ c .before .loop .inv .4 p rows (ap₂ (λ (a b : ℕ). a * b) (v .users) (v .objects)) _ (omega (arith, c .loop-test .left)) b
+          ∙ rw (← v .objects) (ap₂ (λ (a b : ℕ). entryOf p (at a b)) (digits-div u ho) (digits-mod u ho)),
+    )
 
 pub fill-spec : {M : Type 1} → statement M
 fill-spec =
@@ -189,21 +185,25 @@ fill-spec =
     μ-loop
     total-requires
     total-requires-2
-    blocks-of-requires
     mul-places
     loop-holds
-    cast-part
+    mul-b
+    cast-b
     part-requires
     closed-requires
-    rem-block
-    mul-block
-    array-copy-out-block
-    of-lanes-requires
-    sub-in-block
-    in-block-requires
-    put-lanes-requires
+    put-over-requires
+    slice-aggregate-put-granted
+    slice-aggregate-put-granted-2
+    slice-aggregate-put-granted-3
+    put-granted-requires
+    mul-least
+    sub-least
+    least-requires
+    slice-aggregate-put-blocks
+    put-blocks-requires
+    mul-start
     add-start
-    add-b
+    add-q
     loop-less
     loop-again
     returns)
