@@ -15,7 +15,7 @@ use policy::refusal::Refusal;
 use policy::value::{PolicyValue, Register};
 
 // The set that the session holds and the object's set, or why the request is refused.
-#[derive(Drop)]
+#[derive(Clone, Copy)]
 pub enum Asked {
     Of(u32, u32),
     Refused(Refusal),

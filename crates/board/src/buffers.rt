@@ -13,7 +13,7 @@ use policy::limits::{BYTE, Widths};
 use policy::refusal::Refusal;
 
 // The number at a place of a buffer of either width, where the place is in it.
-#[derive(Drop)]
+#[derive(Clone, Copy)]
 pub enum Read {
     Past,
     At(u16),
@@ -53,13 +53,13 @@ fn read_at(width: u32, bytes: &[u8], wide: &[u16], place: usize) -> Read
 }
 
 // The label of a user set and that of an object set, where its place is in the buffer.
-#[derive(Drop)]
+#[derive(Clone, Copy)]
 pub enum UserRead {
     Past,
     At(UserLabel),
 }
 
-#[derive(Drop)]
+#[derive(Clone, Copy)]
 pub enum ObjectRead {
     Past,
     At(ObjectLabel),

@@ -30,7 +30,7 @@ const SESSION_PLACES: usize = SESSION_NUMBERS as usize;
 // The entry of a session number: while it is live, which document 01 calls open, its user and the set it holds. It is
 // live at every number but 0; the calls store 1.
 #[repr(C)]
-#[derive(Drop)]
+#[derive(Clone, Copy)]
 pub struct Session {
     pub live: u32,
     pub user: u32,
@@ -39,13 +39,13 @@ pub struct Session {
 
 // An entry for each session number.
 #[repr(C)]
-#[derive(Drop)]
+#[derive(Clone, Copy)]
 pub struct Board {
     pub sessions: [Session; SESSION_PLACES],
 }
 
 // A call, with its arguments in document 01's order.
-#[derive(Drop)]
+#[derive(Clone, Copy)]
 pub enum Call {
     Open(u32, u32, u32),
     Add(u32, u32, u32),
@@ -55,7 +55,7 @@ pub enum Call {
 }
 
 // What a call answers.
-#[derive(Drop)]
+#[derive(Clone, Copy)]
 pub enum Answer {
     Done,
     Granted,
@@ -64,7 +64,7 @@ pub enum Answer {
 }
 
 // The answer of a call and the board after it; after a refusal, the old board.
-#[derive(Drop)]
+#[derive(Clone, Copy)]
 pub struct Step {
     pub answer: Answer,
     pub board: Board,

@@ -10,7 +10,7 @@ use crate::juniors;
 use policy::value::{Register, SideValue};
 
 // Whether a number is registered, and a set that goes with it; the empty set where it is not.
-#[derive(Drop)]
+#[derive(Clone, Copy)]
 pub struct Found {
     pub registered: bool,
     pub set: u32,

@@ -14,7 +14,7 @@ use policy::limits::SESSION_NUMBERS;
 use policy::refusal::Refusal;
 
 // What the checks of a call say.
-#[derive(Drop)]
+#[derive(Clone, Copy)]
 pub enum Ruling {
     Allowed,
     Refused(Refusal),

@@ -11,7 +11,7 @@ use policy::value::WIDTH_PLACES;
 use seniority::Direct;
 
 // A side as later lines are checked against it: its attributes, their widths, and the sum of these.
-#[derive(Drop)]
+#[derive(Clone, Copy)]
 pub struct Shape {
     pub attributes: usize,
     pub widths: [u32; WIDTH_PLACES],

@@ -4,7 +4,7 @@ use policy::value::PolicyValue;
 
 // The answer of reading: refusal 0 is an accepted text. Beside a refusal stand its line and the blank value, which check 11 refuses.
 #[repr(C)]
-#[derive(Drop)]
+#[derive(Clone, Copy)]
 pub struct CrossedReading {
     pub refusal: u32,
     pub line: usize,
@@ -13,7 +13,7 @@ pub struct CrossedReading {
 
 // How much was stored, or the refusal; refusal 0 is that it was stored.
 #[repr(C)]
-#[derive(Drop)]
+#[derive(Clone, Copy)]
 pub struct Counted {
     pub refusal: u32,
     pub count: usize,
@@ -21,7 +21,7 @@ pub struct Counted {
 
 // NU and NO, or the refusal; refusal 0 is that they were found.
 #[repr(C)]
-#[derive(Drop)]
+#[derive(Clone, Copy)]
 pub struct CrossedCounts {
     pub refusal: u32,
     pub users: u32,
@@ -30,7 +30,7 @@ pub struct CrossedCounts {
 
 // Answer 0 alike, 1 apart by this action and this object set, else the refusal.
 #[repr(C)]
-#[derive(Drop)]
+#[derive(Clone, Copy)]
 pub struct Separation {
     pub answer: u32,
     pub action: u32,
@@ -39,7 +39,7 @@ pub struct Separation {
 
 // The answer of a session call and the board after it.
 #[repr(C)]
-#[derive(Drop)]
+#[derive(Clone, Copy)]
 pub struct CrossedStep {
     pub answer: u32,
     pub board: Board,

@@ -16,7 +16,7 @@ use policy::value::{SideValue, WIDTH_PLACES};
 const STARTS: usize = MOST_VALUES + 1;
 
 // For each side, the first value of each attribute and, past the last one, the number of values.
-#[derive(Drop)]
+#[derive(Clone, Copy)]
 pub struct Attributes {
     pub user: [u8; STARTS],
     pub object: [u8; STARTS],

@@ -27,7 +27,7 @@ pub const STACK: usize = ONE_STACK * SIDE_BLOCKS;
 
 // What many pairs of sets of a policy are worked out from, beside its object sets: where its attributes lie, its user
 // side, and how many blocks the object sets have.
-#[derive(Drop)]
+#[derive(Clone, Copy)]
 pub struct Source {
     pub sides: Attributes,
     pub user: SideValue,

@@ -15,7 +15,7 @@ use policy::limits::MOST_VALUES;
 use policy::value::{Pairs, PolicyValue, RuleValue, Rules, WORD_PLACES};
 
 // What grants the actions of a policy: its rules and its pairs.
-#[derive(Drop)]
+#[derive(Clone, Copy)]
 pub struct Grants {
     pub rules: Rules,
     pub pairs: Pairs,
@@ -23,7 +23,7 @@ pub struct Grants {
 
 // What grants one action: its rule, and one without words where it has none; and by its pairs, for each user value the
 // set of the object values that it is paired with.
-#[derive(Drop)]
+#[derive(Clone, Copy)]
 pub struct Grant {
     pub rule: RuleValue,
     pub paired: [u32; MOST_VALUES],

@@ -27,7 +27,7 @@ use policy::refusal::Refusal;
 use policy::value::PolicyValue;
 
 // The answer to whether an action is granted.
-#[derive(Drop)]
+#[derive(Clone, Copy)]
 pub enum Decision {
     Granted,
     Denied,

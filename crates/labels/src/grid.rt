@@ -17,7 +17,7 @@ pub const PLACES: usize = 16384;
 
 // A grid as seen from one side: its sets are the rows and those of the other side the columns. A row starts `down`
 // places after the one before, and in it a column lies `along` places after the one before.
-#[derive(Drop)]
+#[derive(Clone, Copy)]
 pub struct View {
     pub rows: usize,
     pub columns: usize,

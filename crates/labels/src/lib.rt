@@ -23,35 +23,35 @@ use policy::refusal::Refusal;
 use policy::value::PolicyValue;
 
 // The label of a user set, and that of an object set: two sorts, so that neither stands where the other is due.
-#[derive(Drop)]
+#[derive(Clone, Copy)]
 pub struct UserLabel(pub u16);
 
-#[derive(Drop)]
+#[derive(Clone, Copy)]
 pub struct ObjectLabel(pub u16);
 
 // How many labels are used on each side: NU and NO.
-#[derive(Drop)]
+#[derive(Clone, Copy)]
 pub struct Counts {
     pub users: u32,
     pub objects: u32,
 }
 
 // What compiling answers.
-#[derive(Drop)]
+#[derive(Clone, Copy)]
 pub enum Compiled {
     Stored(Counts),
     Refused(Refusal),
 }
 
 // An action and an object set at which one of two user sets is granted and the other denied.
-#[derive(Drop)]
+#[derive(Clone, Copy)]
 pub struct Witness {
     pub action: u32,
     pub object: u32,
 }
 
 // What Apart answers.
-#[derive(Drop)]
+#[derive(Clone, Copy)]
 pub enum Apartness {
     Alike,
     Apart(Witness),

@@ -25,7 +25,7 @@ use policy::limits::MOST_SETS;
 use policy::value::{PolicyValue, SideValue};
 
 // What the rows of one side are worked out from: whether it is the user side, both sides, and the sets of the other.
-#[derive(Drop)]
+#[derive(Clone, Copy)]
 pub struct Rows {
     pub user: bool,
     pub sides: Attributes,

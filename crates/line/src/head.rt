@@ -14,21 +14,21 @@ use text::kind::{Kind, Layout, Named};
 use text::number::{Numbers, Numeral};
 
 // The kind of the line before.
-#[derive(Drop)]
+#[derive(Clone, Copy)]
 pub enum Before {
     Start,
     After(Kind),
 }
 
 // A line's kind and numbers, or what it breaks.
-#[derive(Drop)]
+#[derive(Clone, Copy)]
 pub enum Head {
     Line(Kind, Numbers),
     Fault(Refusal),
 }
 
 // A field as a number, and where it ends.
-#[derive(Drop)]
+#[derive(Clone, Copy)]
 struct Piece {
     pub end: usize,
     pub value: Numeral,

@@ -15,14 +15,14 @@ use policy::value::{RuleValue, WORD_PLACES};
 use words::Parsed;
 
 // What a rule's line breaks.
-#[derive(Drop)]
+#[derive(Clone, Copy)]
 pub enum Fault {
     None,
     Is(Refusal),
 }
 
 // A rule, or what its line breaks.
-#[derive(Drop)]
+#[derive(Clone, Copy)]
 pub struct RuleLine {
     pub fault: Fault,
     pub rule: RuleValue,

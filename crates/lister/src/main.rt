@@ -17,7 +17,7 @@ fn blank() -> [u8; INPUT]
 }
 
 // What reading standard input gives: how many bytes there are up to its end or the buffer's; or it cannot be read.
-#[derive(Drop)]
+#[derive(Clone, Copy)]
 enum Input {
     Bytes(usize),
     Unreadable,

@@ -52,7 +52,7 @@ pub const MOST_TUPLES: usize = MOST_SETS * MOST_SETS;
 pub const MOST_LINES: usize = MOST_VALUES * (MOST_VALUES - 1) / 2;
 
 // In how many bits a label is stored, and a table's entry.
-#[derive(Drop)]
+#[derive(Clone, Copy)]
 pub struct Widths {
     pub label: u32,
     pub entry: u32,

@@ -23,7 +23,7 @@ pub const PAIR_PLACES: usize = limits::MOST_PAIRS;
 
 // One side, users or objects: the widths of its attributes and its direct seniorities.
 #[repr(C)]
-#[derive(Drop)]
+#[derive(Clone, Copy)]
 pub struct SideValue {
     pub attributes: usize,
     pub widths: [u32; WIDTH_PLACES],
@@ -33,7 +33,7 @@ pub struct SideValue {
 
 // A registered user or object: its number and its set.
 #[repr(C)]
-#[derive(Drop)]
+#[derive(Clone, Copy)]
 pub struct Entry {
     pub number: u32,
     pub set: u32,
@@ -41,7 +41,7 @@ pub struct Entry {
 
 // The registered users, or objects; of users there are fewer than places.
 #[repr(C)]
-#[derive(Drop)]
+#[derive(Clone, Copy)]
 pub struct Register {
     pub count: usize,
     pub entries: [Entry; ENTRY_PLACES],
@@ -49,14 +49,14 @@ pub struct Register {
 
 // A conflict line: a set of user values, and how many of them a session may hold at most.
 #[repr(C)]
-#[derive(Drop)]
+#[derive(Clone, Copy)]
 pub struct Conflict {
     pub set: u32,
     pub most: u32,
 }
 
 #[repr(C)]
-#[derive(Drop)]
+#[derive(Clone, Copy)]
 pub struct Conflicts {
     pub count: usize,
     pub entries: [Conflict; CONFLICT_PLACES],
@@ -64,7 +64,7 @@ pub struct Conflicts {
 
 // A rule: its action and the words of its formula, each by its number.
 #[repr(C)]
-#[derive(Drop)]
+#[derive(Clone, Copy)]
 pub struct RuleValue {
     pub action: u32,
     pub count: usize,
@@ -72,7 +72,7 @@ pub struct RuleValue {
 }
 
 #[repr(C)]
-#[derive(Drop)]
+#[derive(Clone, Copy)]
 pub struct Rules {
     pub count: usize,
     pub entries: [RuleValue; RULE_PLACES],
@@ -80,7 +80,7 @@ pub struct Rules {
 
 // A pair line: its action, a user value and an object value.
 #[repr(C)]
-#[derive(Drop)]
+#[derive(Clone, Copy)]
 pub struct Pair {
     pub action: u32,
     pub user: u32,
@@ -88,14 +88,14 @@ pub struct Pair {
 }
 
 #[repr(C)]
-#[derive(Drop)]
+#[derive(Clone, Copy)]
 pub struct Pairs {
     pub count: usize,
     pub entries: [Pair; PAIR_PLACES],
 }
 
 #[repr(C)]
-#[derive(Drop)]
+#[derive(Clone, Copy)]
 pub struct PolicyValue {
     pub form: u32,
     pub user: SideValue,
@@ -173,14 +173,14 @@ pub fn blank() -> PolicyValue
 }
 
 // What reading a text finds: the refusal and its line, or that the text is accepted.
-#[derive(Drop)]
+#[derive(Clone, Copy)]
 pub enum Verdict {
     Accepted,
     Refused(crate::refusal::Refusal, usize),
 }
 
 // The answer of reading: beside a refusal stands the blank value, which check 11 refuses.
-#[derive(Drop)]
+#[derive(Clone, Copy)]
 pub struct Reading {
     pub verdict: Verdict,
     pub policy: PolicyValue,

@@ -10,7 +10,7 @@ use policy::refusal::Refusal;
 use policy::value::{CONFLICT_PLACES, Conflict, Conflicts};
 use text::kind::Kind;
 
-#[derive(Drop)]
+#[derive(Clone, Copy)]
 pub struct ConflictsRead {
     pub conflicts: Conflicts,
     pub cursor: Cursor,

@@ -10,14 +10,14 @@ use text::kind::Kind;
 use text::number::Numbers;
 
 // A line that breaks nothing up to its numbers, nothing behind the end line, or what the text breaks.
-#[derive(Drop)]
+#[derive(Clone, Copy)]
 pub enum Ahead {
     Line(Kind),
     Over,
     Fault(Refusal),
 }
 
-#[derive(Drop)]
+#[derive(Clone, Copy)]
 pub struct Cursor {
     // Where the line starts, and its line feed.
     pub at: usize,

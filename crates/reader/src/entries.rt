@@ -10,7 +10,7 @@ use policy::refusal::Refusal;
 use policy::value::{ENTRY_PLACES, Entry, Register};
 use text::kind::Kind;
 
-#[derive(Drop)]
+#[derive(Clone, Copy)]
 pub struct EntriesRead {
     pub register: Register,
     pub cursor: Cursor,

@@ -6,7 +6,7 @@ use crate::cursor::Cursor;
 use policy::refusal::Refusal;
 use text::kind::Kind;
 
-#[derive(Drop)]
+#[derive(Clone, Copy)]
 pub struct FormRead {
     pub form: u32,
     pub cursor: Cursor,

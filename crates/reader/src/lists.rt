@@ -8,7 +8,7 @@ use policy::limits::{OBJECT_NUMBERS, USER_NUMBERS};
 use policy::value::PolicyValue;
 use text::kind::Kind;
 
-#[derive(Drop)]
+#[derive(Clone, Copy)]
 pub struct ListsRead {
     pub policy: PolicyValue,
     pub cursor: Cursor,

@@ -8,7 +8,7 @@ use policy::refusal::Refusal;
 use policy::value::{PAIR_PLACES, Pair, Pairs};
 use text::kind::Kind;
 
-#[derive(Drop)]
+#[derive(Clone, Copy)]
 pub struct PairsRead {
     pub pairs: Pairs,
     pub cursor: Cursor,

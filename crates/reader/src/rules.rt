@@ -10,7 +10,7 @@ use line::rule::Fault;
 use policy::value::{RULE_PLACES, RuleValue, Rules, WORD_PLACES};
 use text::kind::Kind;
 
-#[derive(Drop)]
+#[derive(Clone, Copy)]
 pub struct RulesRead {
     pub rules: Rules,
     pub cursor: Cursor,

@@ -12,7 +12,7 @@ use policy::value::{LINE_PLACES, SideValue};
 use seniority::Direct;
 use text::kind::Kind;
 
-#[derive(Drop)]
+#[derive(Clone, Copy)]
 pub struct SenioritiesRead {
     pub side: SideValue,
     pub cursor: Cursor,

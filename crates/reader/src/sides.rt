@@ -9,7 +9,7 @@ use policy::value::SideValue;
 use text::kind::Kind;
 
 // The sides, each with its shape.
-#[derive(Drop)]
+#[derive(Clone, Copy)]
 pub struct SidesRead {
     pub form: u32,
     pub user: SideValue,

@@ -10,7 +10,7 @@ use policy::refusal::Refusal;
 use policy::value::WIDTH_PLACES;
 use text::kind::Kind;
 
-#[derive(Drop)]
+#[derive(Clone, Copy)]
 pub struct WidthsRead {
     pub shape: Shape,
     pub cursor: Cursor,

@@ -19,7 +19,7 @@ use tuples::{blocks, strips};
 use writer::bytes;
 
 // Bytes that were worked out and not yet handed out: those from `from` on and before `to`.
-#[derive(Drop)]
+#[derive(Clone, Copy)]
 pub struct Held {
     pub from: usize,
     pub to: usize,
@@ -28,7 +28,7 @@ pub struct Held {
 
 // The tuples of an action whose lines are left: of the strip that starts at block `first`, those marked from `from` on,
 // and those of the strips behind it, up to block `end`. `values` is that of the object side.
-#[derive(Drop)]
+#[derive(Clone, Copy)]
 pub struct Tuples {
     pub action: u32,
     pub values: u32,
@@ -39,7 +39,7 @@ pub struct Tuples {
 }
 
 // What is left: the bytes held, then the lines of these tuples, then the blocks of the listed actions from `done` on.
-#[derive(Drop)]
+#[derive(Clone, Copy)]
 pub struct Cursor {
     pub source: Source,
     pub objects: [u64; SIDE_VECTORS],
@@ -51,7 +51,7 @@ pub struct Cursor {
 }
 
 // How many bytes were handed out, and the place behind them.
-#[derive(Drop)]
+#[derive(Clone, Copy)]
 pub struct Chunk {
     pub count: usize,
     pub next: Cursor,

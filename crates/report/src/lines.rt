@@ -19,7 +19,7 @@ use writer::line;
 pub const ROOM: usize = 7 + 3 * (10 + 1) + 1;
 
 // Where the lines put end, and from which number on the lines of tuples are left.
-#[derive(Drop)]
+#[derive(Clone, Copy)]
 pub struct Lines {
     pub at: usize,
     pub next: usize,

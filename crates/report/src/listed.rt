@@ -11,7 +11,7 @@ use formula::grant::Grants;
 use policy::limits::MOST_ACTIONS;
 
 // So many actions, in the first places.
-#[derive(Drop)]
+#[derive(Clone, Copy)]
 pub struct Listed {
     pub count: usize,
     pub actions: [u32; MOST_ACTIONS],

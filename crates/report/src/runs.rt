@@ -20,7 +20,7 @@ const TABLED: usize = 512;
 pub const ENDS: usize = TABLED * 4;
 
 // The start of the lines of an action and a user set: so many bytes.
-#[derive(Drop)]
+#[derive(Clone, Copy)]
 pub struct Start {
     pub action: u32,
     pub user: u32,

@@ -20,14 +20,14 @@ use policy::refusal::Refusal;
 use policy::value::PolicyValue;
 
 // What a run answers: how many answers it stored, or why it stored none.
-#[derive(Drop)]
+#[derive(Clone, Copy)]
 pub enum Verdict {
     Answered(usize),
     Refused(Refusal),
 }
 
 // The verdict, and the board after the list; beside a refusal stands the fresh board.
-#[derive(Drop)]
+#[derive(Clone, Copy)]
 pub struct Ran {
     pub verdict: Verdict,
     pub board: Board,

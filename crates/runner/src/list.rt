@@ -9,7 +9,7 @@ use board::Call;
 const NUMBERS: usize = 4;
 
 // What stands at one place of a list: a call, or what is none.
-#[derive(Drop)]
+#[derive(Clone, Copy)]
 pub enum Item {
     Is(Call),
     NoCall,

@@ -2,7 +2,7 @@
 
 // Value `senior` is directly senior to value `junior`.
 #[repr(C)]
-#[derive(Drop)]
+#[derive(Clone, Copy)]
 pub struct Direct {
     pub senior: u32,
     pub junior: u32,

@@ -4,7 +4,7 @@ ghost use Rattle.basis.specs.Lists.{same};
 ghost use Rattle.text.specs.Kind.{kinds, named_in, named, layout_of, place_of, is_kind, follows};
 ghost use Rattle.text.specs.declared.kind.Kind.TheVariants.{User};
 
-#[derive(Drop)]
+#[derive(Clone, Copy)]
 pub enum Kind {
     Policy,
     Uattr,
@@ -43,7 +43,7 @@ pub const PAIR: [u8; 4] = *b"pair";
 pub const END: [u8; 3] = *b"end";
 
 // What stands behind a kind's word: nothing, one, two or three numbers, or an action and the words of a formula.
-#[derive(Drop)]
+#[derive(Clone, Copy)]
 pub enum Layout {
     Bare,
     One,
@@ -52,7 +52,7 @@ pub enum Layout {
     Formula,
 }
 
-#[derive(Drop)]
+#[derive(Clone, Copy)]
 pub enum Named {
     Is(Kind),
     Unknown,

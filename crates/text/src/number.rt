@@ -7,14 +7,14 @@ ghost use Rattle.text.specs.declared.number.Numeral.TheVariants.{Value, Malforme
 // The most digits of a number field.
 pub const MOST_DIGITS: usize = 5;
 
-#[derive(Drop)]
+#[derive(Clone, Copy)]
 pub enum Numeral {
     Value(u32),
     Malformed,
 }
 
 // The numbers of a line, in the order of its fields; 0 where it has none.
-#[derive(Drop)]
+#[derive(Clone, Copy)]
 pub struct Numbers {
     pub first: u32,
     pub second: u32,

@@ -3,7 +3,7 @@ use formula::Decision;
 use policy::refusal::number_of;
 
 // The answer; a count beside it; and 0, or the first place of a buffer, from 1, that is not as stored.
-#[derive(Drop)]
+#[derive(Clone, Copy)]
 pub struct Found {
     pub answer: u32,
     pub count: usize,

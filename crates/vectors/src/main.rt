@@ -21,7 +21,7 @@ mod texts;
 const FILES: u8 = 100;
 
 // A case: its number, and where its text stands in the file.
-#[derive(Drop)]
+#[derive(Clone, Copy)]
 struct Case {
     number: u32,
     from: usize,

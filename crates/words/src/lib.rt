@@ -4,20 +4,20 @@ ghost use Rattle.words.specs.Inner.{in_digits};
 ghost use Rattle.words.specs.Word as word;
 
 // A side and a value of it.
-#[derive(Drop)]
+#[derive(Clone, Copy)]
 pub enum Holding {
     User(u8),
     Object(u8),
 }
 
 // A user attribute and an object attribute: the first covers each place held in the second, or both hold the same.
-#[derive(Drop)]
+#[derive(Clone, Copy)]
 pub enum Comparison {
     Dominates(u8, u8),
     Equals(u8, u8),
 }
 
-#[derive(Drop)]
+#[derive(Clone, Copy)]
 pub enum Word {
     True,
     False,
@@ -28,7 +28,7 @@ pub enum Word {
     Or,
 }
 
-#[derive(Drop)]
+#[derive(Clone, Copy)]
 pub enum Parsed {
     Is(Word),
     Malformed,

@@ -14,7 +14,7 @@ mod whole;
 mod word;
 
 // The length of the text that is stored, or the refusal.
-#[derive(Drop)]
+#[derive(Clone, Copy)]
 pub enum Written {
     Stored(usize),
     Refused(Refusal),

@@ -8,7 +8,7 @@ use crate::bytes;
 use words::{Comparison, Holding, Word};
 
 // A word's bytes, and how many they are.
-#[derive(Drop)]
+#[derive(Clone, Copy)]
 struct Spelling([u8; 3], usize);
 
 fn spell(w: Word) -> Spelling
