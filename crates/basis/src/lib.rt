@@ -1,1 +1,2 @@
 // What every layer's definitions share. It has no code: see specs/ for the definitions and proofs/ for their laws.
+#![tactic(auto)]

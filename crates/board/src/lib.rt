@@ -1,4 +1,6 @@
 // The board of staff sessions: its five calls.
+#![tactic(auto)]
+
 ghost use Rattle.std.specs.Prelude.{◌≡◌};
 ghost use Rattle.policy.specs.Answers.{reply_number};
 ghost use Rattle.policy.specs.Limits.{bits};

@@ -1,4 +1,6 @@
 // Checks 6 to 9 of a line, each on the little that it needs of the lines before it.
+#![tactic(auto)]
+
 pub mod conflict;
 pub mod formula;
 mod mask;

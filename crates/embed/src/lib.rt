@@ -1,4 +1,6 @@
 // The calls for C and Rust. Everything goes by value or in lent buffers.
+#![tactic(auto)]
+
 ghost use Rattle.std.specs.Prelude.{◌≡◌};
 ghost use Rattle.policy.specs.Answers.{reply_number};
 ghost use Rattle.policy.specs.Limits.{bits};

@@ -1,5 +1,7 @@
 // What formulas and pairs decide, at blocks of 64 pairs of a user set and an object set at once: bit k of a number is lane
 // k, which stands for one of them.
+#![tactic(auto)]
+
 ghost use Rattle.std.specs.Prelude.{◌^◌, ◌<◌, ◌≡◌, true};
 ghost use Rattle.policy.specs.Limits.{most_values};
 ghost use Rattle.policy.specs.Value.{policy_of};

@@ -1,4 +1,6 @@
 // Labels: sets that no formula and no pair parts share one.
+#![tactic(auto)]
+
 ghost use Rattle.std.specs.Prelude.{◌+◌, ◌*◌, ◌≡◌};
 ghost use Rattle.policy.specs.Limits.{bits};
 ghost use Rattle.labels.specs.Compile.{lent, stored, used, Compiles};

@@ -1,5 +1,7 @@
 // Reads a policy text from standard input and writes its report: the numbers of its labels and the tuples of each
 // rule's action, or the refusal.
+#![tactic(auto)]
+
 ghost use Rattle.std.specs.Prelude.{◌+◌, ◌≡◌, length};
 ghost use Rattle.policy.specs.Limits.{text_bytes};
 ghost use Rattle.lister.specs.Input.{Within};

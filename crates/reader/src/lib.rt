@@ -1,4 +1,6 @@
 // Reading a policy text: its value, or the first refusal and its line.
+#![tactic(auto)]
+
 ghost use Rattle.std.specs.Prelude.{◌≡◌, List, ℕ};
 ghost use Rattle.text.specs.Kind.{place_of};
 ghost use Rattle.text.specs.declared.kind.Kind.TheVariants as kind;

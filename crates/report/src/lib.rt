@@ -1,4 +1,6 @@
 // What the lister writes for a text, its report.
+#![tactic(auto)]
+
 pub mod chunks;
 mod counts;
 mod cursor;

@@ -1,4 +1,6 @@
 // A list of calls on a fresh board: calls in, answers out.
+#![tactic(auto)]
+
 ghost use Rattle.std.specs.Prelude.{◌≡◌};
 ghost use Rattle.policy.specs.Answers.{reply_number};
 ghost use Rattle.policy.specs.Limits.{bits};

@@ -1,4 +1,5 @@
 // Seniority: a line of a text. What it means, chain by chain, is in specs/.
+#![tactic(auto)]
 
 // Value `senior` is directly senior to value `junior`.
 #[repr(C)]

@@ -1,4 +1,6 @@
 // Sets of values, each the sum of 2^k over the values k in it.
+#![tactic(auto)]
+
 ghost use Rattle.std.specs.Prelude.{◌≡◌};
 ghost use Rattle.sets.specs.Set as set;
 

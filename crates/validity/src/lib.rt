@@ -1,4 +1,6 @@
 // Check 11 on a policy value: whether it is what reading some accepted text yields.
+#![tactic(auto)]
+
 ghost use Rattle.std.specs.Prelude.{◌≡◌, ◌≤◌};
 ghost use Rattle.policy.specs.Limits.{most_values};
 ghost use Rattle.policy.specs.Value.{width_places};

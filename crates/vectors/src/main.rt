@@ -1,6 +1,8 @@
 // Plays stored cases on the engine and compares: the document's examples, and texts, decisions, labels and lists of
 // calls with the answers of a second implementation. Prints how many lines of each kind agree, or the first that does
 // not. Some lines are wrong on purpose: one that is not found different shows what this program does not compare.
+#![tactic(auto)]
+
 ghost use Rattle.std.specs.Prelude.{◌<◌, ◌≤◌};
 
 use cursor::NUMBERS;

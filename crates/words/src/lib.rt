@@ -1,4 +1,6 @@
 // The words of a formula.
+#![tactic(auto)]
+
 ghost use Rattle.std.specs.Prelude.{true, ◌≡◌, get_or};
 ghost use Rattle.words.specs.Inner.{in_digits};
 ghost use Rattle.words.specs.Word as word;

@@ -1,4 +1,6 @@
 // Writing the text of a policy value into a lent buffer.
+#![tactic(auto)]
+
 ghost use Rattle.std.specs.Prelude.{◌≡◌};
 ghost use Rattle.policy.specs.Write as spec;
 ghost use Rattle.writer.specs.Answer.{answer_of};

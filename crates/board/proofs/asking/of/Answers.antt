@@ -1,0 +1,25 @@
+-- `board::asking::of` meets its contract: check 11, then what the request comes to is what its answer goes by.
+use mathlib.Core.Path.{refl}
+use Rattle.board.proofs.Asked.{asked-step}
+use Rattle.board.proofs.Settled.{stopped-widths, stopped, objects-ready}
+use Rattle.board.proofs.asking.of.Goals as goal
+
+pub returns-then-not-own_widths : goal.returns-then-not-own_widths
+returns-then-not-own_widths c l e =
+    let a = c.args in let w = c.own_widths in
+    stopped-widths a.policy l a.board a.session a.action a.object w.result (rw e w.ensures) c.if-not-own_widths.true _ refl
+
+pub returns-then-not-fits : goal.returns-then-not-fits
+returns-then-not-fits c l e =
+    let a = c.args in
+    stopped a.policy a.board c.fits.result c.fits.ensures l _ c.if-not-fits.true _ refl
+
+pub ask-requires : goal.ask-requires
+ask-requires c = search objects-ready
+
+pub returns : goal.returns
+returns c l e =
+            let a = c.args in
+    asked-step a.policy l a.board a.session a.action a.object c.own_widths.result (rw e c.own_widths.ensures) c.if-not-own_widths.false
+    c.fits.result c.fits.ensures c.if-not-fits.false c.actions-actions.result c.actions-actions.ensures
+    c.ask.result c.ask.ensures _ refl

@@ -1,0 +1,32 @@
+-- `board::close` meets its contract: check 11, then the ruling and the session's next entry settle the call.
+use mathlib.Core.Path.{◌≡◌, ◌∙◌}
+use Rattle.board.specs.Machine.{closes}
+use Rattle.board.specs.Inner.{refusal_of, lower}
+use Rattle.board.proofs.Settled.{stopped, ready, close_ruled, settled-near, closed-again}
+use Rattle.board.proofs.close.Goals as goal
+
+-- the ruling is of the call's checks
+ruled : (c : goal.After-of_close-ruling) → (let a = c.args in refusal_of c.of_close-ruling.result ≡ lower a.policy (closes a.user a.session) a.board)
+ruled c =
+    let a = c.args in let x = c.at-entry in let r = c.set_of-found in
+    close_ruled a.policy a.board c.fits.result c.fits.ensures c.if-not-fits.false
+    a.user a.session x.result x.ensures c.of_close-ruling.result r.result r.ensures c.of_close-ruling.ensures
+
+pub returns-then-not-fits : goal.returns-then-not-fits
+returns-then-not-fits c l = search stopped
+
+pub set_of-found-requires : goal.set_of-found-requires
+set_of-found-requires c =
+    let a = c.args in
+    (ready a.policy a.board c.fits.result c.fits.ensures c.if-not-fits.false).count
+
+pub settle-requires : goal.settle-requires
+settle-requires c =
+    let a = c.args in
+    settled-near a.policy (closes a.user a.session) a.board _ (ruled c.before)
+
+pub returns : goal.returns
+returns c l =
+    let a = c.args in
+    c.settle.ensures
+    ∙ closed-again l a.policy a.board a.user a.session _ (ruled c.before.before) c.closed-gone.result c.closed-gone.ensures

@@ -1,0 +1,24 @@
+-- `board::conflicts::held` meets its contract: the places before place i have what their sessions hold.
+use Prim.Native.Nat.{ℕ, ◌-◌}
+use mathlib.Core.Path.{◌≡◌, sym, ◌∙◌}
+use native.Mathlib.Omega.{arith}
+use lib.ListN.{length, length-replicate}
+use borrow.Author.Rules.{rules}
+use Rattle.basis.proofs.Lists.{long}
+use Rattle.basis.proofs.Mapped.{mapped_none, mapped_more, mapped_all}
+use Rattle.policy.specs.Limits.{session_numbers}
+use Rattle.board.specs.Board.{closed}
+use Rattle.board.proofs.conflicts.held.Goals as goal
+
+size : (c : goal.Start) → length c.args.t1 ≡ session_numbers
+size c = search (rules, long)
+
+pub loop-i-init : goal.loop-i-init
+loop-i-init c = mapped_none (length-replicate {A = ℕ} session_numbers 0 ∙ sym (size c))
+
+pub loop-i-preserved : goal.loop-i-preserved
+loop-i-preserved c =
+        mapped_more c.loop-i.invariant closed (omega (arith, size l.before, c.loop-i-test.true)) c.held_by.ensures
+
+pub returns : goal.returns
+returns c = mapped_all c.loop-i.invariant (omega (arith, size c.before.before, c.loop-i-test.false))

@@ -1,0 +1,12 @@
+-- `board::conflicts::held` meets its contract: the places before place i have what their sessions hold.
+use Prim.Native.Nat.{◌-◌}
+use Rattle.basis.proofs.Mapped.{Mapped}
+use Rattle.policy.specs.Limits.{session_numbers}
+use Rattle.board.specs.Inner.{held_at}
+use Rattle.board.proofs.conflicts.held.Given as goal
+
+abbrev pub invariant-loop-i : goal.invariant-loop-i
+invariant-loop-i l = Mapped held_at l.i l.sessions l.held
+
+abbrev pub decreases-loop-i : goal.decreases-loop-i
+decreases-loop-i l = session_numbers - l.i

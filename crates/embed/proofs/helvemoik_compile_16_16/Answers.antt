@@ -1,0 +1,9 @@
+-- `embed::helvemoik_compile_16_16` meets its contract: the answer, crossed.
+use mathlib.Core.Path.{ap, ◌∙◌}
+use Rattle.embed.specs.Answers.{crossed_counts}
+use Rattle.embed.proofs.helvemoik_compile_16_16.Goals as goal
+
+pub returns : goal.returns
+returns c =
+    let w = c.compile_16_16 in
+    (c.counts.ensures ∙ ap crossed_counts w.ensures.answer, w.ensures.buffers)

@@ -1,0 +1,7 @@
+-- `embed::helvemoik_decide` meets its contract: the number of the answer.
+use mathlib.Core.Path.{ap, ◌∙◌}
+use Rattle.policy.specs.Answers.{reply_number}
+use Rattle.embed.proofs.helvemoik_decide.Goals as goal
+
+pub returns : goal.returns
+returns c = c.decision.ensures ∙ ap reply_number c.decide.ensures

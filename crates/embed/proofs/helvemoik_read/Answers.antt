@@ -1,0 +1,5 @@
+-- `embed::helvemoik_read` meets its contract: the reading, crossed.
+use Rattle.embed.proofs.helvemoik_read.Goals as goal
+
+pub returns : goal.returns
+returns c = c.reading.ensures _ c.read.ensures

@@ -1,0 +1,9 @@
+-- `embed::helvemoik_write` meets its contract: the answer, counted.
+use mathlib.Core.Path.{ap, ◌∙◌}
+use Rattle.embed.specs.Answers.{counted}
+use Rattle.embed.proofs.helvemoik_write.Goals as goal
+
+pub returns : goal.returns
+returns c =
+    let w = c.write in
+    (c.written.ensures ∙ ap counted w.ensures.0, w.ensures.1)

@@ -1,0 +1,45 @@
+-- `formula::pairs::add_paired` meets its contract: the place has what it had, and the user values before v.
+use Prim.Native.Nat.{ℕ, ◌-◌}
+use mathlib.Core.Path.{◌≡◌, ap, ◌∙◌}
+use mathlib.Core.Bool.{Bool, ◌&&◌}
+use mathlib.Core.Logic.{⊎_elim}
+use mathlib.Core.Bool.{and-false}
+use native.Mathlib.Omega.{arith}
+use lib.ListN.{get_or}
+use Rattle.sets.specs.Set.{has}
+use Rattle.words.specs.declared.Holding.TheVariants.{User}
+use Rattle.policy.specs.Limits.{most_values}
+use Rattle.formula.specs.Truth.{holds}
+use Rattle.formula.specs.Inner.Grant.{partner_held}
+use Rattle.formula.specs.Inner.Lane.{in_block}
+use Rattle.formula.proofs.Placing.{placed_same, placed_again, placed_as}
+use Rattle.formula.proofs.Pairing.{or_none, some_more, some-passed, none-held}
+use Rattle.formula.proofs.pairs.add_paired.Goals as goal
+
+pub loop-v-init : goal.loop-v-init
+loop-v-init c = (omega arith, placed_same (λ b h p k s x. or_none _ _))
+
+pub add_partners-requires : goal.add_partners-requires
+add_partners-requires c = let t = c.requires in (t.0, t.1, omega arith, omega (arith, t.2, c.loop-v.invariant.1.long))
+
+pub loop-v-preserved : goal.loop-v-preserved
+loop-v-preserved c =
+    let l = c.loop-v in let a = c.args in (
+      omega arith,
+      ⊎_elim
+          (λ t.
+          rw t.5 (placed_again l.invariant.1
+          (placed_as t.2.ensures (λ b y h e p k s x.
+          e p k s x ∙ some_more (λ u. holds p s (User u) && partner_held p s (get_or a.t4 u 0)) l.v (has (in_block a.to.now a.n b a.i) k) (l.invariant.1.here b h p k s x)))))
+          (λ t.
+          rw t.1 (placed_as l.invariant.1 (λ b y h e p k s x.
+          e p k s x ∙ some-passed (λ u. holds p s (User u) && partner_held p s (get_or a.t4 u 0)) l.v (has (in_block a.to.now a.n b a.i) k)
+          (ap (λ (m : ℕ). holds p s (User l.v) && partner_held p s m) t.0.left ∙ ap (λ (z : Bool). holds p s (User l.v) && z) (none-held p s) ∙ and-false (holds p s (User l.v))))))
+          c.if-set-ne0.branch,
+    )
+
+pub shape_of-to : goal.shape_of-to
+shape_of-to c = c.loop-v.invariant.1.long
+
+pub returns : goal.returns
+returns c = let e : c.loop-v.v ≡ most_values = omega arith in rw e at c.loop-v.invariant.1

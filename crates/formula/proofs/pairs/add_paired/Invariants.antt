@@ -1,0 +1,21 @@
+-- `formula::pairs::add_paired` meets its contract: the place has what it had, and the user values before v.
+use Prim.Native.Nat.{ℕ, ◌-◌, ◌≤◌}
+use mathlib.Core.Path.{◌≡◌}
+use mathlib.Core.Bool.{◌&&◌, ◌||◌}
+use lib.ListN.{get_or}
+use Rattle.sets.specs.Set.{has}
+use Rattle.words.specs.declared.Holding.TheVariants.{User}
+use Rattle.policy.specs.Limits.{most_values}
+use Rattle.policy.specs.Policy.{Policy}
+use Rattle.formula.specs.Truth.{Sets, holds}
+use Rattle.formula.specs.Inner.Grant.{some, partner_held}
+use Rattle.formula.specs.Inner.Lane.{in_block, Placed, InBlock}
+use Rattle.formula.proofs.pairs.add_paired.Given as goal
+
+abbrev pub invariant-loop-v : goal.invariant-loop-v
+invariant-loop-v l =
+    (l.v ≤ most_values)
+    × Placed l.n l.i (λ b y. (p : Policy) (k : ℕ) (s : Sets) → InBlock p l.users l.objects l.n b k s → has y k ≡ (has (in_block l.initial.to l.n b l.i) k || some (λ u. holds p s (User u) && partner_held p s (get_or l.paired u 0)) l.v)) l.initial.to l.to
+
+abbrev pub decreases-loop-v : goal.decreases-loop-v
+decreases-loop-v l = most_values - l.v

@@ -1,0 +1,20 @@
+-- `formula::pairs::add_partners` meets its contract: the place has what it had, and the object values before w.
+use Prim.Native.Nat.{ℕ, ◌-◌, ◌≤◌}
+use mathlib.Core.Path.{◌≡◌}
+use mathlib.Core.Bool.{◌&&◌, ◌||◌}
+use Rattle.sets.specs.Set.{has}
+use Rattle.words.specs.declared.Holding.TheVariants.{User, Object}
+use Rattle.policy.specs.Limits.{most_values}
+use Rattle.policy.specs.Policy.{Policy}
+use Rattle.formula.specs.Truth.{Sets, holds}
+use Rattle.formula.specs.Inner.Grant.{some}
+use Rattle.formula.specs.Inner.Lane.{in_block, Placed, InBlock}
+use Rattle.formula.proofs.pairs.add_partners.Given as goal
+
+abbrev pub invariant-loop-w : goal.invariant-loop-w
+invariant-loop-w l =
+    (l.w ≤ most_values)
+    × Placed l.n l.i (λ b y. (p : Policy) (k : ℕ) (s : Sets) → InBlock p l.users l.objects l.n b k s → has y k ≡ (has (in_block l.initial.to l.n b l.i) k || (holds p s (User l.v) && some (λ u. has l.set u && holds p s (Object u)) l.w))) l.initial.to l.to
+
+abbrev pub decreases-loop-w : goal.decreases-loop-w
+decreases-loop-w l = most_values - l.w

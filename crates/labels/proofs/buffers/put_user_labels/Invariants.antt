@@ -1,0 +1,15 @@
+-- `labels::buffers::put_user_labels` meets its contract, by the laws of putting.
+use Prim.Native.Nat.{◌-◌}
+use mathlib.Core.Path.{◌≡◌}
+use lib.ListN.{length}
+use Rattle.labels.specs.Inner.Lending.{lent_in}
+use Rattle.labels.proofs.Putting.{Putting}
+use Rattle.labels.proofs.buffers.put_user_labels.Given as goal
+
+abbrev pub invariant-loop-u : goal.invariant-loop-u
+invariant-loop-u l =
+    Putting l.labels l.n l.u (lent_in l.width l.initial.bytes l.initial.wide) (lent_in l.width l.bytes l.wide)
+    × (length l.bytes ≡ length l.initial.bytes) × (length l.wide ≡ length l.initial.wide)
+
+abbrev pub decreases-loop-u : goal.decreases-loop-u
+decreases-loop-u l = l.n - l.u

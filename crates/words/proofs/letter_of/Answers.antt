@@ -1,0 +1,24 @@
+-- `words::letter_of` meets its contract: each arm gives the word of its number.
+use mathlib.Core.Path.{sym, ◌∙◌}
+use Rattle.words.proofs.Numbers.{no_letter}
+use Rattle.words.proofs.letter_of.Goals as goal
+
+pub returns-in-0 : goal.returns-in-0
+returns-in-0 c = rw c.in-0.is
+
+pub returns-in-1 : goal.returns-in-1
+returns-in-1 c = rw c.in-1.is
+
+pub returns-in-2 : goal.returns-in-2
+returns-in-2 c = rw c.in-2.is
+
+pub returns-in-3 : goal.returns-in-3
+returns-in-3 c = rw c.in-3.is
+
+pub returns-in-4 : goal.returns-in-4
+returns-in-4 c = rw c.in-4.is
+
+pub returns-in_default : goal.returns-in_default
+returns-in_default c =
+    let r = c.in_default.rest in
+    c.missing.ensures ∙ sym (no_letter _ r.0.0.0.0.1 r.0.0.0.1 r.0.0.1 r.0.1 r.1)
