@@ -107,20 +107,21 @@ def main(argv):
     return table, bad, texts, goals
 
 
-def turn(table, text, source, aliases=True):
-    """The text with the names of the table respelled. In a path after a dot a name with a dash is a step of a proof, and stays, unless the path begins with a module."""
+def turn(table, text, source, steps=False):
+    """The text with the names of the table respelled. With steps a name with a dash behind a dot is a step of a proof by hand, and stays, unless the path begins with a module."""
     modules = set(re.findall(r"\bas\s+([a-z][\w]*)\s*(?:;|$)", text, re.M))
 
     def one(m):
         path, name = m[1], m[2]
+        first = path.split(".")[0]
+        if first in table and ("-" in first or not first.islower()):
+            path = table[first] + path[len(first) :]
         if name not in table:
-            return m[0]
+            return path + name
         if "-" not in name and name.islower() and (source or path or m.string[m.end() : m.end() + 1] == "."):
-            return m[0]
-        if path and "-" in name:
-            first = path.split(".")[0]
-            if first not in modules and first != "Rattle":
-                return m[0]
+            return path + name
+        if path and "-" in name and steps and first not in modules and first != "Rattle":
+            return path + name
         return path + table[name]
 
     if not source:
@@ -157,7 +158,7 @@ if __name__ == "__main__":
     if bad or "--dry" in sys.argv:
         raise SystemExit(1 if bad else 0)
     for p, t in texts.items():
-        new = turn(table, t, p.endswith(".rt"))
+        new = turn(table, t, p.endswith(".rt"), p.endswith("/Proof.antt"))
         if new != t:
             open(p, "w", encoding="utf-8").write(new)
     for p in list(files("crates", (".edit",))) + list(files("docs", (".md",))) + ["README.md"]:

@@ -46,32 +46,32 @@ module _ (es : List Entry) (n i : ℕ) (h : 0 < i) (a : i ≤ n) (g : n ≤ leng
   behind : i - 1 + 1 ≡ i
   behind = omega arith
 
-  other : (k : ℕ) → (entryBefore.number ≡ k → ⊥) → set_of_number (drop (i - 1) (take n es)) k ≡ set_of_number (drop i (take n es)) k
+  other : (k : ℕ) → (entry_before.number ≡ k → ⊥) → set_of_number (drop (i - 1) (take n es)) k ≡ set_of_number (drop i (take n es)) k
   other k e = rw behind at (set-later es n k (i - 1) (omega arith) g e)
 
-  pub filled_next : length found ≡ places → entryBefore.number < user_numbers
-      → ByNumber (drop (i - 1) (take n es)) (set found entryBefore.number (record { registered = true; set = entryBefore.set }))
+  pub filled_next : length found ≡ places → entry_before.number < user_numbers
+      → ByNumber (drop (i - 1) (take n es)) (set found entry_before.number (record { registered = true; set = entry_before.set }))
   filled_next s b =
       record {
-        below = λ k l. at k l (eqb entryBefore.number k) refl;
-        past = get_or-set_other found entryBefore.number user_numbers new not_found (λ e. omega arith) ∙ q.past;
+        below = λ k l. at k l (eqb entry_before.number k) refl;
+        past = get_or-set_other found entry_before.number user_numbers new not_found (λ e. omega arith) ∙ q.past;
       }
     where
       new : Found
-      new = record { registered = true; set = entryBefore.set }
+      new = record { registered = true; set = entry_before.set }
 
-      at : (k : ℕ) → k < user_numbers → (t : Bool) → eqb entryBefore.number k ≡ t
-          → FoundAs (set_of_number (drop (i - 1) (take n es)) k) (get_or (set found entryBefore.number new) k not_found)
+      at : (k : ℕ) → k < user_numbers → (t : Bool) → eqb entry_before.number k ≡ t
+          → FoundAs (set_of_number (drop (i - 1) (take n es)) k) (get_or (set found entry_before.number new) k not_found)
       at k l true e =
-          let w = eqb-true entryBefore.number k e in
+          let w = eqb-true entry_before.number k e in
           let f = set_here es n k (i - 1) (omega arith) g w in
-          let r : get_or (set found entryBefore.number new) k not_found ≡ new = rw (← w) (get_or-set_same found entryBefore.number new not_found (omega arith)) in
+          let r : get_or (set found entry_before.number new) k not_found ≡ new = rw (← w) (get_or-set_same found entry_before.number new not_found (omega arith)) in
           record { registered = rw (f, r); set = rw (f, r) }
       at k l false e =
-          let w = eqb-false entryBefore.number k e in
-          rw (other k w, get_or-set_other found entryBefore.number k new not_found (λ z. w (sym z))) (q.below k l)
+          let w = eqb-false entry_before.number k e in
+          rw (other k w, get_or-set_other found entry_before.number k new not_found (λ z. w (sym z))) (q.below k l)
 
-  pub filled-past : user_numbers ≤ entryBefore.number → ByNumber (drop (i - 1) (take n es)) found
+  pub filled-past : user_numbers ≤ entry_before.number → ByNumber (drop (i - 1) (take n es)) found
   filled-past b = record { below = λ k l. rw (other k (λ e. omega arith)) (q.below k l); past = q.past }
 
 -- ---- reading

@@ -47,7 +47,7 @@ dominates p h s i j =
                 ((implies-iff (due k) (met k)).0 (every-at passes u (and_right (eqb u o) (every passes u) e) k l) d);
           },
       λ c.
-          and_both (eqb u o) (every passes u) (eq-eqb u o c.equally-wide)
+          and_both (eqb u o) (every passes u) (eq-eqb u o c.equally_wide)
           (every_of passes u (λ k l.
           (implies-iff (due k) (met k)).1 (λ d. (covered_iff (values p.form) p.user h.user i s.user k l).1 (c.each-place k l d)))),
     )

@@ -72,7 +72,7 @@ module _ (t : List ℕ) where
         accepted = (accepted, λ w. rw w.1);
         value = value-is;
         refusal = λ n line e. (rw e, rw e, refused-number n line e);
-        no_policy = demand1.no-policy t;
+        no_policy = demand1.no_policy t;
       }
 
 -- ---- the other calls
@@ -95,7 +95,7 @@ calls v =
       valid = check11 v;
       decide = λ a s. through (ap reply_number) (λ n. ap reply_number) (d.decide a s);
       list = λ bits a buffer. through (λ x. (ap counted x.0, x.1)) (λ n x. (ap counted x.0, x.1)) (d.list bits a buffer);
-      decide-by_tuples = λ bits s listing count. through (ap reply_number) (λ n. ap reply_number) (d.decide-by-tuples bits s listing count);
+      decide-by_tuples = λ bits s listing count. through (ap reply_number) (λ n. ap reply_number) (d.decide-by_tuples bits s listing count);
       compile = λ b. through (λ x. (ap crossed_counts x.0, x.1)) (λ n x. (ap crossed_counts x.0, x.1)) (d.compile b);
       apart = λ u w a x. through (separated v u w a) (unseparated a) (d.apart u w a x);
       session = λ l c b. through (λ x. rw (x.0, x.1)) (λ n x. rw (x.0, x.1)) (d.session l c b);

@@ -45,7 +45,7 @@ module _ (f : ℕ → ℕ → ℕ) (m : ℕ) where
     unfolding joined
     still-so e o h = elim (dec_lt o s) [
       | yes b ↦ alike_at f s u v ((label-iff (rows-equivalence f s m) u v hu hv).0
-          (sym (L.labels-are u hu) ∙ alike_at (joined before g) (suc c) u v e 0 (omega arith) ∙ L.labels-are v hv)) o b
+          (sym (L.labels_are u hu) ∙ alike_at (joined before g) (suc c) u v e 0 (omega arith) ∙ L.labels_are v hv)) o b
       | no b ↦
           let i : ℕ = o - s in
           let q : s + i ≡ o = omega arith in
@@ -54,7 +54,7 @@ module _ (f : ℕ → ℕ → ℕ) (m : ℕ) where
 
     were_so : ((o : ℕ) → o < s + c → f u o ≡ f v o) → (o : ℕ) → o < suc c → joined before g u o ≡ joined before g v o
     unfolding joined
-    were_so h zero l = L.labels-are u hu ∙ (label-iff (rows-equivalence f s m) u v hu hv).1 (alike_of f s u v (λ o b. h o (omega arith))) ∙ sym (L.labels-are v hv)
+    were_so h zero l = L.labels_are u hu ∙ (label-iff (rows-equivalence f s m) u v hu hv).1 (alike_of f s u v (λ o b. h o (omega arith))) ∙ sym (L.labels_are v hv)
     were_so h (suc i) l = strip u i hu (omega arith) ∙ h (s + i) (omega arith) ∙ sym (strip v i hv (omega arith))
 
     pub still_alike : rows_alike (joined before g) (suc c) u v ≡ rows_alike f (s + c) u v
@@ -80,9 +80,9 @@ leaders_enough e m n {labels} {leaders} {count} L o q ho hq =
     let g : ℕ → ℕ → ℕ = λ x u. e u x in
     let row : (u x : ℕ) → u < m → x < n → e u x ≡ e (get_or leaders (label like u) 0) x = λ u x hu hx.
     let b : label like u < count = omega (arith, L.counted, label-below E u hu) in
-    rw (L.leaders-are (label like u) b) (sym (alike_at e n (leader like m (label like u)) u (leader-like E u hu) x hx)) in
+    rw (L.leaders_are (label like u) b) (sym (alike_at e n (leader like m (label like u)) u (leader-like E u hu) x hx)) in
     both_ways (rows_alike f count o q) (rows_alike g m o q)
     (λ h. alike_of g m o q (λ u hu.
     row u o hu ho ∙ alike_at f count o q h (label like u) (omega (arith, L.counted, label-below E u hu)) ∙ sym (row u q hu hq)))
     (λ h. alike_of f count o q (λ l hl.
-    alike_at g m o q h (get_or leaders l 0) (rw (L.leaders-are l hl) (leader-is E l (omega (arith, L.counted))).below)))
+    alike_at g m o q h (get_or leaders l 0) (rw (L.leaders_are l hl) (leader-is E l (omega (arith, L.counted))).below)))

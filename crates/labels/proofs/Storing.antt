@@ -206,7 +206,7 @@ module _ (v : PolicyValue) (w : Widths) (ok : valid v ≡ true) (own : own_width
   -- the entry of two labels is that of their leaders
   leaders_entry : (ul ol : ℕ) → ul < n.users → ol < n.objects → entry_of (policy_of v) (at (get_or ufs ul 0) (get_or ofs ol 0)) ≡ entry (policy_of v) ul ol
   unfolding entry
-  leaders_entry ul ol hu ho = rw (L.users.leaders-are ul hu, L.objects.leaders-are ol ho)
+  leaders_entry ul ol hu ho = rw (L.users.leaders_are ul hu, L.objects.leaders_are ol ho)
 
   -- what three writers leave that put the labels and the table there
   pub stored-all : (us' os' ts' : List ℕ) → too_short (policy_of v) (lent w us os ts) ≡ false
@@ -218,6 +218,6 @@ module _ (v : PolicyValue) (w : Widths) (ok : valid v ≡ true) (own : own_width
   stored-all us' os' ts' e wu wo wt =
       let m = counts-are L in
       stored-long v w ok own us os ts n us' os' ts' e m.0 m.1
-      (wu (user_label (policy_of v)) (rw W.users L.users.labels-are) ∙ rw W.users)
-      (wo (object_label (policy_of v)) (rw W.objects L.objects.labels-are) ∙ rw W.objects)
+      (wu (user_label (policy_of v)) (rw W.users L.users.labels_are) ∙ rw W.users)
+      (wo (object_label (policy_of v)) (rw W.objects L.objects.labels_are) ∙ rw W.objects)
       (wt (entry (policy_of v)) leaders_entry ∙ rw (m.0, m.1))

@@ -56,7 +56,7 @@ module _ {like : ℕ → ℕ → Bool} {m u : ℕ} {labels leaders : List ℕ} {
   leader-row l h =
       let c = t.counted in
       let k = label_count-mono like u m t.within in
-      rw (t.leaders-are l h) (leader-is E l (omega arith)).below
+      rw (t.leaders_are l h) (leader-is E l (omega arith)).below
 
   -- the first leader that row u is like
   module _ (h : u < m) (l : ℕ) (q : l ≡ first (λ i. like (get_or leaders i 0) u) count) where
@@ -71,14 +71,14 @@ module _ {like : ℕ → ℕ → Bool} {m u : ℕ} {labels leaders : List ℕ} {
         let c = t.counted in
         let k = label_count-mono like u m t.within in
         let r = leader-is E l (omega arith) in
-        sym ((label-iff E _ u r.below h).1 (rw (← t.leaders-are l b) (found.hit b))) ∙ r.labelled
+        sym ((label-iff E _ u r.below h).1 (rw (← t.leaders_are l b) (found.hit b))) ∙ r.labelled
 
     new-leads : l ≡ count → leads like u ≡ true
     new-leads e =
         let c = t.counted in
         let none : ¬ (lowest_like like u < u) = λ b.
         let s = label_count-strict like _ u (lowest-leads E u h) b in
-        let z = t.leaders-are (label_count like (lowest_like like u)) (omega arith) ∙ leader-leads E _ (lowest-below E u h) (lowest-leads E u h) in
+        let z = t.leaders_are (label_count like (lowest_like like u)) (omega arith) ∙ leader-leads E _ (lowest-below E u h) (lowest-leads E u h) in
         never (like (lowest_like like u) u) (lowest-like E u h)
         (ap (λ (x : ℕ). like x u) (sym z) ∙ found.before (label_count like (lowest_like like u)) (omega arith)) in
         is-leads like u (omega (arith, (lowest-least like u).within))
@@ -93,10 +93,10 @@ module _ {like : ℕ → ℕ → Bool} {m u : ℕ} {labels leaders : List ℕ} {
           within = omega arith;
           counted = c ∙ sym (label_count-old like u f);
           few = omega (arith, t.few);
-          labels_long = simp length-set t.labels-long;
-          leaders_long = t.leaders-long;
-          labels_are = stored_next (λ i x. x ≡ label like i) 0 labels u l (omega (arith, t.labels-long)) t.labels-are (sym s);
-          leaders_are = t.leaders-are;
+          labels_long = simp length-set t.labels_long;
+          leaders_long = t.leaders_long;
+          labels_are = stored_next (λ i x. x ≡ label like i) 0 labels u l (omega (arith, t.labels_long)) t.labels_are (sym s);
+          leaders_are = t.leaders_are;
         }
 
     pub turned-new : l ≡ count → Turned like m (u + 1) (set labels u l) (set leaders count u) (count + 1)
@@ -108,10 +108,10 @@ module _ {like : ℕ → ℕ → Bool} {m u : ℕ} {labels leaders : List ℕ} {
           within = omega arith;
           counted = ap (λ (x : ℕ). x + 1) c ∙ sym (label_count-new like u f);
           few = omega arith;
-          labels_long = simp length-set t.labels-long;
-          leaders_long = simp length-set t.leaders-long;
-          labels_are = stored_next (λ i x. x ≡ label like i) 0 labels u l (omega (arith, t.labels-long)) t.labels-are (all ∙ c ∙ sym (label-leads E u f));
-          leaders_are = stored_next (λ i x. x ≡ leader like m i) 0 leaders count u (omega (arith, t.leaders-long)) t.leaders-are
+          labels_long = simp length-set t.labels_long;
+          leaders_long = simp length-set t.leaders_long;
+          labels_are = stored_next (λ i x. x ≡ label like i) 0 labels u l (omega (arith, t.labels_long)) t.labels_are (all ∙ c ∙ sym (label-leads E u f));
+          leaders_are = stored_next (λ i x. x ≡ leader like m i) 0 leaders count u (omega (arith, t.leaders_long)) t.leaders_are
               (sym (leader-leads E u h f) ∙ ap (leader like m) (sym c));
         }
 
@@ -120,7 +120,7 @@ pub turned-all : {like : ℕ → ℕ → Bool} {m u : ℕ} {labels leaders : Lis
     → Labelled like m labels leaders count
 turned-all {like} {m} {u} t h =
     let q : u ≡ m = omega (arith, t.within) in
-    record { counted = t.counted ∙ ap (label_count like) q; labels_are = λ i l. t.labels-are i (omega arith); leaders_are = t.leaders-are }
+    record { counted = t.counted ∙ ap (label_count like) q; labels_are = λ i l. t.labels_are i (omega arith); leaders_are = t.leaders_are }
 
 -- ---- the labels of a like side
 
@@ -130,8 +130,8 @@ pub labelled-same : {like other : ℕ → ℕ → Bool} {m : ℕ} {labels leader
 labelled-same {like} {other} {m} h s =
     record {
       counted = s.counted ∙ label_count-same like other m h m (omega arith);
-      labels_are = λ u l. s.labels-are u l ∙ label_same like other m h u l;
-      leaders_are = λ k l. s.leaders-are k l ∙ leader-same like other m h k;
+      labels_are = λ u l. s.labels_are u l ∙ label_same like other m h u l;
+      leaders_are = λ k l. s.leaders_are k l ∙ leader-same like other m h k;
     }
 
 -- there are no more labels than sets
@@ -141,7 +141,7 @@ labelled-few {like} {m} s = let q = s.counted in omega (arith, label_count-le li
 -- so a label fits the bits that the number of sets does
 pub labelled-fit : {like : ℕ → ℕ → Bool} {m : ℕ} {labels leaders : List ℕ} {count : ℕ} (bits : ℕ) → Equivalence like m
     → Labelled like m labels leaders count → m ≤ 2 ^ bits → Fit bits m labels
-labelled-fit {like} {m} bits E s h u l = rw (s.labels-are u l) (lt_of_lt_of_le (label-below E u l) (le_trans (label_count-le like m) h))
+labelled-fit {like} {m} bits E s h u l = rw (s.labels_are u l) (lt_of_lt_of_le (label-below E u l) (le_trans (label_count-le like m) h))
 
 -- and the lowest set of a label is one of them and has the label
 pub labelled-leads : {like : ℕ → ℕ → Bool} {m : ℕ} {labels leaders : List ℕ} {count : ℕ} → Equivalence like m
@@ -149,8 +149,8 @@ pub labelled-leads : {like : ℕ → ℕ → Bool} {m : ℕ} {labels leaders : L
 labelled-leads E s =
     let q = s.counted in
     record {
-      row = λ l h. rw (s.leaders-are l h) (leader-is E l (omega arith)).below;
-      labelled = λ l h. let r = leader-is E l (omega arith) in rw (s.leaders-are l h) (s.labels-are _ r.below ∙ r.labelled);
+      row = λ l h. rw (s.leaders_are l h) (leader-is E l (omega arith)).below;
+      labelled = λ l h. let r = leader-is E l (omega arith) in rw (s.leaders_are l h) (s.labels_are _ r.below ∙ r.labelled);
     }
 
 -- what is read of a label's leader

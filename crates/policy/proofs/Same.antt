@@ -121,4 +121,4 @@ exact_value =
     (both (part (λ (x : PolicyValue). x.rules) exact_rules) (part (λ (x : PolicyValue). x.pairs) exact_pairs))))))))
 
 pub same-value : (x y : PolicyValue) → (same_value x y ≡ true) ↔ (x ≡ y)
-same-value x y = (exact-value.equal x y, λ e. rw e (exact-value.self y))
+same-value x y = (exact_value.equal x y, λ e. rw e (exact_value.self y))

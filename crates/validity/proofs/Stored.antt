@@ -86,7 +86,7 @@ module _ (most : ℕ) (ws : List ℕ) (n : ℕ) (k : length ws ≡ width_places)
 
   pub widths-in : 1 ≤ n → n ≤ width_places → widths_valid most ws n ≡ (all (eqb 0) (drop n ws) && widths_sound most 0 (take n ws))
   unfolding widths_valid
-  widths-in h g = rw (le-leb 1 (length (take n ws)) (omega (arith, length-take n ws)), holds-in eqb 0 ws n width_places k exact-number.self g)
+  widths-in h g = rw (le-leb 1 (length (take n ws)) (omega (arith, length-take n ws)), holds-in eqb 0 ws n width_places k exact_number.self g)
 
 module _ (s : SideSizes) (ls : List Direct) (n : ℕ) (k : length ls ≡ line_places) where
   pub lines-out : line_places < n → false ≡ lines_valid s ls n
@@ -95,7 +95,7 @@ module _ (s : SideSizes) (ls : List Direct) (n : ℕ) (k : length ls ≡ line_pl
 
   pub lines-in : n ≤ line_places → lines_valid s ls n ≡ (all (same_line (direct 0 0)) (drop n ls) && rising (line_in s) line_above none (take n ls))
   unfolding lines_valid
-  lines-in h = rw (holds-in same_line (direct 0 0) ls n line_places k exact-line.self h)
+  lines-in h = rw (holds-in same_line (direct 0 0) ls n line_places k exact_line.self h)
 
 module _ (most total : ℕ) (es : List Entry) (n : ℕ) (k : length es ≡ entry_places) where
   pub entries-out : entry_places < n → false ≡ register_valid most total (record { count = n; entries = es })
@@ -106,7 +106,7 @@ module _ (most total : ℕ) (es : List Entry) (n : ℕ) (k : length es ≡ entry
       → register_valid most total (record { count = n; entries = es })
       ≡ (all (same_entry no_entry) (drop n es) && rising (number_in most total) number_above none (take n es))
   unfolding register_valid same_register register entries_of holds
-  entries-in h = rw (holds-in same_entry no_entry es n entry_places k exact-entry.self h)
+  entries-in h = rw (holds-in same_entry no_entry es n entry_places k exact_entry.self h)
 
 module _ (u : ℕ) (xs : List Conflict) (n : ℕ) (k : length xs ≡ conflict_places) where
   pub conflicts-out : conflict_places < n → false ≡ conflicts_valid u (record { count = n; entries = xs })
@@ -117,7 +117,7 @@ module _ (u : ℕ) (xs : List Conflict) (n : ℕ) (k : length xs ≡ conflict_pl
       → conflicts_valid u (record { count = n; entries = xs })
       ≡ (all (same_conflict (conflict 0 0)) (drop n xs) && rising (conflict_fits u) set_above none (take n xs))
   unfolding conflicts_valid same_conflicts conflicts_value conflicts_of holds
-  conflicts-in h = holds-few same_conflict (conflict 0 0) xs n conflict_places k exact-conflict.self h _
+  conflicts-in h = holds-few same_conflict (conflict 0 0) xs n conflict_places k exact_conflict.self h _
 
 module _ (a : ℕ) (s : Sizes) (xs : List Pair) (n : ℕ) (k : length xs ≡ pair_places) where
   pub pairs-out : pair_places < n → false ≡ pairs_valid a s (record { count = n; entries = xs })
@@ -128,7 +128,7 @@ module _ (a : ℕ) (s : Sizes) (xs : List Pair) (n : ℕ) (k : length xs ≡ pai
       → pairs_valid a s (record { count = n; entries = xs })
       ≡ (all (same_pair (pair 0 0 0)) (drop n xs) && rising (pair_fits a s.user.values s.object.values) pair_higher none (take n xs))
   unfolding pairs_valid same_pairs pairs_value pairs_of holds
-  pairs-in h = holds-few same_pair (pair 0 0 0) xs n pair_places k exact-pair.self h _
+  pairs-in h = holds-few same_pair (pair 0 0 0) xs n pair_places k exact_pair.self h _
 
 module _ (x : RuleValue) (k : length x.words ≡ word_places) where
   pub rule-out : word_places < x.count → same_rule (rule_value (rule_of x)) x ≡ false
@@ -136,15 +136,15 @@ module _ (x : RuleValue) (k : length x.words ≡ word_places) where
   rule-out h =
       let n = x.count in
       let e : eqb (length (take n x.words)) n ≡ false = ne_eqb _ n (λ q. omega (arith, length-take n x.words)) in
-      rw (exact-number.self x.action, length-map, e)
+      rw (exact_number.self x.action, length-map, e)
 
   -- words in digits have the numbers that they are stored as
   pub rule-stored : x.count ≤ word_places → all in_digits (words_in x.count x.words) ≡ true
       → same_rule (rule_value (rule_of x)) x ≡ all (eqb 0) (drop x.count x.words)
   unfolding same_rule rule_value rule_of holds
   rule-stored h d =
-      rw (exact-number.self x.action, length-map, numbers-back (take x.count x.words) d)
-      (holds-in eqb 0 x.words x.count word_places k exact-number.self h)
+      rw (exact_number.self x.action, length-map, numbers-back (take x.count x.words) d)
+      (holds-in eqb 0 x.words x.count word_places k exact_number.self h)
 
 module _ (x : RuleValue) where
   pub blank-action : (x.action ≡ 0 → ⊥) → false ≡ same_rule no_rule x

@@ -9,7 +9,7 @@ use Rattle.board.proofs.add.Goals as goal
 ruled : (c : goal.After-of_add-ruling) → (let a = c.args in refusal_of c.of_add-ruling.result ≡ lower a.policy (adds a.user a.session a.set) a.board)
 ruled c =
     let a = c.args in let x = c.at-entry in let r = c.of-reach in let h = c.union-held in let o = c.over-over in
-    add_ruled a.policy a.board c.fits.result c.fits.ensures c.if-not-fits.false
+    add_ruled a.policy a.board c.fits.result c.fits.ensures (rw c.if-not-fits.false)
     a.user a.session x.result x.ensures c.of_add-ruling.result r.result r.ensures
     a.set h.result h.ensures o.result o.ensures c.of_add-ruling.ensures
 

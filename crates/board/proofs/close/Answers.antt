@@ -9,7 +9,7 @@ use Rattle.board.proofs.close.Goals as goal
 ruled : (c : goal.After-of_close-ruling) → (let a = c.args in refusal_of c.of_close-ruling.result ≡ lower a.policy (closes a.user a.session) a.board)
 ruled c =
     let a = c.args in let x = c.at-entry in let r = c.set_of-found in
-    close_ruled a.policy a.board c.fits.result c.fits.ensures c.if-not-fits.false
+    close_ruled a.policy a.board c.fits.result c.fits.ensures (rw c.if-not-fits.false)
     a.user a.session x.result x.ensures c.of_close-ruling.result r.result r.ensures c.of_close-ruling.ensures
 
 pub returns-then-not-fits : goal.returns-then-not-fits
@@ -18,7 +18,7 @@ returns-then-not-fits c l = search stopped
 pub set_of-found-requires : goal.set_of-found-requires
 set_of-found-requires c =
     let a = c.args in
-    (ready a.policy a.board c.fits.result c.fits.ensures c.if-not-fits.false).count
+    (ready a.policy a.board c.fits.result c.fits.ensures (rw c.if-not-fits.false)).count
 
 pub settle-requires : goal.settle-requires
 settle-requires c =

@@ -9,7 +9,7 @@ use Rattle.board.proofs.drop.Goals as goal
 ruled : (c : goal.After-of_drop-ruling) → (let a = c.args in refusal_of c.of_drop-ruling.result ≡ lower a.policy (drops a.user a.session a.set) a.board)
 ruled c =
     let a = c.args in let x = c.at-entry in let r = c.of-reach in
-    drop-ruled a.policy a.board c.fits.result c.fits.ensures c.if-not-fits.false
+    drop-ruled a.policy a.board c.fits.result c.fits.ensures (rw c.if-not-fits.false)
     a.user a.session x.result x.ensures c.of_drop-ruling.result r.result r.ensures a.set c.of_drop-ruling.ensures
 
 pub returns-then-not-fits : goal.returns-then-not-fits

@@ -41,5 +41,5 @@ returns c =
       user = stands-moved (λ v h. alone c.with_juniors-users.result v) (c.with_juniors-users.ensures.1 0 a.user (c.spread.ensures 0 (lit< tt)));
       object = stands-moved (λ v h. alone c.with_seniors-objects.result v) (c.with_seniors-objects.ensures.1 0 a.object (c.spread-2.ensures 0 (lit< tt)));
     } in
-    first_lane w.new.1.1.1.1.1.0 w.result (w.ensures.2 0 (lit< tt) p 0 (at a.user a.object) c.requires.1 x)
+    first_lane w.new.stack w.result (w.ensures.2 0 (lit< tt) p 0 (at a.user a.object) c.requires.1 x)
     ∙ (c.of_action-grant.ensures p c.of_policy.ensures).same (at a.user a.object)

@@ -8,7 +8,7 @@ use Rattle.formula.proofs.decide.Goals as goal
 pub returns-then-not-check : goal.returns-then-not-check
 returns-then-not-check c =
     let a = c.args in
-    invalid a.v a.action (at a.user a.object) (sym c.check.ensures ∙ not-true c.check.result c.if-not-check.true)
+    invalid a.v a.action (at a.user a.object) (sym c.check.ensures ∙ c.if-not-check.true)
 
 pub answer-requires : goal.answer-requires
-answer-requires c = sym c.check.ensures ∙ not-false c.check.result c.if-not-check.false
+answer-requires c = sym c.check.ensures ∙ c.if-not-check.false

@@ -10,23 +10,26 @@ use Rattle.policy.specs.Valid.{valid}
 use Rattle.formula.proofs.Checked.{valid-fits}
 use Rattle.labels.specs.Inner.Grid.{grid_places, ViewOf}
 use Rattle.labels.proofs.Storing.{actions-few, sets-few, refused-value, refused-widths}
+use Rattle.labels.proofs.compile.Lts as place
+use Rattle.labels.proofs.compile.Tie as tie
+use Rattle.labels.proofs.compile.Reads as reads
 use Rattle.labels.proofs.compile.Goals as goal
 
-ok : (c : goal.Else-not-check) → valid c.args.policy ≡ true
-ok c = sym c.check.ensures ∙ not-false c.check.result c.if-not-check.false
+ok : (c : place.Else1 tie.the-claims reads.Pre reads.Post) → valid c.args.policy ≡ true
+ok c = sym c.check.ensures ∙ c.if-not-check.false
 
-own : (c : goal.Else-not-own_widths) → let a = c.args in own_widths a.policy.form a.widths ≡ true
-own c = sym c.own_widths.ensures ∙ not-false c.own_widths.result c.if-not-own_widths.false
+own : (c : place.Else2 tie.the-claims reads.Pre reads.Post) → let a = c.args in own_widths a.policy.form a.widths ≡ true
+own c = sym c.own_widths.ensures ∙ c.if-not-own_widths.false
 
 -- the user sets are the rows
-seen : (c : goal.After-view_of-view) → ViewOf (policy_of c.args.policy) c.view_of-view.result
+seen : (c : place.After-view_of tie.the-claims reads.Pre reads.Post) → ViewOf (policy_of c.args.policy) c.view_of-view.result
 seen c = c.view_of-view.ensures _ c.rows_of-from.ensures.1.sides
 
 pub returns-then-not-check : goal.returns-then-not-check
-returns-then-not-check c = refused-value _ _ _ _ _ (sym c.check.ensures ∙ not-true c.check.result c.if-not-check.true)
+returns-then-not-check c = refused-value _ _ _ _ _ (sym c.check.ensures ∙ c.if-not-check.true)
 
 pub returns-then-not-own_widths : goal.returns-then-not-own_widths
-returns-then-not-own_widths c = refused-widths _ _ _ _ _ (sym c.own_widths.ensures ∙ not-true c.own_widths.result c.if-not-own_widths.true)
+returns-then-not-own_widths c = refused-widths _ _ _ _ _ (sym c.own_widths.ensures ∙ c.if-not-own_widths.true)
 
 pub rows_of-from-requires : goal.rows_of-from-requires
 rows_of-from-requires c = valid-fits _ (ok c.before.before)

@@ -9,17 +9,20 @@ use Rattle.policy.specs.Valid.{valid}
 use Rattle.formula.proofs.Checked.{valid-fits}
 use Rattle.labels.specs.Inner.Grid.{grid_places, ViewOf}
 use Rattle.labels.proofs.Storing.{counts-are, used-refused, used-stored}
+use Rattle.labels.proofs.used.Lts as place
+use Rattle.labels.proofs.used.Tie as tie
+use Rattle.labels.proofs.used.Reads as reads
 use Rattle.labels.proofs.used.Goals as goal
 
-ok : (c : goal.Else-not-check) → valid c.args.policy ≡ true
-ok c = sym c.check.ensures ∙ not-false c.check.result c.if-not-check.false
+ok : (c : place.Else1 tie.the-claims reads.Pre reads.Post) → valid c.args.policy ≡ true
+ok c = sym c.check.ensures ∙ c.if-not-check.false
 
 -- the user sets are the rows
-seen : (c : goal.After-view_of-view) → ViewOf (policy_of c.args.policy) c.view_of-view.result
+seen : (c : place.After-view_of tie.the-claims reads.Pre reads.Post) → ViewOf (policy_of c.args.policy) c.view_of-view.result
 seen c = c.view_of-view.ensures _ c.rows_of-from.ensures.1.sides
 
 pub returns-then-not-check : goal.returns-then-not-check
-returns-then-not-check c = used-refused _ (sym c.check.ensures ∙ not-true c.check.result c.if-not-check.true)
+returns-then-not-check c = used-refused _ (sym c.check.ensures ∙ c.if-not-check.true)
 
 pub rows_of-from-requires : goal.rows_of-from-requires
 rows_of-from-requires c = valid-fits _ (ok c)

@@ -8,9 +8,12 @@ use Rattle.policy.specs.Limits.{most_values}
 use Rattle.policy.specs.Value.{width_places, side_of}
 use Rattle.policy.proofs.Forms.{values-most}
 use Rattle.validity.proofs.Whole.{Small, side-small, shape-places, shape-small, shape_is, both-are, form-not, user-not, object-not, lists-left}
+use Rattle.validity.proofs.check.Lts as place
+use Rattle.validity.proofs.check.Tie as tie
+use Rattle.validity.proofs.check.Reads as reads
 use Rattle.validity.proofs.check.Goals as goal
 
-module _ (c : goal.Start) where
+module _ (c : place.Start tie.the-claims reads.Pre reads.Post) where
   user-long : length c.args.v.user.widths ≡ width_places
   user-long = search rules
 
@@ -18,21 +21,21 @@ module _ (c : goal.Start) where
   object-long = search rules
 
 -- where both sides are valid
-abbrev start : goal.Else-not-side_valid-2 → goal.Start
+abbrev start : place.Else3 tie.the-claims reads.Pre reads.Post → place.Start tie.the-claims reads.Pre reads.Post
 start c = c.before.before.before.before.before.before.before.before.before
 
-abbrev limit : goal.Else-not-side_valid-2 → goal.After-values-most
+abbrev limit : place.Else3 tie.the-claims reads.Pre reads.Post → place.After-values tie.the-claims reads.Pre reads.Post
 limit c = c.before.before.before.before.before.before
 
-module _ (c : goal.Else-not-side_valid-2) where
-  most : (limit c).values.result ≤ most_values
-  most = rw (limit c).values.ensures (values-most (start c).args.v.form)
+module _ (c : place.Else3 tie.the-claims reads.Pre reads.Post) where
+  most : (limit c).values-most.result ≤ most_values
+  most = rw (limit c).values-most.ensures (values-most (start c).args.v.form)
 
-  user : Small (limit c).values.result (start c).args.v.user.widths (start c).args.v.user.attributes
-  user = side-small _ (start c).args.v.user (user-long (start c)) c.side_valid.ensures c.if-not-side_valid.false
+  user : Small (limit c).values-most.result (start c).args.v.user.widths (start c).args.v.user.attributes
+  user = side-small _ (start c).args.v.user (user-long (start c)) c.side_valid.ensures (rw c.if-not-side_valid.false)
 
-  object : Small (limit c).values.result (start c).args.v.object.widths (start c).args.v.object.attributes
-  object = side-small _ (start c).args.v.object (object-long (start c)) c.side_valid-2.ensures c.if-not-side_valid-2.false
+  object : Small (limit c).values-most.result (start c).args.v.object.widths (start c).args.v.object.attributes
+  object = side-small _ (start c).args.v.object (object-long (start c)) c.side_valid-2.ensures (rw c.if-not-side_valid-2.false)
 
 pub returns-then-not-is_form : goal.returns-then-not-is_form
 returns-then-not-is_form c = search form-not
@@ -67,6 +70,6 @@ returns c =
     let a = start p in
     let u = shape_is (user p) c.measure-u.ensures (user-long a) (side_of a.args.v.user) refl in
     let o = shape_is (object p) c.measure-o.ensures (object-long a) (side_of a.args.v.object) refl in
-    lists-left _ _ p.is_form.ensures p.if-not-is_form.false _ (limit p).values.ensures
-    _ p.side_valid.ensures p.if-not-side_valid.false _ p.side_valid-2.ensures p.if-not-side_valid-2.false
+    lists-left _ _ p.is_form.ensures (rw p.if-not-is_form.false) _ (limit p).values-most.ensures
+    _ p.side_valid.ensures (rw p.if-not-side_valid.false) _ p.side_valid-2.ensures (rw p.if-not-side_valid-2.false)
     (both-are _ _ _ u o) c.lists_valid.ensures

@@ -1,5 +1,6 @@
 -- `words::letter_of` meets its contract: each arm gives the word of its number.
 use mathlib.Core.Path.{sym, ◌∙◌}
+use native.Mathlib.Omega.{arith}
 use Rattle.words.proofs.Numbers.{no_letter}
 use Rattle.words.proofs.letter_of.Goals as goal
 
@@ -19,6 +20,4 @@ pub returns-in-4 : goal.returns-in-4
 returns-in-4 c = rw c.in-4.is
 
 pub returns-in_default : goal.returns-in_default
-returns-in_default c =
-    let r = c.in_default.rest in
-    c.missing.ensures ∙ sym (no_letter _ r.0.0.0.0.1 r.0.0.0.1 r.0.0.1 r.0.1 r.1)
+returns-in_default c = c.missing.ensures ∙ sym (no_letter _ (omega arith) (omega arith) (omega arith) (omega arith) (omega arith))

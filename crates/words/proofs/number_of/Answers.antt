@@ -6,40 +6,40 @@ use Rattle.words.proofs.number_of.Goals as goal
 
 pub overflow_add-result : goal.overflow_add-result
 overflow_add-result c =
-        omega (arith, user-digit c.requires c.in-Holds.is c.in-User.is)
+    omega (arith, user-digit c.requires c.in-Holds.is c.in-User.is)
 
 pub overflow_add-result-in-Object : goal.overflow_add-result-in-Object
 overflow_add-result-in-Object c =
-        omega (arith, object-digit c.requires c.in-Holds.is c.in-Object.is)
+    omega (arith, object-digit c.requires c.in-Holds.is c.in-Object.is)
 
 pub overflow_mul-result : goal.overflow_mul-result
 overflow_mul-result c =
-        let d = dominates-digits c.requires c.in-Compares.is c.in-Dominates.is in
+    let d = dominates-digits c.requires c.in-Compares.is c.in-Dominates.is in
     omega (arith, d.0, d.1)
 
 pub overflow_add-result-in-Dominates : goal.overflow_add-result-in-Dominates
 overflow_add-result-in-Dominates c =
-        let d = dominates-digits c.requires c.in-Compares.is c.in-Dominates.is in
+    let d = dominates-digits c.requires c.in-Compares.is c.in-Dominates.is in
     omega (arith, d.0, d.1)
 
 pub overflow_add-result-in-Dominates-2 : goal.overflow_add-result-in-Dominates-2
 overflow_add-result-in-Dominates-2 c =
-        let d = dominates-digits c.requires c.in-Compares.is c.in-Dominates.is in
+    let d = dominates-digits c.requires c.in-Compares.is c.in-Dominates.is in
     omega (arith, d.0, d.1)
 
 pub overflow_mul-result-in-Equals : goal.overflow_mul-result-in-Equals
 overflow_mul-result-in-Equals c =
-        let d = equals_digits c.requires c.in-Compares.is c.in-Equals.is in
+    let d = equals_digits c.requires c.in-Compares.is c.in-Equals.is in
     omega (arith, d.0, d.1)
 
 pub overflow_add-result-in-Equals : goal.overflow_add-result-in-Equals
 overflow_add-result-in-Equals c =
-        let d = equals_digits c.requires c.in-Compares.is c.in-Equals.is in
+    let d = equals_digits c.requires c.in-Compares.is c.in-Equals.is in
     omega (arith, d.0, d.1)
 
 pub overflow_add-result-in-Equals-2 : goal.overflow_add-result-in-Equals-2
 overflow_add-result-in-Equals-2 c =
-        let d = equals_digits c.requires c.in-Compares.is c.in-Equals.is in
+    let d = equals_digits c.requires c.in-Compares.is c.in-Equals.is in
     omega (arith, d.0, d.1)
 
 pub returns-in-True : goal.returns-in-True

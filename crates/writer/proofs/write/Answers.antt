@@ -38,26 +38,30 @@ module _ (v : PolicyValue) (b : List ℕ) where
         (rw (e, t) (ap gives (p.end ∙ zero-add _)), rw (e, t) p.bytes)
 
 -- what the answer of `fits` says
-tight : {m n : ℕ} {r : Bool} → r ≡ leb m n → not r ≡ true → n < m
-tight {m} {n} e t = leb-false m n (sym e ∙ not-true _ t)
+tight : {m n : ℕ} {r : Bool} → r ≡ leb m n → r ≡ false → n < m
+tight {m} {n} e t = leb-false m n (sym e ∙ t)
 
-loose : {m n : ℕ} {r : Bool} → r ≡ leb m n → not r ≡ false → m ≤ n
-loose {m} {n} e t = leb-true m n (sym e ∙ not-false _ t)
+loose : {m n : ℕ} {r : Bool} → r ≡ leb m n → r ≡ true → m ≤ n
+loose {m} {n} e t = leb-true m n (sym e ∙ t)
 
 from_start : {m n : ℕ} → m ≤ n → 0 + m ≤ n
 from_start h = omega arith
 
 pub returns-then-not-check : goal.returns-then-not-check
-returns-then-not-check c = invalid _ _ (sym c.check.ensures ∙ not-true _ c.if-not-check.true)
+returns-then-not-check c = let i = invalid c.args.v c.args.buffer.now (sym c.check.ensures ∙ c.if-not-check.true) in record { answer = i.0; bytes = i.1 }
 
 pub fits-requires : goal.fits-requires
-fits-requires c = (valid-writable _ (sym c.check.ensures ∙ not-false _ c.if-not-check.false), valid-short _ (sym c.check.ensures ∙ not-false _ c.if-not-check.false))
+fits-requires c = (valid-writable _ (sym c.check.ensures ∙ c.if-not-check.false), valid-short _ (sym c.check.ensures ∙ c.if-not-check.false))
 
 pub returns-then-not-fits : goal.returns-then-not-fits
-returns-then-not-fits c = short _ _ (sym c.check.ensures ∙ not-false _ c.if-not-check.false) (tight c.fits.ensures c.if-not-fits.true)
+returns-then-not-fits c =
+    let i = short c.args.v c.args.buffer.now (sym c.check.ensures ∙ c.if-not-check.false) (tight c.fits.ensures c.if-not-fits.true) in
+    record { answer = i.0; bytes = i.1 }
 
 pub put-m-requires : goal.put-m-requires
-put-m-requires c = (valid-writable _ (sym c.check.ensures ∙ not-false _ c.if-not-check.false), record { fits = from_start (loose c.fits.ensures c.if-not-fits.false) })
+put-m-requires c = (valid-writable _ (sym c.check.ensures ∙ c.if-not-check.false), record { fits = from_start (loose c.fits.ensures c.if-not-fits.false) })
 
 pub returns : goal.returns
-returns c = stored _ _ (sym c.check.ensures ∙ not-false _ c.if-not-check.false) (record { fits = from_start (loose c.fits.ensures c.if-not-fits.false) }) c.put-m.ensures
+returns c =
+    let i = stored c.args.v c.args.buffer.now (sym c.check.ensures ∙ c.if-not-check.false) (record { fits = from_start (loose c.fits.ensures c.if-not-fits.false) }) c.put-m.ensures in
+    record { answer = i.0; bytes = i.1 }

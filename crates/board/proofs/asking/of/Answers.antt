@@ -7,7 +7,7 @@ use Rattle.board.proofs.asking.of.Goals as goal
 pub returns-then-not-own_widths : goal.returns-then-not-own_widths
 returns-then-not-own_widths c l e =
     let a = c.args in let w = c.own_widths in
-    stopped-widths a.policy l a.board a.session a.action a.object w.result (rw e w.ensures) c.if-not-own_widths.true _ refl
+    stopped-widths a.policy l a.board a.session a.action a.object w.result (rw e w.ensures) (rw c.if-not-own_widths.true) _ refl
 
 pub returns-then-not-fits : goal.returns-then-not-fits
 returns-then-not-fits c l e =
@@ -20,6 +20,6 @@ ask-requires c = search objects-ready
 pub returns : goal.returns
 returns c l e =
             let a = c.args in
-    asked-step a.policy l a.board a.session a.action a.object c.own_widths.result (rw e c.own_widths.ensures) c.if-not-own_widths.false
-    c.fits.result c.fits.ensures c.if-not-fits.false c.actions-actions.result c.actions-actions.ensures
+    asked-step a.policy l a.board a.session a.action a.object c.own_widths.result (rw e c.own_widths.ensures) (rw c.if-not-own_widths.false)
+    c.fits.result c.fits.ensures (rw c.if-not-fits.false) c.actions-actions.result c.actions-actions.ensures
     c.ask.result c.ask.ensures _ refl

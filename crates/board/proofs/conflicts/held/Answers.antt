@@ -10,7 +10,7 @@ use Rattle.policy.specs.Limits.{session_numbers}
 use Rattle.board.specs.Board.{closed}
 use Rattle.board.proofs.conflicts.held.Goals as goal
 
-size : (c : goal.Start) → length c.args.t1 ≡ session_numbers
+size : (c : goal.Start) → length c.args.sessions ≡ session_numbers
 size c = search (rules, long)
 
 pub loop-i-init : goal.loop-i-init

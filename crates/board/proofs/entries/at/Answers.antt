@@ -11,7 +11,7 @@ use Rattle.board.proofs.entries.at.Goals as goal
 
 pub returns-else-session-lt-SESSION_NUMBERS : goal.returns-else-session-lt-SESSION_NUMBERS
 returns-else-session-lt-SESSION_NUMBERS c =
-    let xs = c.args.t1 in
+    let xs = c.args.sessions in
     let l : length xs ≡ session_numbers = search (rules, long) in
     let h : length xs ≤ c.args.session = omega arith in
     c.closed.ensures ∙ sym (get_or-eq_default xs closed h)

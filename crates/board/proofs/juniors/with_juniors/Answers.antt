@@ -15,25 +15,25 @@ pub loop-i-init : goal.loop-i-init
 unfolding lowered
 loop-i-init c =
     let a = c.args in
-    let l : length a.t1 ≡ line_places = search (rules, long) in
-    let h : a.n ≤ length a.t1 = omega arith in
-    let k : length (take a.n a.t1) ≤ a.n = omega (arith, length-take-le a.n a.t1 h) in
-    (omega arith, h, rw (drop_of_length-le (take a.n a.t1) k))
+    let l : length a.lines ≡ line_places = search (rules, long) in
+    let h : a.n ≤ length a.lines = omega arith in
+    let k : length (take a.n a.lines) ≤ a.n = omega (arith, length-take-le a.n a.lines h) in
+    (omega arith, h, rw (drop_of_length-le (take a.n a.lines) k))
 
 pub extend-r-requires : goal.extend-r-requires
 extend-r-requires c =
     let a = c.args in let l = c.loop-i in
     let h : l.i - 1 < a.n = omega arith in
-    let b = line-bounds a.t1 a.n l.invariant.1 word_bits c.requires.1 (l.i - 1) h in
+    let b = line-bounds a.lines a.n l.invariant.1 word_bits c.requires.1 (l.i - 1) h in
     omega arith
 
 pub loop-i-preserved : goal.loop-i-preserved
 loop-i-preserved c =
     let a = c.args in let l = c.loop-i in
-    (omega arith, l.invariant.1, c.extend-r.ensures ∙ lower-line a.t1 a.n l.invariant.1 a.s l.r l.i (omega arith) l.invariant.0 l.invariant.2)
+    (omega arith, l.invariant.1, c.extend-r.ensures ∙ lower-line a.lines a.n l.invariant.1 a.s l.r l.i (omega arith) l.invariant.0 l.invariant.2)
 
 pub returns : goal.returns
 returns c v =
     let a = c.args in let l = c.loop-i in
     let e : l.i ≡ 0 = omega arith in
-    rw (l.invariant.2, e) (has-lowered word_bits (take a.n a.t1) c.requires.1 a.s v)
+    rw (l.invariant.2, e) (has-lowered word_bits (take a.n a.lines) c.requires.1 a.s v)

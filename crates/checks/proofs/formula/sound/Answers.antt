@@ -14,13 +14,13 @@ pub returns-then-not-word_fits : goal.returns-then-not-word_fits
 returns-then-not-word_fits c =
     let q = c.loop-i.invariant in
     let is = c.of_number-w.ensures in
-    rw (← passed-not _ q.fit (search rules) (search rules) is c.word_fits.ensures (not-true _ c.if-not-word_fits.true))
+    rw (← passed-not _ q.fit (search rules) (search rules) is c.word_fits.ensures c.if-not-word_fits.true)
 
 pub returns-then-not-widths_equal : goal.returns-then-not-widths_equal
 returns-then-not-widths_equal c =
     let q = c.loop-i.invariant in
     let is = c.of_number-w.ensures in
-    rw (← passed-not _ q.equal (search rules) (search rules) is c.widths_equal.ensures (not-true _ c.if-not-widths_equal.true), and-false)
+    rw (← passed-not _ q.equal (search rules) (search rules) is c.widths_equal.ensures c.if-not-widths_equal.true, and-false)
 
 pub returns-then-depth-k : goal.returns-then-depth-k
 returns-then-depth-k c =
@@ -33,8 +33,8 @@ loop-i-preserved c =
     let q = c.loop-i.invariant in
     let is = c.of_number-w.ensures in
     record {
-      fit = passed-more _ q.fit (search rules) (search rules) is c.word_fits.ensures (not-false _ c.if-not-word_fits.false);
-      equal = passed-more _ q.equal (search rules) (search rules) is c.widths_equal.ensures (not-false _ c.if-not-widths_equal.false);
+      fit = passed-more _ q.fit (search rules) (search rules) is c.word_fits.ensures c.if-not-word_fits.false;
+      equal = passed-more _ q.equal (search rules) (search rules) is c.widths_equal.ensures c.if-not-widths_equal.false;
       stack = leaves_more q.stack (search rules) (search rules) is c.takes-k.ensures c.if-depth-k.false;
     }
 

@@ -11,7 +11,7 @@ use Rattle.checks.proofs.side.total_of.Goals as goal
 
 turn : (c : goal.In-loop-i)
     → (let a = c.args in let i = c.loop-i.i in
-    sum (drop i (take a.attributes a.t1)) ≡ get_or a.t1 i 0 + sum (drop (i + 1) (take a.attributes a.t1)))
+    sum (drop i (take a.attributes a.widths)) ≡ get_or a.widths i 0 + sum (drop (i + 1) (take a.attributes a.widths)))
 turn c = sum-next _ _ _ c.loop-i-test.true (search rules)
 
 pub overflow_add-n : goal.overflow_add-n
@@ -23,4 +23,4 @@ loop-i-preserved c = omega (arith, turn c)
 pub returns : goal.returns
 returns c =
     let a = c.args in
-    omega (arith, sum-end a.t1 a.attributes c.loop-i.i c.loop-i-test.false)
+    omega (arith, sum-end a.widths a.attributes c.loop-i.i c.loop-i-test.false)

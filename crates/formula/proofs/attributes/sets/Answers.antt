@@ -11,9 +11,9 @@ use Rattle.formula.proofs.Widths.{values-at}
 use Rattle.formula.proofs.attributes.sets.Goals as goal
 
 pub overflow_shl-result : goal.overflow_shl-result
-overflow_shl-result c = omega (arith, c.requires.1.most, values-at c.requires.0 c.args.t1 c.requires.1)
+overflow_shl-result c = omega (arith, c.requires.1.most, values-at c.requires.0 c.args.starts c.requires.1)
 
 pub returns : goal.returns
 returns c s x =
-    let v = get_or c.args.t1 most_values 0 in
-    shl_exact 1 v 32 (lit< tt) (omega (arith, x.most, values-at s c.args.t1 x)) ∙ one-mul (2 ^ v) ∙ ap (λ n. 2 ^ n) (values-at s c.args.t1 x)
+    let v = get_or c.args.starts most_values 0 in
+    shl_exact 1 v 32 (lit< tt) (omega (arith, x.most, values-at s c.args.starts x)) ∙ one-mul (2 ^ v) ∙ ap (λ n. 2 ^ n) (values-at s c.args.starts x)

@@ -7,4 +7,4 @@ pub returns-then-i-lt-MOST_VALUES : goal.returns-then-i-lt-MOST_VALUES
 returns-then-i-lt-MOST_VALUES c s x = x.at c.args.i (omega arith)
 
 pub returns-else-i-lt-MOST_VALUES : goal.returns-else-i-lt-MOST_VALUES
-returns-else-i-lt-MOST_VALUES c s x = start-past s c.args.t1 x c.args.i c.if-i-lt-MOST_VALUES.false
+returns-else-i-lt-MOST_VALUES c s x = start-past s c.args.starts x c.args.i c.if-i-lt-MOST_VALUES.false

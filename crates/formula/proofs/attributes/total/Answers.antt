@@ -3,4 +3,4 @@ use Rattle.formula.proofs.Widths.{values-at}
 use Rattle.formula.proofs.attributes.total.Goals as goal
 
 pub returns : goal.returns
-returns c s x = values-at s c.args.t1 x
+returns c s x = values-at s c.args.starts x

@@ -40,7 +40,7 @@ loop-i-preserved c =
       omega (arith, w.ensures.0, l.invariant.1),
       w.ensures.1 ∙ l.invariant.2,
       λ b h p k s x y.
-          column-next p s c.args.t5 l.i (omega (arith, c.requires.3)) c.of_number-w.ensures (l.invariant.3 b h p k s x y)
+          column-next p s c.args.numbers l.i (omega (arith, c.requires.3)) c.of_number-w.ensures (l.invariant.3 b h p k s x y)
           (w.ensures.2 b h p k s x y),
     )
 
@@ -54,5 +54,5 @@ returns c =
       l.invariant.2 ∙ c.fill.ensures.long,
       λ b h p k s x y.
           let e : l.i ≡ t.count = omega arith in
-          sym (top-on (in_block l.stack t.n b) l.d k) ∙ ap top (rw e at (l.invariant.3 b h p k s x y)) ∙ truth-from p s (words_in t.count t.t5),
+          sym (top-on (in_block l.stack t.n b) l.d k) ∙ ap top (rw e at (l.invariant.3 b h p k s x y)) ∙ truth-from p s (words_in t.count t.numbers),
     )

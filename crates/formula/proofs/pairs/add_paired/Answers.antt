@@ -2,7 +2,6 @@
 use Prim.Native.Nat.{ℕ, ◌-◌}
 use mathlib.Core.Path.{◌≡◌, ap, ◌∙◌}
 use mathlib.Core.Bool.{Bool, ◌&&◌}
-use mathlib.Core.Logic.{⊎_elim}
 use mathlib.Core.Bool.{and-false}
 use native.Mathlib.Omega.{arith}
 use lib.ListN.{get_or}
@@ -15,6 +14,7 @@ use Rattle.formula.specs.Inner.Lane.{in_block}
 use Rattle.formula.proofs.Placing.{placed_same, placed_again, placed_as}
 use Rattle.formula.proofs.Pairing.{or_none, some_more, some-passed, none-held}
 use Rattle.formula.proofs.pairs.add_paired.Goals as goal
+use Rattle.formula.proofs.pairs.add_paired.Goals.{then-set-ne0, else-set-ne0}
 
 pub loop-v-init : goal.loop-v-init
 loop-v-init c = (omega arith, placed_same (λ b h p k s x. or_none _ _))
@@ -26,16 +26,16 @@ pub loop-v-preserved : goal.loop-v-preserved
 loop-v-preserved c =
     let l = c.loop-v in let a = c.args in (
       omega arith,
-      ⊎_elim
-          (λ t.
-          rw t.5 (placed_again l.invariant.1
-          (placed_as t.2.ensures (λ b y h e p k s x.
-          e p k s x ∙ some_more (λ u. holds p s (User u) && partner_held p s (get_or a.t4 u 0)) l.v (has (in_block a.to.now a.n b a.i) k) (l.invariant.1.here b h p k s x)))))
-          (λ t.
-          rw t.1 (placed_as l.invariant.1 (λ b y h e p k s x.
-          e p k s x ∙ some-passed (λ u. holds p s (User u) && partner_held p s (get_or a.t4 u 0)) l.v (has (in_block a.to.now a.n b a.i) k)
-          (ap (λ (m : ℕ). holds p s (User l.v) && partner_held p s m) t.0.left ∙ ap (λ (z : Bool). holds p s (User l.v) && z) (none-held p s) ∙ and-false (holds p s (User l.v))))))
-          c.if-set-ne0.branch,
+      elim c.if-set-ne0.branch [
+        then-set-ne0 t ↦
+          rw t.to-is (placed_again l.invariant.1
+          (placed_as t.add_partners.ensures (λ b y h e p k s x.
+          e p k s x ∙ some_more (λ u. holds p s (User u) && partner_held p s (get_or a.paired u 0)) l.v (has (in_block a.to.now a.n b a.i) k) (l.invariant.1.here b h p k s x))))
+        | else-set-ne0 t ↦
+          rw t.to-is (placed_as l.invariant.1 (λ b y h e p k s x.
+          e p k s x ∙ some-passed (λ u. holds p s (User u) && partner_held p s (get_or a.paired u 0)) l.v (has (in_block a.to.now a.n b a.i) k)
+          (ap (λ (m : ℕ). holds p s (User l.v) && partner_held p s m) t.if-set-ne0.false ∙ ap (λ (z : Bool). holds p s (User l.v) && z) (none-held p s) ∙ and-false (holds p s (User l.v)))))
+      ],
     )
 
 pub shape_of-to : goal.shape_of-to

@@ -18,7 +18,7 @@ loop-v-init c = (omega arith, refl)
 pub loop-v-preserved : goal.loop-v-preserved
 unfolding every
 loop-v-preserved c =
-    let l = c.loop-v in let x = get_or c.args.t1 l.v 0 in
+    let l = c.loop-v in let x = get_or c.args.paired l.v 0 in
     (omega arith, rw (add-one l.v) (zero-both l.r x ∙ ap (λ (b : Bool). b && eqb x 0) l.invariant.1))
 
 pub returns : goal.returns

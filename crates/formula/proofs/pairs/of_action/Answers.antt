@@ -1,7 +1,6 @@
 -- `formula::pairs::of_action` meets its contract: r has the action's pairs before i, and the others are left.
 use Prim.Native.Nat.{ℕ, ◌-◌, ◌*◌, ◌%◌, ◌^◌, ◌<◌}
 use mathlib.Core.Path.{◌≡◌, refl, ◌∙◌}
-use mathlib.Core.Logic.{⊎_elim}
 use native.Mathlib.Nat.{one-mul}
 use native.Mathlib.Omega.{arith}
 use lib.Dec.{lit<}
@@ -15,10 +14,13 @@ use Rattle.policy.specs.Policy.{pair}
 use Rattle.policy.specs.Value.{pair_places, pairs_of}
 use Rattle.formula.specs.Inner.Fits.{PairFits}
 use Rattle.formula.proofs.Pairing.{pair-at, paired_none, paired_own, paired_other, later-none, is_at}
+use Rattle.formula.proofs.pairs.of_action.Lts as place
+use Rattle.formula.proofs.pairs.of_action.Reads as reads
 use Rattle.formula.proofs.pairs.of_action.Goals as goal
+use Rattle.formula.proofs.pairs.of_action.Goals.{then-pair-action, else-pair-action}
 
 -- the pair at place i fits
-placed : (c : goal.After-struct_known-1) → let t = c.before.before.before.before.before in
+placed : (c : place.After-struct_known reads.Pre reads.Post goal.the-invariant-loop-i goal.the-decreases-loop-i) → 
     PairFits c.requires.0 (get_or c.args.pairs.entries c.loop-i.i (pair 0 0 0))
 placed c =
     let l = c.loop-i in
@@ -45,10 +47,10 @@ bounds-r-v-then-pair-action c = omega (arith, (placed c.before.before.before).us
 pub loop-i-preserved : goal.loop-i-preserved
 loop-i-preserved c =
     let l = c.loop-i in     let xs = c.args.pairs in let h : l.i < xs.count = omega arith in let i = l.invariant in let f = placed c.before in
-    ⊎_elim
-    (λ y. rw y.3 (omega arith, i.1, simp length-set i.2, paired_own c.args.action xs.entries xs.count l.i h i.1 l.r i.3 y.0.taken (omega (arith, f.user, i.2)) _ (shifted _ f.object)))
-    (λ y. rw y.1 (omega arith, i.1, i.2, paired_other c.args.action xs.entries xs.count l.i h i.1 l.r i.3 y.0.left))
-    c.if-pair-action.branch
+    elim c.if-pair-action.branch [
+      then-pair-action y ↦ rw y.r-is (omega arith, i.1, simp length-set i.2, paired_own c.args.action xs.entries xs.count l.i h i.1 l.r i.3 y.if-pair-action.true (omega (arith, f.user, i.2)) _ (shifted _ f.object))
+      | else-pair-action y ↦ rw y.r-is (omega arith, i.1, i.2, paired_other c.args.action xs.entries xs.count l.i h i.1 l.r i.3 y.if-pair-action.false)
+    ]
 
 pub returns : goal.returns
 unfolding pairs_of

@@ -18,39 +18,39 @@ use Rattle.formula.proofs.side.with_seniors.Goals as goal
 
 pub loop-i-init : goal.loop-i-init
 loop-i-init c =
-    let l : length c.args.t2 ≡ line_places = search (rules, long) in
+    let l : length c.args.lines ≡ line_places = search (rules, long) in
     let g : length c.args.plain ≡ vector_places = search rules in
     (omega arith, omega arith, (λ s. s), grown_none c.args.plain g, λ s. refl)
 
 pub extend-requires : goal.extend-requires
 extend-requires c =
     let l = c.loop-i in
-    let b = line-bounds c.args.t2 c.args.n l.invariant.1 most_values c.requires.1 l.i c.loop-i-test.true in
+    let b = line-bounds c.args.lines c.args.n l.invariant.1 most_values c.requires.1 l.i c.loop-i-test.true in
     (omega arith, omega arith)
 
 pub loop-i-preserved : goal.loop-i-preserved
 loop-i-preserved c =
     let a = c.args in let l = c.loop-i in
-    let b = line-bounds a.t2 a.n l.invariant.1 most_values c.requires.1 l.i c.loop-i-test.true in
-    let d = get_or a.t2 l.i (direct 0 0) in
+    let b = line-bounds a.lines a.n l.invariant.1 most_values c.requires.1 l.i c.loop-i-test.true in
+    let d = get_or a.lines l.i (direct 0 0) in
     let f : ℕ → ℕ = l.invariant.2 in
     let g : ℕ → ℕ = λ t. extended (f t) d.junior d.senior in (
       omega arith,
       l.invariant.1,
       g,
       rw c.extend.ensures (grown_line a.plain l.r f g d.junior d.senior (omega arith) b.1 l.invariant.3 (λ t. refl)),
-      λ t. raise_line a.t2 a.n l.invariant.1 (raised (take a.n a.t2) t) (f t) l.i (omega arith) (l.invariant.4 t),
+      λ t. raise_line a.lines a.n l.invariant.1 (raised (take a.n a.lines) t) (f t) l.i (omega arith) (l.invariant.4 t),
     )
 
 pub returns : goal.returns
 unfolding raised
 returns c =
     let a = c.args in let l = c.loop-i in let o = c.requires.1 in
-    let k : length (take a.n a.t2) ≤ l.i = omega (arith, length-take-le a.n a.t2 l.invariant.1) in (
+    let k : length (take a.n a.lines) ≤ l.i = omega (arith, length-take-le a.n a.lines l.invariant.1) in (
       l.invariant.3.long,
-      grown_stands a.plain l.r l.invariant.2 (held_or_junior (take a.n a.t2)) l.invariant.3
+      grown_stands a.plain l.r l.invariant.2 (held_or_junior (take a.n a.lines)) l.invariant.3
           (λ s v.
-          let e : l.invariant.2 s ≡ raised (take a.n a.t2) s = rw (drop_of_length-le (take a.n a.t2) k) at (l.invariant.4 s) in
-          rw e (has-raised most_values (take a.n a.t2) o s v))
-          (held_or_junior-none most_values (take a.n a.t2) o),
+          let e : l.invariant.2 s ≡ raised (take a.n a.lines) s = rw (drop_of_length-le (take a.n a.lines) k) at (l.invariant.4 s) in
+          rw e (has-raised most_values (take a.n a.lines) o s v))
+          (held_or_junior-none most_values (take a.n a.lines) o),
     )

@@ -6,10 +6,13 @@ use lib.ListN.{get_or}
 use Rattle.sets.specs.Set.{has}
 use Rattle.formula.specs.Inner.Group.{group_size}
 use Rattle.formula.proofs.Squares.{one-square, two-squares}
+use Rattle.formula.proofs.turn.entries.Lts as place
+use Rattle.formula.proofs.turn.entries.Tie as tie
+use Rattle.formula.proofs.turn.entries.Reads as reads
 use Rattle.formula.proofs.turn.entries.Goals as goal
 
 -- an action is granted in lane j of the eight
-abbrev bit : goal.Start → ℕ → ℕ → Bool
+abbrev bit : place.Start tie.the-claims reads.Pre reads.Post → ℕ → ℕ → Bool
 bit s j a = has (get_or s.args.granted.now a 0) (group_size * s.args.q + j)
 
 pub returns-then-actions : goal.returns-then-actions

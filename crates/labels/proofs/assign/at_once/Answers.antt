@@ -6,9 +6,12 @@ use Rattle.labels.specs.Inner.Grid.{Inside}
 use Rattle.labels.proofs.Grids.{view_inside, turned-inside}
 use Rattle.labels.proofs.Storing.{users-at-once, objects-at-once}
 use Rattle.labels.proofs.Turn.{labelled-few}
+use Rattle.labels.proofs.assign.at_once.Lts as place
+use Rattle.labels.proofs.assign.at_once.Tie as tie
+use Rattle.labels.proofs.assign.at_once.Reads as reads
 use Rattle.labels.proofs.assign.at_once.Goals as goal
 
-inside : (c : goal.After-fill) → Inside c.args.view
+inside : (c : place.After-fill tie.the-claims reads.Pre reads.Post) → Inside c.args.view
 inside c = let s = c.requires in view_inside s.1.2 s.3
 
 pub fill-requires : goal.fill-requires
@@ -28,6 +31,6 @@ overflow_cast-result-2 c = let o = rw c.turned-turned.ensures at c.classify-obje
 
 pub returns : goal.returns
 returns c = λ p rows v.
-    let g = c.fill.new.0 in
+    let g = c.fill.new.grid in
     let k = c.fill.ensures.1 p rows v in
     (record { users = users-at-once g k v _ (λ u. get_or-blank most_sets u 0) c.classify-users.ensures; objects = objects-at-once g k v _ (λ u. get_or-blank most_sets u 0) (rw c.turned-turned.ensures at c.classify-objects.ensures) }, k)

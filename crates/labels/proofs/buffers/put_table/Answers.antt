@@ -14,33 +14,36 @@ use Rattle.labels.specs.Compile.{entry_of}
 use Rattle.labels.specs.Inner.Lending.{lent_in}
 use Rattle.labels.proofs.Storing.{entry-narrow}
 use Rattle.labels.proofs.Turn.{leading-row, leading-label}
+use Rattle.labels.proofs.buffers.put_table.Lts as place
+use Rattle.labels.proofs.buffers.put_table.Tie as tie
+use Rattle.labels.proofs.buffers.put_table.Reads as reads
 use Rattle.labels.proofs.buffers.put_table.Goals as goal
 
 -- the user set and the object set whose turn it is
-user-row : (c : goal.After-wide-u) → c.wide-u.result < c.args.view.rows
+user-row : (c : place.After-wide tie.the-claims reads.Pre reads.Post goal.the-invariant-loop-l goal.the-decreases-loop-l goal.the-invariant-loop-k goal.the-decreases-loop-k tie.handed_clauses goal.the-invariant-loop-l goal.the-decreases-loop-l goal.the-invariant-loop-k goal.the-decreases-loop-k tie.handed_clauses) → c.wide-u.result < c.args.view.rows
 user-row c = leading-row c.requires.1.0 c.loop-k-test.true c.wide-u.ensures.0
 
-object-row : (c : goal.After-wide-o) → c.wide-o.result < c.args.view.columns
+object-row : (c : place.After-wide2 tie.the-claims reads.Pre reads.Post goal.the-invariant-loop-l goal.the-decreases-loop-l goal.the-invariant-loop-k goal.the-decreases-loop-k tie.handed_clauses goal.the-invariant-loop-l goal.the-decreases-loop-l goal.the-invariant-loop-k goal.the-decreases-loop-k tie.handed_clauses) → c.wide-o.result < c.args.view.columns
 object-row c = leading-row c.requires.1.1 c.loop-l-test.true c.wide-o.ensures.0
 
 -- the labels that were read are those whose turn it is, so the place is the next, and it is in the buffer
-next : (c : goal.After-entry_of-x) → c.place-at.result ≡ c.loop-k.k * c.args.counts.objects + c.loop-l.l
+next : (c : place.After-entry_of tie.the-claims reads.Pre reads.Post goal.the-invariant-loop-l goal.the-decreases-loop-l goal.the-invariant-loop-k goal.the-decreases-loop-k tie.handed_clauses goal.the-invariant-loop-l goal.the-decreases-loop-l goal.the-invariant-loop-k goal.the-decreases-loop-k tie.handed_clauses) → c.place-at.result ≡ c.loop-k.k * c.args.counts.objects + c.loop-l.l
 next c =
         c.place-at.ensures
     ∙ ap₂ (λ (x y : ℕ). x * c.args.counts.objects + y)
     (leading-label c.requires.1.0 c.loop-k-test.true c.wide-u.ensures.0 c.user_label-ul.ensures)
     (leading-label c.requires.1.1 c.loop-l-test.true c.wide-o.ensures.0 c.object_label-ol.ensures)
 
-the-policy : (c : goal.After-entry_of-x) → let a = c.args in Of c.requires.0.1.0 a.from a.view a.grid.now
+the-policy : (c : place.After-entry_of tie.the-claims reads.Pre reads.Post goal.the-invariant-loop-l goal.the-decreases-loop-l goal.the-invariant-loop-k goal.the-decreases-loop-k tie.handed_clauses goal.the-invariant-loop-l goal.the-decreases-loop-l goal.the-invariant-loop-k goal.the-decreases-loop-k tie.handed_clauses) → let a = c.args in Of c.requires.0.1.0 a.from a.view a.grid.now
 the-policy c = let s = c.requires.0.1 in record { rows = s.1; seen = s.2; kept = s.3 }
 
-room : (c : goal.After-entry_of-x)
+room : (c : place.After-entry_of tie.the-claims reads.Pre reads.Post goal.the-invariant-loop-l goal.the-decreases-loop-l goal.the-invariant-loop-k goal.the-decreases-loop-k tie.handed_clauses goal.the-invariant-loop-l goal.the-decreases-loop-l goal.the-invariant-loop-k goal.the-decreases-loop-k tie.handed_clauses)
     → c.loop-k.k * c.args.counts.objects + c.loop-l.l < length (lent_in c.args.width c.loop-l.bytes c.loop-l.wide)
 room c =
     omega (arith, (c.loop-l.invariant.1 _ (the-policy c)).size, (c.loop-k.invariant.1 _ (the-policy c)).size, c.requires.0.4, digits_lt c.loop-k-test.true c.loop-l-test.true)
 
 -- what is put is the entry of the two sets
-entry-is : (c : goal.After-entry_of-x) (p : Policy) → let a = c.args in Of p a.from a.view a.grid.now
+entry-is : (c : place.After-entry_of tie.the-claims reads.Pre reads.Post goal.the-invariant-loop-l goal.the-decreases-loop-l goal.the-invariant-loop-k goal.the-decreases-loop-k tie.handed_clauses goal.the-invariant-loop-l goal.the-decreases-loop-l goal.the-invariant-loop-k goal.the-decreases-loop-k tie.handed_clauses) (p : Policy) → let a = c.args in Of p a.from a.view a.grid.now
     → c.entry_of-x.result ≡ entry_of p (at c.wide-u.result c.wide-o.result)
 entry-is c p x = c.entry_of-x.ensures p x.kept (c.take_row.ensures.1 p x.rows x.seen.objects)
 

@@ -9,16 +9,19 @@ use Rattle.labels.specs.Inner.Lending.{lent_as}
 use Rattle.labels.proofs.Compiling.{like_users-equivalence, like_objects-equivalence}
 use Rattle.labels.proofs.Storing.{counts-are, users-few, objects-few, none-short, refused-short, stored-all}
 use Rattle.labels.proofs.Turn.{labelled-fit, labelled-leads}
+use Rattle.labels.proofs.buffers.store.Lts as place
+use Rattle.labels.proofs.buffers.store.Tie as tie
+use Rattle.labels.proofs.buffers.store.Reads as reads
 use Rattle.labels.proofs.buffers.store.Goals as goal
 
 -- the buffers
-abbrev lent-here : goal.Start → Buffers
+abbrev lent-here : place.Start tie.the-claims reads.Pre reads.Post tie.handed_clauses tie.handed_clauses → Buffers
 lent-here c =
     let a = c.args in
     lent_as a.widths a.users.now a.objects.now a.table.now a.wide-users.now a.wide-objects.now a.wide-table.now
 
 -- what the test tells of a policy that has these labels
-short-tells : (c : goal.After-too_short) (p : Policy) → let a = c.args in ViewOf p a.view → LabelsOf p a.user-labels.now a.user-leaders.now a.object-labels.now a.object-leaders.now a.counts
+short-tells : (c : place.After-too_short tie.the-claims reads.Pre reads.Post tie.handed_clauses tie.handed_clauses) (p : Policy) → let a = c.args in ViewOf p a.view → LabelsOf p a.user-labels.now a.user-leaders.now a.object-labels.now a.object-leaders.now a.counts
     → c.too_short.result ≡ too_short p (lent-here c.before.before.before.before.before.before.before.before.before.before.before.before.before)
 short-tells c p w L = let n = counts-are L in c.too_short.ensures p w n.0 n.1
 

@@ -15,4 +15,4 @@ returns-then-not-kept c =
     (c.put.ensures.0, λ p rows q kept o h. rw s.0 at (c.put.ensures.1 p o rows (rw s.0 (omega (arith, q))) h))
 
 pub returns-else-not-kept : goal.returns-else-not-kept
-returns-else-not-kept c = (c.requires.3, λ p rows q kept. absurd (never c.args.kept (not-false _ c.if-not-kept.false) kept))
+returns-else-not-kept c = (c.requires.3, λ p rows q kept. absurd (never c.args.kept c.if-not-kept.false kept))

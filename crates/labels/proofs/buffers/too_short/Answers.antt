@@ -6,10 +6,13 @@ use native.Mathlib.Omega.{arith}
 use Rattle.labels.specs.Compile.{Buffers}
 use Rattle.labels.specs.Inner.Lending.{lent_as}
 use Rattle.labels.proofs.Storing.{users-short, objects-short, table-short}
+use Rattle.labels.proofs.buffers.too_short.Lts as place
+use Rattle.labels.proofs.buffers.too_short.Tie as tie
+use Rattle.labels.proofs.buffers.too_short.Reads as reads
 use Rattle.labels.proofs.buffers.too_short.Goals as goal
 
 -- the buffers
-abbrev lent-here : goal.Start → Buffers
+abbrev lent-here : place.Start tie.the-claims reads.Pre reads.Post → Buffers
 lent-here c =
     let a = c.args in
     lent_as a.widths a.users.now a.objects.now a.table.now a.wide-users.now a.wide-objects.now a.wide-table.now

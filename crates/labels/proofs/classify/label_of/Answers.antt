@@ -9,10 +9,13 @@ use borrow.Author.Count.{below_none}
 use borrow.Author.Rules.{rules}
 use Rattle.labels.specs.Inner.Grid.{cell, joined}
 use Rattle.labels.proofs.Alike.{Comparing, none-like, compare_none, compare_more, passed-more, found-like}
+use Rattle.labels.proofs.classify.label_of.Lts as place
+use Rattle.labels.proofs.classify.label_of.Tie as tie
+use Rattle.labels.proofs.classify.label_of.Reads as reads
 use Rattle.labels.proofs.classify.label_of.Goals as goal
 
 -- nothing is compared yet
-start : (c : goal.After-wide-v) → let a = c.args in
+start : (c : place.After-wide tie.the-claims reads.Pre reads.Post goal.the-invariant-loop-o goal.the-decreases-loop-o goal.the-invariant-next goal.the-decreases-next goal.the-invariant-loop-o goal.the-decreases-loop-o goal.the-invariant-next goal.the-decreases-next) → let a = c.args in
     Comparing (joined a.before.now (cell a.grid.now a.view)) (suc a.view.columns) a.u a.leaders.now a.count c.next.l c.wide-v.result 0
 start c = compare_none c.next.invariant c.next-test.true c.wide-v.ensures.0
 

@@ -55,9 +55,9 @@ returns c =
           c.put_blocks.ensures.1 (λ i. entry_of p (beside a.from.user a.s i)) (λ i l. absurd (not-suc-le-zero l))
           (λ b k hb hk hn.
           rw (x.actions, zero-add (b * lanes + k))
-          (lane-entry p _ x.grants (in_block c.put_granted.new.1.1.1.1.1.1.0 a.from.blocks b) k _
+          (lane-entry p _ x.grants (in_block c.put_granted.new.granted a.from.blocks b) k _
           (c.put_granted.ensures.1 b hb p k a.s (b * lanes + k) x.sides x.grants
-          (lanes-stand p a.from x c.put_over.new.1.1.0 a.s a.n few b k hb hk hn
+          (lanes-stand p a.from x c.put_over.new.vectors a.s a.n few b k hb hk hn
           (stands-moved (λ v m. c.put_over.ensures.1 b v hb m) (c.closed-block.ensures k _ (c.spread.ensures k hk)))))))
           o (omega arith),
     )

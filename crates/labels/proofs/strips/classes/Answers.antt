@@ -9,14 +9,17 @@ use lib.ListN.{get_or}
 use Rattle.labels.specs.Inner.Grid.{grid_places, Inside}
 use Rattle.labels.proofs.Refining.{labelled-none, still_alike}
 use Rattle.labels.proofs.Turn.{labelled-same}
+use Rattle.labels.proofs.strips.classes.Lts as place
+use Rattle.labels.proofs.strips.classes.Tie as tie
+use Rattle.labels.proofs.strips.classes.Reads as reads
 use Rattle.labels.proofs.strips.classes.Goals as goal
 
 -- a strip has room in the grid
-room : (c : goal.After-least-columns) → c.least-columns.result * c.args.n ≤ grid_places
+room : (c : place.After-least tie.the-claims reads.Pre reads.Post goal.the-invariant-loop-start goal.the-decreases-loop-start goal.the-invariant-loop-start goal.the-decreases-loop-start) → c.least-columns.result * c.args.n ≤ grid_places
 room c = (le-div_iff_mul-le c.requires.2).0 (omega (arith, c.least-columns.ensures))
 
 -- the strip as it is looked at
-view_inside : (c : goal.After-least-columns) → Inside (record { rows = c.args.n; columns = c.least-columns.result; down = 1; along = c.args.n })
+view_inside : (c : place.After-least tie.the-claims reads.Pre reads.Post goal.the-invariant-loop-start goal.the-decreases-loop-start goal.the-invariant-loop-start goal.the-decreases-loop-start) → Inside (record { rows = c.args.n; columns = c.least-columns.result; down = 1; along = c.args.n })
 view_inside c =
     let s = c.requires in
     record {
@@ -58,7 +61,7 @@ loop-start-preserved c =
       λ p rows q.
           labelled-same (still_alike _ _ l.start (l.invariant.2 p rows q) _ c.least-columns.result (λ u i hu hi.
           let e : u * 1 + i * a.n ≡ i * a.n + u = omega arith in
-          ap (λ (x : ℕ). get_or c.fill.new.0 x 0) e ∙ c.fill.ensures.1 p rows (omega (arith, q)) i u hi hu)) c.classify-count.ensures,
+          ap (λ (x : ℕ). get_or c.fill.new.grid x 0) e ∙ c.fill.ensures.1 p rows (omega (arith, q)) i u hi hu)) c.classify-count.ensures,
     )
 
 pub returns : goal.returns

@@ -122,9 +122,9 @@ loop-start-preserved c =
           (λ b k hb hk hm.
           let e : l.start + (b * lanes + k) ≡ (l.q * from.blocks + b) * lanes + k = omega (arith, l.invariant.0) in
           rw (e, rows.actions)
-          (lane-entry p _ rows.grants (in_block g.new.1.1.1.1.1.0 from.blocks b) k _
+          (lane-entry p _ rows.grants (in_block g.new.granted from.blocks b) k _
           (g.ensures.1 b hb p k _ rows.sides rows.grants
-          (lane-stands p from rows c.requires.0 o.new.1.1.0 l.q b k hb hk (omega (arith, e, size, m, test))
+          (lane-stands p from rows c.requires.0 o.new.vectors l.q b k hb hk (omega (arith, e, size, m, test))
           (rw (c.total-object_values.ensures p.object rows.sides.object, c.total-user_values.ensures p.user rows.sides.user)
           at (stands-moved (λ v w. o.ensures.1 b v hb w) (c.closed-block.ensures k _ (c.part.ensures k hk))))))))
           i (omega (arith, m)),

@@ -16,13 +16,13 @@ long c = search rules
 
 -- the marks are those of the action's first strip, and the number is that of its tuples
 starting : (c : goal.After-marks-n) (p : Policy) → Standing p c.args.c
-    → Begun p (action_at c.args.c) c.args.c.source c.args.c.objects c.of_action-grant.result c.marks-n.result c.marks-n.new.1.1.1.1.0
+    → Begun p (action_at c.args.c) c.args.c.source c.args.c.objects c.of_action-grant.result c.marks-n.result c.marks-n.new.words
 starting c p x =
     let g = c.of_action-grant.ensures p x.grants in
     record { source = x.source; grants = g; first = c.marks-n.ensures p _ x.source g }
 
 marking : (c : goal.After-count-count) (p : Policy) → Standing p c.args.c
-    → Marking p (action_at c.args.c) (record { count = c.marks-n.result; words = c.marks-n.new.1.1.1.1.0 }) c.count-count.result
+    → Marking p (action_at c.args.c) (record { count = c.marks-n.result; words = c.marks-n.new.words }) c.count-count.result
 marking c p x = let s = starting c.before.before.before p x in record { first = s.first; number = c.count-count.ensures p _ s }
 
 pub offset_bounds-actions-i : goal.offset_bounds-actions-i
@@ -58,5 +58,5 @@ returns c =
         let y = c.action_line-to.ensures in
     let l = c.blank-line.ensures in (
       λ p x. action-same x c.requires.3 (marking c.before.before.before.before.before p x) c.requires.1 c.requires.2 y l,
-      action-falls c.args.c _ (record { count = c.marks-n.result; words = c.marks-n.new.1.1.1.1.0 }) _ _ c.requires.3 (end-few c.requires.0.1) (omega (arith, y.fits, l)),
+      action-falls c.args.c _ (record { count = c.marks-n.result; words = c.marks-n.new.words }) _ _ c.requires.3 (end-few c.requires.0.1) (omega (arith, y.fits, l)),
     )

@@ -21,7 +21,7 @@ marks-count-requires c =
 pub returns : goal.returns
 returns c =
     let x = c.requires.0 in let g = c.of_action.ensures in
-    let m : Marks = record { count = c.marks-count.result; words = c.marks-count.new.1.1.1.1.0 } in (
+    let m : Marks = record { count = c.marks-count.result; words = c.marks-count.new.words } in (
       λ p y. strip-same y m c.requires.1 (c.marks-count.ensures p _ y.source (g p y.grants)),
       strip-falls c.args.c m (omega (arith, c.requires.1, x.1.tuples.within)) c.requires.2
           ((c.marks-count.ensures x.0 _ x.1.source (g x.0 x.1.grants)).some (omega (arith, c.requires.2, x.1.tuples.end))),

@@ -17,17 +17,17 @@ pub loop-i-init : goal.loop-i-init
 loop-i-init c = risen_none (search (rules, long)) (search rules) (conflicts-in _ _ _ (search (rules, long)) (search rules))
 
 pub returns-then-not-fits : goal.returns-then-not-fits
-returns-then-not-fits c = risen_unfit c.loop-i.invariant (conflict 0 0) (search rules) c.fits.ensures (not-true _ c.if-not-fits.true)
+returns-then-not-fits c = risen_unfit c.loop-i.invariant (conflict 0 0) (search rules) c.fits.ensures c.if-not-fits.true
 
 pub returns-then-not-rises : goal.returns-then-not-rises
 returns-then-not-rises c =
     risen_falls c.loop-i.invariant (conflict 0 0) (search rules)
-    c.fits.ensures (not-false _ c.if-not-fits.false) c.rises.ensures (not-true _ c.if-not-rises.true)
+    c.fits.ensures c.if-not-fits.false c.rises.ensures c.if-not-rises.true
 
 pub loop-i-preserved : goal.loop-i-preserved
 loop-i-preserved c =
     risen_more c.loop-i.invariant (conflict 0 0) (search rules)
-    c.fits.ensures (not-false _ c.if-not-fits.false) c.rises.ensures (not-false _ c.if-not-rises.false)
+    c.fits.ensures c.if-not-fits.false c.rises.ensures c.if-not-rises.false
 
 pub loop-i-2-init : goal.loop-i-2-init
 loop-i-2-init c = risen_blank c.loop-i.invariant c.loop-i-test.false

@@ -17,17 +17,17 @@ pub loop-i-init : goal.loop-i-init
 loop-i-init c = risen_none (search (rules, long)) (search rules) (entries-in _ _ _ _ (search (rules, long)) (search rules))
 
 pub returns-then-not-entry_fits : goal.returns-then-not-entry_fits
-returns-then-not-entry_fits c = risen_unfit c.loop-i.invariant no_entry (search rules) c.entry_fits.ensures (not-true _ c.if-not-entry_fits.true)
+returns-then-not-entry_fits c = risen_unfit c.loop-i.invariant no_entry (search rules) c.entry_fits.ensures c.if-not-entry_fits.true
 
 pub returns-then-not-number_rises : goal.returns-then-not-number_rises
 returns-then-not-number_rises c =
     risen_falls c.loop-i.invariant no_entry (search rules)
-    c.entry_fits.ensures (not-false _ c.if-not-entry_fits.false) c.number_rises.ensures (not-true _ c.if-not-number_rises.true)
+    c.entry_fits.ensures c.if-not-entry_fits.false c.number_rises.ensures c.if-not-number_rises.true
 
 pub loop-i-preserved : goal.loop-i-preserved
 loop-i-preserved c =
     risen_more c.loop-i.invariant no_entry (search rules)
-    c.entry_fits.ensures (not-false _ c.if-not-entry_fits.false) c.number_rises.ensures (not-false _ c.if-not-number_rises.false)
+    c.entry_fits.ensures c.if-not-entry_fits.false c.number_rises.ensures c.if-not-number_rises.false
 
 pub loop-i-2-init : goal.loop-i-2-init
 loop-i-2-init c = risen_blank c.loop-i.invariant c.loop-i-test.false

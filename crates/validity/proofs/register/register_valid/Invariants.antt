@@ -15,7 +15,7 @@ use Rattle.validity.proofs.register.register_valid.Given as goal
 
 abbrev pub invariant-loop-i : goal.invariant-loop-i
 invariant-loop-i l =
-    Risen (register_valid l.most l.total (record { count = l.n; l.entries = l.entries })) (same_entry no_entry) (number_in l.most l.total)
+    Risen (register_valid l.most l.total (record { count = l.n; entries = l.entries })) (same_entry no_entry) (number_in l.most l.total)
     (λ (e : Entry). e.number) (λ k (e : Entry). ltb k e.number) l.entries entry_places l.n l.i l.last
 
 abbrev pub decreases-loop-i : goal.decreases-loop-i

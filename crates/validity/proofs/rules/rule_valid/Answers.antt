@@ -19,14 +19,14 @@ pub returns-then-not-rule_sound : goal.returns-then-not-rule_sound
 unfolding rule_valid
 returns-then-not-rule_sound c =
     let r = c.rule_sound in
-    rw (← r.ensures, not-true r.result c.if-not-rule_sound.true, and-false)
+    rw (← r.ensures, c.if-not-rule_sound.true, and-false)
 
 pub returns : goal.returns
 unfolding rule_valid rule_of
 returns c =
         let x = c.args.x in
     let r = c.rule_sound in
-    let passed = not-false r.result c.if-not-rule_sound.false in
+    let passed = c.if-not-rule_sound.false in
     let p = c.requires in
     let d = sound-digits _ p.0 p.1 p.2 p.3 _ (rule_of x) (sym r.ensures ∙ passed) in
     rw (← r.ensures, passed, and-true, rule-stored x (search (rules, long)) (search rules) d) c.words_blank.ensures

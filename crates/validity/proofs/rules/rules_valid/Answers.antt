@@ -18,17 +18,17 @@ pub loop-i-init : goal.loop-i-init
 loop-i-init c = risen_none (search (rules, long)) (search rules) (rules-in _ _ _ (search (rules, long)) (search rules))
 
 pub returns-then-not-rule_valid : goal.returns-then-not-rule_valid
-returns-then-not-rule_valid c = risen_unfit c.loop-i.invariant empty_rule (search rules) c.rule_valid.ensures (not-true _ c.if-not-rule_valid.true)
+returns-then-not-rule_valid c = risen_unfit c.loop-i.invariant empty_rule (search rules) c.rule_valid.ensures c.if-not-rule_valid.true
 
 pub returns-then-not-number_rises : goal.returns-then-not-number_rises
 returns-then-not-number_rises c =
     risen_falls c.loop-i.invariant empty_rule (search rules)
-    c.rule_valid.ensures (not-false _ c.if-not-rule_valid.false) c.number_rises.ensures (not-true _ c.if-not-number_rises.true)
+    c.rule_valid.ensures c.if-not-rule_valid.false c.number_rises.ensures c.if-not-number_rises.true
 
 pub loop-i-preserved : goal.loop-i-preserved
 loop-i-preserved c =
     risen_more c.loop-i.invariant empty_rule (search rules)
-    c.rule_valid.ensures (not-false _ c.if-not-rule_valid.false) c.number_rises.ensures (not-false _ c.if-not-number_rises.false)
+    c.rule_valid.ensures c.if-not-rule_valid.false c.number_rises.ensures c.if-not-number_rises.false
 
 pub loop-i-2-init : goal.loop-i-2-init
 loop-i-2-init c = risen_blank c.loop-i.invariant c.loop-i-test.false

@@ -17,17 +17,17 @@ pub loop-i-init : goal.loop-i-init
 loop-i-init c = risen_none (search (rules, long)) (search rules) (lines-in _ _ _ (search (rules, long)) (search rules))
 
 pub returns-then-not-direct_fits : goal.returns-then-not-direct_fits
-returns-then-not-direct_fits c = risen_unfit c.loop-i.invariant (direct 0 0) (search rules) c.direct_fits.ensures (not-true _ c.if-not-direct_fits.true)
+returns-then-not-direct_fits c = risen_unfit c.loop-i.invariant (direct 0 0) (search rules) c.direct_fits.ensures c.if-not-direct_fits.true
 
 pub returns-then-not-direct_rises : goal.returns-then-not-direct_rises
 returns-then-not-direct_rises c =
     risen_falls c.loop-i.invariant (direct 0 0) (search rules)
-    c.direct_fits.ensures (not-false _ c.if-not-direct_fits.false) c.direct_rises.ensures (not-true _ c.if-not-direct_rises.true)
+    c.direct_fits.ensures c.if-not-direct_fits.false c.direct_rises.ensures c.if-not-direct_rises.true
 
 pub loop-i-preserved : goal.loop-i-preserved
 loop-i-preserved c =
     risen_more c.loop-i.invariant (direct 0 0) (search rules)
-    c.direct_fits.ensures (not-false _ c.if-not-direct_fits.false) c.direct_rises.ensures (not-false _ c.if-not-direct_rises.false)
+    c.direct_fits.ensures c.if-not-direct_fits.false c.direct_rises.ensures c.if-not-direct_rises.false
 
 pub loop-i-2-init : goal.loop-i-2-init
 loop-i-2-init c = risen_blank c.loop-i.invariant c.loop-i-test.false

@@ -20,13 +20,13 @@ pub loop-i-init : goal.loop-i-init
 loop-i-init c = summed_none (search rules) (search rules) (widths-in _ _ _ (search rules) (search rules) (search rules))
 
 pub returns-then-not-width_fits : goal.returns-then-not-width_fits
-returns-then-not-width_fits c = summed_not c.loop-i.invariant (search rules) c.width_fits.ensures (not-true _ c.if-not-width_fits.true)
+returns-then-not-width_fits c = summed_not c.loop-i.invariant (search rules) c.width_fits.ensures c.if-not-width_fits.true
 
 pub overflow_add-total : goal.overflow_add-total
-overflow_add-total c = omega (arith, sum_bound _ _ _ _ c.width_fits.ensures (not-false _ c.if-not-width_fits.false))
+overflow_add-total c = omega (arith, sum_bound _ _ _ _ c.width_fits.ensures c.if-not-width_fits.false)
 
 pub loop-i-preserved : goal.loop-i-preserved
-loop-i-preserved c = summed_more c.loop-i.invariant (search rules) c.width_fits.ensures (not-false _ c.if-not-width_fits.false)
+loop-i-preserved c = summed_more c.loop-i.invariant (search rules) c.width_fits.ensures c.if-not-width_fits.false
 
 pub loop-i-2-init : goal.loop-i-2-init
 loop-i-2-init c = summed_all c.loop-i.invariant c.loop-i-test.false

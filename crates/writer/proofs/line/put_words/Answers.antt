@@ -15,7 +15,7 @@ pub put-at-requires : goal.put-at-requires
 put-at-requires c =
     let l = c.loop-i in
         rw c.of_number-w.ensures (
-      all-taken (λ n. in_digits (numbered n)) 0 c.args.t1 c.args.n l.i (search rules) l.invariant.places c.requires.1,
+      all-taken (λ n. in_digits (numbered n)) 0 c.args.numbers c.args.n l.i (search rules) l.invariant.places c.requires.1,
       run_room l.invariant 0 (search rules),
     )
 

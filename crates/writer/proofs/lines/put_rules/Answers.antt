@@ -41,8 +41,8 @@ slice_bounds-put_formula-start c = run_fits c.loop-i.invariant
 
 pub put_formula-m-requires : goal.put_formula-m-requires
 put_formula-m-requires c =
-    let r = get_or c.args.t2 c.loop-i.i no_rule in
-    let w : rule_writable r ≡ true = all-taken rule_writable no_rule c.args.t2 c.args.n c.loop-i.i (search rules) c.loop-i.invariant.places c.requires.1 in
+    let r = get_or c.args.rules c.loop-i.i no_rule in
+    let w : rule_writable r ≡ true = all-taken rule_writable no_rule c.args.rules c.args.n c.loop-i.i (search rules) c.loop-i.invariant.places c.requires.1 in
     (within r w, spelt r w, run-part c.loop-i.invariant no_rule (search rules))
 
 pub overflow_add-at : goal.overflow_add-at
