@@ -26,16 +26,14 @@ use labels::Counts;
 use policy::value::PolicyValue;
 
 // The policy of a text, or the refusal and its line.
-#[unsafe(no_mangle)]
-pub extern "C" fn helvemoik_read(text: &[u8]) -> CrossedReading
+pub fn helvemoik_read(text: &[u8]) -> CrossedReading
     ensures { result ≡ crossed_reading (read_text text.now) }
 {
     answer::reading(reader::read(text))
 }
 
 // The text of a policy, put into the buffer.
-#[unsafe(no_mangle)]
-pub extern "C" fn helvemoik_write(policy: PolicyValue, buffer: &mut [u8]) -> Counted
+pub fn helvemoik_write(policy: PolicyValue, buffer: &mut [u8]) -> Counted
     ensures answer { result ≡ counted (write policy buffer.old) }
     ensures bytes { buffer.new ≡ write_buffer policy buffer.old }
 {
@@ -43,24 +41,21 @@ pub extern "C" fn helvemoik_write(policy: PolicyValue, buffer: &mut [u8]) -> Cou
 }
 
 // Check 11.
-#[unsafe(no_mangle)]
-pub extern "C" fn helvemoik_valid(policy: PolicyValue) -> bool
+pub fn helvemoik_valid(policy: PolicyValue) -> bool
     ensures { result ≡ valid policy }
 {
     validity::check(policy)
 }
 
 // Decides by the formula and the pairs, on two sets.
-#[unsafe(no_mangle)]
-pub extern "C" fn helvemoik_decide(policy: PolicyValue, action: u32, user: u32, object: u32) -> u32
+pub fn helvemoik_decide(policy: PolicyValue, action: u32, user: u32, object: u32) -> u32
     ensures { result ≡ reply_number (decide policy action (at user object)) }
 {
     answer::decision(formula::decide(policy, action, user, object))
 }
 
 // Stores the tuples of an action, 16 bits each.
-#[unsafe(no_mangle)]
-pub extern "C" fn helvemoik_list_16(policy: PolicyValue, action: u32, buffer: &mut [u16]) -> Counted
+pub fn helvemoik_list_16(policy: PolicyValue, action: u32, buffer: &mut [u16]) -> Counted
     ensures answer { result ≡ counted (list policy 16 action buffer.old) }
     ensures tuples { buffer.new ≡ list_buffer policy 16 action buffer.old }
 {
@@ -68,8 +63,7 @@ pub extern "C" fn helvemoik_list_16(policy: PolicyValue, action: u32, buffer: &m
 }
 
 // Stores the tuples of an action, 32 bits each.
-#[unsafe(no_mangle)]
-pub extern "C" fn helvemoik_list_32(policy: PolicyValue, action: u32, buffer: &mut [u32]) -> Counted
+pub fn helvemoik_list_32(policy: PolicyValue, action: u32, buffer: &mut [u32]) -> Counted
     ensures answer { result ≡ counted (list policy 32 action buffer.old) }
     ensures tuples { buffer.new ≡ list_buffer policy 32 action buffer.old }
 {
@@ -77,8 +71,7 @@ pub extern "C" fn helvemoik_list_32(policy: PolicyValue, action: u32, buffer: &m
 }
 
 // Decides by the first `count` tuples of a listing, 16 bits each.
-#[unsafe(no_mangle)]
-pub extern "C" fn helvemoik_decide_by_tuples_16(
+pub fn helvemoik_decide_by_tuples_16(
     policy: PolicyValue,
     user: u32,
     object: u32,
@@ -91,8 +84,7 @@ pub extern "C" fn helvemoik_decide_by_tuples_16(
 }
 
 // Decides by the first `count` tuples of a listing, 32 bits each.
-#[unsafe(no_mangle)]
-pub extern "C" fn helvemoik_decide_by_tuples_32(
+pub fn helvemoik_decide_by_tuples_32(
     policy: PolicyValue,
     user: u32,
     object: u32,
@@ -105,8 +97,7 @@ pub extern "C" fn helvemoik_decide_by_tuples_32(
 }
 
 // Fills the three buffers with labels and table, both in bytes.
-#[unsafe(no_mangle)]
-pub extern "C" fn helvemoik_compile_8_8(
+pub fn helvemoik_compile_8_8(
     policy: PolicyValue,
     users: &mut [u8],
     objects: &mut [u8],
@@ -119,8 +110,7 @@ pub extern "C" fn helvemoik_compile_8_8(
 }
 
 // Fills the three buffers with labels in bytes and a table of 16-bit entries.
-#[unsafe(no_mangle)]
-pub extern "C" fn helvemoik_compile_8_16(
+pub fn helvemoik_compile_8_16(
     policy: PolicyValue,
     users: &mut [u8],
     objects: &mut [u8],
@@ -133,8 +123,7 @@ pub extern "C" fn helvemoik_compile_8_16(
 }
 
 // Fills the three buffers with labels and entries of 16 bits.
-#[unsafe(no_mangle)]
-pub extern "C" fn helvemoik_compile_16_16(
+pub fn helvemoik_compile_16_16(
     policy: PolicyValue,
     users: &mut [u16],
     objects: &mut [u16],
@@ -147,24 +136,21 @@ pub extern "C" fn helvemoik_compile_16_16(
 }
 
 // Whether something tells two user sets apart.
-#[unsafe(no_mangle)]
-pub extern "C" fn helvemoik_apart(policy: PolicyValue, one: u32, other: u32) -> Separation
+pub fn helvemoik_apart(policy: PolicyValue, one: u32, other: u32) -> Separation
     ensures { (a : Apartness) × Tells policy one other a × (result ≡ separation a) }
 {
     answer::separation(labels::apart(policy, one, other))
 }
 
 // A board that holds no session.
-#[unsafe(no_mangle)]
-pub extern "C" fn helvemoik_fresh() -> Board
+pub fn helvemoik_fresh() -> Board
     ensures { result ≡ fresh }
 {
     board::fresh()
 }
 
 // Opens a session of the user that holds the set.
-#[unsafe(no_mangle)]
-pub extern "C" fn helvemoik_open(
+pub fn helvemoik_open(
     board: Board,
     policy: PolicyValue,
     user: u32,
@@ -177,8 +163,7 @@ pub extern "C" fn helvemoik_open(
 }
 
 // The session's held set gains these values.
-#[unsafe(no_mangle)]
-pub extern "C" fn helvemoik_add(
+pub fn helvemoik_add(
     board: Board,
     policy: PolicyValue,
     user: u32,
@@ -191,8 +176,7 @@ pub extern "C" fn helvemoik_add(
 }
 
 // The session's held set loses these values.
-#[unsafe(no_mangle)]
-pub extern "C" fn helvemoik_drop(
+pub fn helvemoik_drop(
     board: Board,
     policy: PolicyValue,
     user: u32,
@@ -205,13 +189,7 @@ pub extern "C" fn helvemoik_drop(
 }
 
 // Closes the session.
-#[unsafe(no_mangle)]
-pub extern "C" fn helvemoik_close(
-    board: Board,
-    policy: PolicyValue,
-    user: u32,
-    session: u32,
-) -> CrossedStep
+pub fn helvemoik_close(board: Board, policy: PolicyValue, user: u32, session: u32) -> CrossedStep
     ensures { (l : Labels) → result ≡ crossed_step (board_step policy l (closes user session) board) }
 {
     answer::step(board::close(board, policy, user, session))
@@ -228,8 +206,7 @@ fn counts_of(nu: u32, no: u32) -> Counts
 }
 
 // Grants or denies an action on an object by labels and table in bytes.
-#[unsafe(no_mangle)]
-pub extern "C" fn helvemoik_request_8_8(
+pub fn helvemoik_request_8_8(
     board: Board,
     policy: PolicyValue,
     nu: u32,
@@ -241,7 +218,7 @@ pub extern "C" fn helvemoik_request_8_8(
     action: u32,
     object: u32,
 ) -> CrossedStep
-    ensures { result ≡ crossed_step (board_step policy (labels_of (record { users = nu; objects = «no» }) (lent (bits 8 8) users.entry.now objects.now table.now)) (requests session action object) board) }
+    ensures { result ≡ crossed_step (board_step policy (labels_of (record { users = nu; objects = «no» }) (lent (bits 8 8) users.now objects.now table.now)) (requests session action object) board) }
 {
     answer::step(board::request_8_8(
         board,
@@ -257,8 +234,7 @@ pub extern "C" fn helvemoik_request_8_8(
 }
 
 // Grants or denies an action on an object by labels in bytes and a table of 16-bit entries.
-#[unsafe(no_mangle)]
-pub extern "C" fn helvemoik_request_8_16(
+pub fn helvemoik_request_8_16(
     board: Board,
     policy: PolicyValue,
     nu: u32,
@@ -270,7 +246,7 @@ pub extern "C" fn helvemoik_request_8_16(
     action: u32,
     object: u32,
 ) -> CrossedStep
-    ensures { result ≡ crossed_step (board_step policy (labels_of (record { users = nu; objects = «no» }) (lent (bits 8 16) users.entry.now objects.now table.now)) (requests session action object) board) }
+    ensures { result ≡ crossed_step (board_step policy (labels_of (record { users = nu; objects = «no» }) (lent (bits 8 16) users.now objects.now table.now)) (requests session action object) board) }
 {
     answer::step(board::request_8_16(
         board,
@@ -286,8 +262,7 @@ pub extern "C" fn helvemoik_request_8_16(
 }
 
 // Grants or denies an action on an object by labels and entries of 16 bits.
-#[unsafe(no_mangle)]
-pub extern "C" fn helvemoik_request_16_16(
+pub fn helvemoik_request_16_16(
     board: Board,
     policy: PolicyValue,
     nu: u32,
@@ -299,7 +274,7 @@ pub extern "C" fn helvemoik_request_16_16(
     action: u32,
     object: u32,
 ) -> CrossedStep
-    ensures { result ≡ crossed_step (board_step policy (labels_of (record { users = nu; objects = «no» }) (lent (bits 16 16) users.entry.now objects.now table.now)) (requests session action object) board) }
+    ensures { result ≡ crossed_step (board_step policy (labels_of (record { users = nu; objects = «no» }) (lent (bits 16 16) users.now objects.now table.now)) (requests session action object) board) }
 {
     answer::step(board::request_16_16(
         board,

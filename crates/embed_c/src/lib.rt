@@ -1,0 +1,277 @@
+// The archive for C and Rust: each call of `embed` under its exported name, with the same contract.
+#![tactic(auto)]
+
+ghost use Rattle.std.specs.Prelude.{◌≡◌};
+ghost use Rattle.policy.specs.Answers.{reply_number};
+ghost use Rattle.policy.specs.Limits.{bits};
+ghost use Rattle.policy.specs.Read.{read_text};
+ghost use Rattle.policy.specs.Valid.{valid};
+ghost use Rattle.policy.specs.Write.{write, write_buffer};
+ghost use Rattle.formula.specs.Truth.{at};
+ghost use Rattle.formula.specs.Decide.{decide};
+ghost use Rattle.tuples.specs.Tuples.{list, list_buffer, decide_by_tuples};
+ghost use Rattle.labels.specs.Compile.{lent, compile, compile_buffers};
+ghost use Rattle.labels.specs.Apart.{Tells};
+ghost use Rattle.labels.specs.declared.Apartness.{Apartness};
+ghost use Rattle.board.specs.Machine.{opens, adds, drops, closes, requests};
+ghost use Rattle.board.specs.Board.{Labels, labels_of, fresh, board_step};
+ghost use Rattle.embed.specs.Answers.{crossed_reading, counted, crossed_counts, separation, crossed_step};
+
+use board::Board;
+use embed::crossed::{Counted, CrossedCounts, CrossedReading, CrossedStep, Separation};
+use policy::value::PolicyValue;
+
+// The policy of a text, or the refusal and its line.
+#[unsafe(no_mangle)]
+pub extern "C" fn helvemoik_read(text: &[u8]) -> CrossedReading
+    ensures { result ≡ crossed_reading (read_text text.now) }
+{
+    embed::helvemoik_read(text)
+}
+
+// The text of a policy, put into the buffer.
+#[unsafe(no_mangle)]
+pub extern "C" fn helvemoik_write(policy: PolicyValue, buffer: &mut [u8]) -> Counted
+    ensures answer { result ≡ counted (write policy buffer.old) }
+    ensures bytes { buffer.new ≡ write_buffer policy buffer.old }
+{
+    embed::helvemoik_write(policy, buffer)
+}
+
+// Check 11.
+#[unsafe(no_mangle)]
+pub extern "C" fn helvemoik_valid(policy: PolicyValue) -> bool
+    ensures { result ≡ valid policy }
+{
+    embed::helvemoik_valid(policy)
+}
+
+// Decides by the formula and the pairs, on two sets.
+#[unsafe(no_mangle)]
+pub extern "C" fn helvemoik_decide(policy: PolicyValue, action: u32, user: u32, object: u32) -> u32
+    ensures { result ≡ reply_number (decide policy action (at user object)) }
+{
+    embed::helvemoik_decide(policy, action, user, object)
+}
+
+// Stores the tuples of an action, 16 bits each.
+#[unsafe(no_mangle)]
+pub extern "C" fn helvemoik_list_16(policy: PolicyValue, action: u32, buffer: &mut [u16]) -> Counted
+    ensures answer { result ≡ counted (list policy 16 action buffer.old) }
+    ensures tuples { buffer.new ≡ list_buffer policy 16 action buffer.old }
+{
+    embed::helvemoik_list_16(policy, action, buffer)
+}
+
+// Stores the tuples of an action, 32 bits each.
+#[unsafe(no_mangle)]
+pub extern "C" fn helvemoik_list_32(policy: PolicyValue, action: u32, buffer: &mut [u32]) -> Counted
+    ensures answer { result ≡ counted (list policy 32 action buffer.old) }
+    ensures tuples { buffer.new ≡ list_buffer policy 32 action buffer.old }
+{
+    embed::helvemoik_list_32(policy, action, buffer)
+}
+
+// Decides by the first `count` tuples of a listing, 16 bits each.
+#[unsafe(no_mangle)]
+pub extern "C" fn helvemoik_decide_by_tuples_16(
+    policy: PolicyValue,
+    user: u32,
+    object: u32,
+    listing: &[u16],
+    count: usize,
+) -> u32
+    ensures { result ≡ reply_number (decide_by_tuples policy 16 (at user object) listing.now count) }
+{
+    embed::helvemoik_decide_by_tuples_16(policy, user, object, listing, count)
+}
+
+// Decides by the first `count` tuples of a listing, 32 bits each.
+#[unsafe(no_mangle)]
+pub extern "C" fn helvemoik_decide_by_tuples_32(
+    policy: PolicyValue,
+    user: u32,
+    object: u32,
+    listing: &[u32],
+    count: usize,
+) -> u32
+    ensures { result ≡ reply_number (decide_by_tuples policy 32 (at user object) listing.now count) }
+{
+    embed::helvemoik_decide_by_tuples_32(policy, user, object, listing, count)
+}
+
+// Fills the three buffers with labels and table, both in bytes.
+#[unsafe(no_mangle)]
+pub extern "C" fn helvemoik_compile_8_8(
+    policy: PolicyValue,
+    users: &mut [u8],
+    objects: &mut [u8],
+    table: &mut [u8],
+) -> CrossedCounts
+    ensures answer { result ≡ crossed_counts (compile policy (lent (bits 8 8) users.old objects.old table.old)) }
+    ensures buffers { lent (bits 8 8) users.new objects.new table.new ≡ compile_buffers policy (lent (bits 8 8) users.old objects.old table.old) }
+{
+    embed::helvemoik_compile_8_8(policy, users, objects, table)
+}
+
+// Fills the three buffers with labels in bytes and a table of 16-bit entries.
+#[unsafe(no_mangle)]
+pub extern "C" fn helvemoik_compile_8_16(
+    policy: PolicyValue,
+    users: &mut [u8],
+    objects: &mut [u8],
+    table: &mut [u16],
+) -> CrossedCounts
+    ensures answer { result ≡ crossed_counts (compile policy (lent (bits 8 16) users.old objects.old table.old)) }
+    ensures buffers { lent (bits 8 16) users.new objects.new table.new ≡ compile_buffers policy (lent (bits 8 16) users.old objects.old table.old) }
+{
+    embed::helvemoik_compile_8_16(policy, users, objects, table)
+}
+
+// Fills the three buffers with labels and entries of 16 bits.
+#[unsafe(no_mangle)]
+pub extern "C" fn helvemoik_compile_16_16(
+    policy: PolicyValue,
+    users: &mut [u16],
+    objects: &mut [u16],
+    table: &mut [u16],
+) -> CrossedCounts
+    ensures answer { result ≡ crossed_counts (compile policy (lent (bits 16 16) users.old objects.old table.old)) }
+    ensures buffers { lent (bits 16 16) users.new objects.new table.new ≡ compile_buffers policy (lent (bits 16 16) users.old objects.old table.old) }
+{
+    embed::helvemoik_compile_16_16(policy, users, objects, table)
+}
+
+// Whether something tells two user sets apart.
+#[unsafe(no_mangle)]
+pub extern "C" fn helvemoik_apart(policy: PolicyValue, one: u32, other: u32) -> Separation
+    ensures { (a : Apartness) × Tells policy one other a × (result ≡ separation a) }
+{
+    embed::helvemoik_apart(policy, one, other)
+}
+
+// A board that holds no session.
+#[unsafe(no_mangle)]
+pub extern "C" fn helvemoik_fresh() -> Board
+    ensures { result ≡ fresh }
+{
+    embed::helvemoik_fresh()
+}
+
+// Opens a session of the user that holds the set.
+#[unsafe(no_mangle)]
+pub extern "C" fn helvemoik_open(
+    board: Board,
+    policy: PolicyValue,
+    user: u32,
+    session: u32,
+    set: u32,
+) -> CrossedStep
+    ensures { (l : Labels) → result ≡ crossed_step (board_step policy l (opens user session set) board) }
+{
+    embed::helvemoik_open(board, policy, user, session, set)
+}
+
+// The session's held set gains these values.
+#[unsafe(no_mangle)]
+pub extern "C" fn helvemoik_add(
+    board: Board,
+    policy: PolicyValue,
+    user: u32,
+    session: u32,
+    set: u32,
+) -> CrossedStep
+    ensures { (l : Labels) → result ≡ crossed_step (board_step policy l (adds user session set) board) }
+{
+    embed::helvemoik_add(board, policy, user, session, set)
+}
+
+// The session's held set loses these values.
+#[unsafe(no_mangle)]
+pub extern "C" fn helvemoik_drop(
+    board: Board,
+    policy: PolicyValue,
+    user: u32,
+    session: u32,
+    set: u32,
+) -> CrossedStep
+    ensures { (l : Labels) → result ≡ crossed_step (board_step policy l (drops user session set) board) }
+{
+    embed::helvemoik_drop(board, policy, user, session, set)
+}
+
+// Closes the session.
+#[unsafe(no_mangle)]
+pub extern "C" fn helvemoik_close(
+    board: Board,
+    policy: PolicyValue,
+    user: u32,
+    session: u32,
+) -> CrossedStep
+    ensures { (l : Labels) → result ≡ crossed_step (board_step policy l (closes user session) board) }
+{
+    embed::helvemoik_close(board, policy, user, session)
+}
+
+// Grants or denies an action on an object by labels and table in bytes.
+#[unsafe(no_mangle)]
+pub extern "C" fn helvemoik_request_8_8(
+    board: Board,
+    policy: PolicyValue,
+    nu: u32,
+    no: u32,
+    users: &[u8],
+    objects: &[u8],
+    table: &[u8],
+    session: u32,
+    action: u32,
+    object: u32,
+) -> CrossedStep
+    ensures { result ≡ crossed_step (board_step policy (labels_of (record { users = nu; objects = «no» }) (lent (bits 8 8) users.now objects.now table.now)) (requests session action object) board) }
+{
+    embed::helvemoik_request_8_8(
+        board, policy, nu, no, users, objects, table, session, action, object,
+    )
+}
+
+// Grants or denies an action on an object by labels in bytes and a table of 16-bit entries.
+#[unsafe(no_mangle)]
+pub extern "C" fn helvemoik_request_8_16(
+    board: Board,
+    policy: PolicyValue,
+    nu: u32,
+    no: u32,
+    users: &[u8],
+    objects: &[u8],
+    table: &[u16],
+    session: u32,
+    action: u32,
+    object: u32,
+) -> CrossedStep
+    ensures { result ≡ crossed_step (board_step policy (labels_of (record { users = nu; objects = «no» }) (lent (bits 8 16) users.now objects.now table.now)) (requests session action object) board) }
+{
+    embed::helvemoik_request_8_16(
+        board, policy, nu, no, users, objects, table, session, action, object,
+    )
+}
+
+// Grants or denies an action on an object by labels and entries of 16 bits.
+#[unsafe(no_mangle)]
+pub extern "C" fn helvemoik_request_16_16(
+    board: Board,
+    policy: PolicyValue,
+    nu: u32,
+    no: u32,
+    users: &[u16],
+    objects: &[u16],
+    table: &[u16],
+    session: u32,
+    action: u32,
+    object: u32,
+) -> CrossedStep
+    ensures { result ≡ crossed_step (board_step policy (labels_of (record { users = nu; objects = «no» }) (lent (bits 16 16) users.now objects.now table.now)) (requests session action object) board) }
+{
+    embed::helvemoik_request_16_16(
+        board, policy, nu, no, users, objects, table, session, action, object,
+    )
+}
