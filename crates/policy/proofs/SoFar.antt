@@ -10,7 +10,6 @@ use lib.ListN.{take, drop}
 use borrow.Author.Tests.{ne_eqb}
 use Rattle.seniority.specs.Seniority.{direct}
 use Rattle.seniority.specs.declared.Direct.{Direct}
-use Rattle.text.specs.Parts.{lines}
 use Rattle.text.specs.Kind.{place_of, is_kind}
 use Rattle.text.specs.declared.kind.Kind.{Kind}
 use Rattle.text.specs.declared.kind.Kind.TheVariants.{Policy as PolicyKind, Uattr, Oattr, Usen, Osen, User, Object, Conflict as ConflictKind, Rule as RuleKind, Pair as PairKind, End}

@@ -16,13 +16,13 @@ returns-then-not-register_valid-2 c =
 pub returns-then-not-conflicts_valid : goal.returns-then-not-conflicts_valid
 unfolding lists_valid
 returns-then-not-conflicts_valid c =
-            turn-rest c.register_valid.ensures (rw c.if-not-register_valid.false)
+    turn-rest c.register_valid.ensures (rw c.if-not-register_valid.false)
     (turn-rest c.register_valid-2.ensures (rw c.if-not-register_valid-2.false) (turn-fails c.conflicts_valid.ensures (rw c.if-not-conflicts_valid.true) _))
 
 pub returns-then-not-rules_valid : goal.returns-then-not-rules_valid
 unfolding lists_valid
 returns-then-not-rules_valid c =
-                turn-rest c.register_valid.ensures (rw c.if-not-register_valid.false)
+    turn-rest c.register_valid.ensures (rw c.if-not-register_valid.false)
     (turn-rest c.register_valid-2.ensures (rw c.if-not-register_valid-2.false)
     (turn-rest c.conflicts_valid.ensures (rw c.if-not-conflicts_valid.false)
     (rw (← c.actions-actions.ensures) (turn-fails c.rules_valid.ensures (rw c.if-not-rules_valid.true) _))))
@@ -30,7 +30,7 @@ returns-then-not-rules_valid c =
 pub returns : goal.returns
 unfolding lists_valid
 returns c =
-                    turn-rest c.register_valid.ensures (rw c.if-not-register_valid.false)
+    turn-rest c.register_valid.ensures (rw c.if-not-register_valid.false)
     (turn-rest c.register_valid-2.ensures (rw c.if-not-register_valid-2.false)
     (turn-rest c.conflicts_valid.ensures (rw c.if-not-conflicts_valid.false)
     (rw (← c.actions-actions.ensures) (turn-rest c.rules_valid.ensures (rw c.if-not-rules_valid.false) c.pairs_valid.ensures))))

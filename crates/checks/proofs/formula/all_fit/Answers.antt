@@ -1,7 +1,5 @@
 -- `checks::formula::all_fit` meets its contract: the words before place i pass.
-use Prim.Native.Nat.{◌-◌}
 use borrow.Author.Rules.{rules}
-use Rattle.policy.specs.Checks.{word_fits}
 use Rattle.checks.proofs.Words.{passed_none, passed-all, passed-more, passed-not}
 use Rattle.checks.proofs.formula.all_fit.Goals as goal
 

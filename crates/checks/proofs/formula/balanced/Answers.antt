@@ -1,5 +1,4 @@
 -- `checks::formula::balanced` meets its contract: the words before place i leave `depth` truth values.
-use Prim.Native.Nat.{◌-◌}
 use borrow.Author.Rules.{rules}
 use Rattle.checks.proofs.Words.{leaves_none, leaves_one, leaves_more, leaves_few}
 use Rattle.checks.proofs.formula.balanced.Goals as goal

@@ -1,8 +1,6 @@
 -- `checks::formula::sound` meets its contract: the words before place i pass checks 6 and 8 and leave `depth` truth
 -- values.
-use Prim.Native.Nat.{◌-◌}
 use mathlib.Core.Bool.{and-false}
-use borrow.Author.Tests.{not-true, not-false}
 use borrow.Author.Rules.{rules}
 use Rattle.checks.proofs.Words.{passed_none, passed-all, passed-more, passed-not, leaves_none, leaves_one, leaves_more, leaves_few}
 use Rattle.checks.proofs.formula.sound.Goals as goal

@@ -1,6 +1,6 @@
 -- `checks::side::total_of` meets its contract: the sum so far and the sum of the widths from place i on are the whole
 -- sum.
-use Prim.Native.Nat.{◌+◌, ◌-◌}
+use Prim.Native.Nat.{◌+◌}
 use mathlib.Core.Path.{◌≡◌}
 use native.Mathlib.Omega.{arith}
 use borrow.Author.Rules.{rules}

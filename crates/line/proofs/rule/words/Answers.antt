@@ -1,5 +1,4 @@
 -- `line::rule::words` meets its contract: the words done, and those of the fields left, are the words of all fields.
-use Prim.Native.Nat.{◌-◌}
 use native.Mathlib.Omega.{arith}
 use Rattle.basis.specs.Lists.{padded}
 use Rattle.line.proofs.Rules.{none_done, word_digits, room, stops, goes_on, ends}

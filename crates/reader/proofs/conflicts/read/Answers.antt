@@ -18,12 +18,12 @@ loop-last-smaller-in-Is c = search stop_less
 
 pub loop-last-preserved-in-Is : goal.loop-last-preserved-in-Is
 loop-last-preserved-in-Is c =
-            held_out c.loop-last.invariant _ c.fits-fits.ensures _ c.rises-rising.ensures _ c.fault-f.ensures _ c.is_at.ensures c.loop-last-test.true _
+    held_out c.loop-last.invariant _ c.fits-fits.ensures _ c.rises-rising.ensures _ c.fault-f.ensures _ c.is_at.ensures c.loop-last-test.true _
     _ c.in-Is.is c.stop-c.ensures
 
 pub bounds-entries-count : goal.bounds-entries-count
 bounds-entries-count c =
-        held-room c.loop-last.invariant _ c.fits-fits.ensures _ c.rises-rising.ensures _ c.fault-f.ensures c.in_default.is
+    held-room c.loop-last.invariant _ c.fits-fits.ensures _ c.rises-rising.ensures _ c.fault-f.ensures c.in_default.is
 
 pub offset_bounds-entries-count : goal.offset_bounds-entries-count
 offset_bounds-entries-count c = let h = bounds-entries-count c in search rules
@@ -39,7 +39,7 @@ loop-last-smaller c = search next-less
 
 pub loop-last-preserved : goal.loop-last-preserved
 loop-last-preserved c =
-            held_more c.loop-last.invariant _ c.fits-fits.ensures _ c.rises-rising.ensures _ c.fault-f.ensures _ c.is_at.ensures c.loop-last-test.true _
+    held_more c.loop-last.invariant _ c.fits-fits.ensures _ c.rises-rising.ensures _ c.fault-f.ensures _ c.is_at.ensures c.loop-last-test.true _
     c.in_default.is c.next-c.ensures
 
 pub returns : goal.returns

@@ -7,4 +7,4 @@ read-r-requires c = let h = c.requires.1 in (c.read-x.ensures.lines.stands, h.us
 
 pub returns : goal.returns
 returns c i h =
-                            lists-read h c.read-u.ensures c.read-o.ensures c.read-x.ensures c.read-r.ensures c.actions-most.ensures c.read-p.ensures
+    lists-read h c.read-u.ensures c.read-o.ensures c.read-x.ensures c.read-r.ensures c.actions-most.ensures c.read-p.ensures

@@ -1,5 +1,4 @@
 -- `text::parts::count` meets its contract: n and the parts that are left are one more than all parts.
-use Prim.Native.Nat.{◌-◌}
 use native.Mathlib.Omega.{arith}
 use borrow.Author.Rules.{rules}
 use Rattle.text.specs.Parts.{comma}

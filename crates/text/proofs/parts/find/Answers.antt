@@ -1,5 +1,4 @@
 -- `text::parts::find` meets its contract: the place from `from` is the place from i.
-use Prim.Native.Nat.{◌-◌}
 use mathlib.Core.Path.{refl}
 use native.Mathlib.Omega.{arith}
 use borrow.Author.Rules.{rules}

@@ -1,7 +1,5 @@
 -- `validity::conflicts::conflicts_valid` meets its contract: the conflicts before place i pass and rise, and `blank`
 -- says whether those from place n to i are.
-use Prim.Native.Nat.{◌-◌}
-use borrow.Author.Tests.{not-true, not-false}
 use borrow.Author.Rules.{rules}
 use Rattle.basis.proofs.Lists.{long}
 use Rattle.policy.specs.Policy.{conflict}

@@ -2,7 +2,6 @@
 -- its words.
 use mathlib.Core.Path.{sym, ◌∙◌}
 use mathlib.Core.Bool.{and-false, and-true}
-use borrow.Author.Tests.{not-true, not-false}
 use borrow.Author.Rules.{rules}
 use Rattle.basis.proofs.Lists.{long}
 use Rattle.policy.specs.Value.{rule_of}
@@ -24,7 +23,7 @@ returns-then-not-rule_sound c =
 pub returns : goal.returns
 unfolding rule_valid rule_of
 returns c =
-        let x = c.args.x in
+    let x = c.args.x in
     let r = c.rule_sound in
     let passed = c.if-not-rule_sound.false in
     let p = c.requires in

@@ -1,11 +1,7 @@
 -- `validity::rules::rules_valid` meets its contract: the rules before place i pass and rise, and `blank` says whether
 -- those from place n to i are.
-use Prim.Native.Nat.{◌-◌}
-use borrow.Author.Tests.{not-true, not-false}
 use borrow.Author.Rules.{rules}
 use Rattle.basis.proofs.Lists.{long}
-use Rattle.policy.specs.Value.{no_rule}
-use Rattle.validity.specs.Inner.{rule_valid}
 use Rattle.validity.proofs.Blank.{blank-all, blank-more, empty_rule}
 use Rattle.validity.proofs.Rising.{risen_none, risen_blank, risen_all, risen_unfit, risen_falls, risen_more}
 use Rattle.validity.proofs.Whole.{rules-out, rules-in}

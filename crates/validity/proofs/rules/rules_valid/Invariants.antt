@@ -1,7 +1,6 @@
 -- `validity::rules::rules_valid` meets its contract: the rules before place i pass and rise, and `blank` says whether
 -- those from place n to i are.
 use Prim.Native.Nat.{◌-◌}
-use borrow.Author.Rules.{rules}
 use lib.Dec.{ltb}
 use lib.ListN.{drop}
 use Rattle.basis.specs.Lists.{all}

@@ -1,5 +1,4 @@
 -- `validity::rules::words_blank` meets its contract: `blank` says whether the words from place n to i are.
-use Prim.Native.Nat.{◌-◌}
 use mathlib.Core.Path.{refl}
 use borrow.Author.Rules.{rules}
 use Rattle.validity.proofs.Blank.{blank_none, blank-all, blank-more}

@@ -1,7 +1,5 @@
 -- `validity::side::lines_valid` meets its contract: the lines before place i pass and rise, and `blank` says whether
 -- those from place n to i are.
-use Prim.Native.Nat.{◌-◌}
-use borrow.Author.Tests.{not-true, not-false}
 use borrow.Author.Rules.{rules}
 use Rattle.basis.proofs.Lists.{long}
 use Rattle.seniority.specs.Seniority.{direct}

@@ -1,7 +1,6 @@
 -- `validity::side::side_valid` meets its contract: by its widths, and then by its lines.
 use mathlib.Core.Path.{refl, sym, ap, ◌∙◌}
 use native.Mathlib.Omega.{arith}
-use borrow.Author.Tests.{not-true, not-false}
 use borrow.Author.Rules.{rules}
 use Rattle.policy.specs.Value.{side_of}
 use Rattle.validity.specs.Inner.{lines_valid}

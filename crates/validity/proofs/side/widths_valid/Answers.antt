@@ -1,9 +1,7 @@
 -- `validity::side::widths_valid` meets its contract: the widths before place i pass and sum to `total`, and
 -- `blank` says whether those from place n to i are 0.
-use Prim.Native.Nat.{◌-◌}
 use mathlib.Core.Path.{refl}
 use native.Mathlib.Omega.{arith}
-use borrow.Author.Tests.{not-true, not-false}
 use borrow.Author.Rules.{rules}
 use Rattle.validity.proofs.Blank.{blank-all, blank-more}
 use Rattle.validity.proofs.Stored.{widths-none, widths-many, widths-in}

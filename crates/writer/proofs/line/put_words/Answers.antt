@@ -1,6 +1,5 @@
 -- `writer::line::put_words` meets its contract: after i turns the first i words are put.
 use borrow.Author.Rules.{rules}
-use Prim.Native.Nat.{◌-◌}
 use native.Mathlib.Omega.{arith}
 use Rattle.basis.proofs.Lists.{all-taken}
 use Rattle.words.specs.Word.{numbered}
@@ -14,7 +13,7 @@ loop-i-init c = run-start (search rules) c.requires.2
 pub put-at-requires : goal.put-at-requires
 put-at-requires c =
     let l = c.loop-i in
-        rw c.of_number-w.ensures (
+    rw c.of_number-w.ensures (
       all-taken (λ n. in_digits (numbered n)) 0 c.args.numbers c.args.n l.i (search rules) l.invariant.places c.requires.1,
       run_room l.invariant 0 (search rules),
     )

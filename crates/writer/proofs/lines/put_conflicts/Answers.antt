@@ -1,5 +1,4 @@
 -- `writer::lines::put_conflicts` meets its contract: after i turns the first i lines are put.
-use Prim.Native.Nat.{◌-◌}
 use native.Mathlib.Omega.{arith}
 use borrow.Author.Rules.{rules}
 use Rattle.basis.proofs.Lists.{long}

@@ -1,6 +1,5 @@
 -- `writer::lines::put_rules` meets its contract: after i turns the first i lines are put.
 use Prim.Native.Nat.{◌-◌}
-use borrow.Author.Rules.{rules}
 use Rattle.writer.specs.Inner.Put.{rule_line}
 use Rattle.writer.proofs.Putting.{Run}
 use Rattle.writer.proofs.lines.put_rules.Given as goal

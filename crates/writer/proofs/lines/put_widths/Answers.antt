@@ -1,5 +1,4 @@
 -- `writer::lines::put_widths` meets its contract: after i turns the first i lines are put.
-use Prim.Native.Nat.{◌-◌}
 use native.Mathlib.Omega.{arith}
 use borrow.Author.Rules.{rules}
 use Rattle.writer.proofs.Putting.{put-long, run-start, run_end, run_fits, run-part, run-sum, run-line}

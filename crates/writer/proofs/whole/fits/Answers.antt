@@ -9,7 +9,7 @@ use Rattle.writer.proofs.whole.fits.Goals as goal
 
 pub returns-then-room-ge-TEXT_BYTES : goal.returns-then-room-ge-TEXT_BYTES
 returns-then-room-ge-TEXT_BYTES c =
-        sym (le-leb (length (text_of (policy_of c.args.v))) c.args.room (omega (arith, c.requires.1)))
+    sym (le-leb (length (text_of (policy_of c.args.v))) c.args.room (omega (arith, c.requires.1)))
 
 pub returns : goal.returns
 returns c = rw (← c.measure.ensures) refl
