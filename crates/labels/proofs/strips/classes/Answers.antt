@@ -1,7 +1,6 @@
 -- `labels::strips::classes` meets its contract: the labels are those by the rows of the sets before `start`, and a strip
 -- parts them further.
-use Prim.Native.Nat.{ℕ, ◌+◌, ◌-◌, ◌*◌, ◌/◌, ◌≤◌, ◌<◌}
-use native.Mathlib.Nat.{min}
+use Prim.Native.Nat.{ℕ, ◌+◌, ◌*◌, ◌/◌, ◌≤◌, ◌<◌}
 use mathlib.Core.Path.{◌≡◌, ap, ◌∙◌}
 use native.Mathlib.Nat.{le-div_iff_mul-le}
 use native.Mathlib.Omega.{arith}
@@ -14,8 +13,8 @@ use Rattle.labels.proofs.Turn.{labelled-same}
 use Rattle.labels.proofs.strips.classes.Goals as goal
 
 -- a strip has room in the grid
-room : {n k x : ℕ} → 0 < n → x ≡ min (grid_places / n) k → x * n ≤ grid_places
-room some q = (le-div_iff_mul-le some).0 (omega (arith, q))
+room : {n x : ℕ} → 0 < n → x ≤ grid_places / n → x * n ≤ grid_places
+room some q = (le-div_iff_mul-le some).0 q
 
 -- the strip as it is looked at
 view_inside : (n x : ℕ) → n ≤ most_sets → x ≤ most_sets → x * n ≤ grid_places → Inside (record { rows = n; columns = x; down = 1; along = n })
@@ -32,10 +31,10 @@ fill-requires c =
     let s = c.requires in
     let e = c.least-columns.ensures in
     let b : c.loop-start.start + c.least-columns.result ≤ c.args.k = omega (arith, c.loop-start-test.true) in
-    ((s.0.0, s.0.1, omega (arith, s.0.2)), c.loop-start.invariant.1, s.3, room s.2 e, omega (arith, s.4), λ i h. s.5 i (omega arith))
+    ((s.0.0, s.0.1, omega (arith, s.0.2)), c.loop-start.invariant.1, s.3, room s.2 (omega (arith, e)), omega (arith, s.4), λ i h. s.5 i (omega arith))
 
 pub classify-count-requires : goal.classify-count-requires
-classify-count-requires c = let s = c.requires in let e = c.least-columns.ensures in view_inside _ _ s.3 (omega (arith, e, s.4)) (room s.2 e)
+classify-count-requires c = let s = c.requires in let e = c.least-columns.ensures in view_inside _ _ s.3 (omega (arith, e, s.4)) (room s.2 (omega (arith, e)))
 
 pub overflow_add-start : goal.overflow_add-start
 overflow_add-start c = omega (arith, c.least-columns.ensures, c.loop-start-test.true, c.requires.4)
