@@ -2,26 +2,19 @@
 use native.Mathlib.Omega.{arith}
 use Rattle.basis.proofs.Lists.{get_or-blank}
 use Rattle.policy.specs.Limits.{most_sets}
-use Rattle.labels.specs.Inner.Grid.{Inside}
 use Rattle.labels.proofs.Grids.{view_inside, turned-inside}
 use Rattle.labels.proofs.Storing.{users-at-once, objects-at-once}
 use Rattle.labels.proofs.Turn.{labelled-few}
-use Rattle.labels.proofs.assign.at_once.Lts as place
-use Rattle.labels.proofs.assign.at_once.Tie as tie
-use Rattle.labels.proofs.assign.at_once.Reads as reads
 use Rattle.labels.proofs.assign.at_once.Goals as goal
-
-inside : (c : place.After-fill tie.the-claims reads.Pre reads.Post) → Inside c.args.view
-inside c = let s = c.requires in view_inside s.1.2 s.3
 
 pub fill-requires : goal.fill-requires
 fill-requires c = c.requires
 
 pub classify-users-requires : goal.classify-users-requires
-classify-users-requires c = inside c.before.before.before.before
+classify-users-requires c = let s = c.requires in view_inside s.1.2 s.3
 
 pub classify-objects-requires : goal.classify-objects-requires
-classify-objects-requires c = rw c.turned-turned.ensures (turned-inside _ (inside c.before.before.before.before.before.before.before.before.before.before))
+classify-objects-requires c = let s = c.requires in rw c.turned-turned.ensures (turned-inside _ (view_inside s.1.2 s.3))
 
 pub overflow_cast-result : goal.overflow_cast-result
 overflow_cast-result c = omega (arith, labelled-few c.classify-users.ensures, c.requires.1.2.few-users)

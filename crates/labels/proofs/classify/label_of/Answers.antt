@@ -1,23 +1,14 @@
 -- `labels::classify::label_of` meets its contract: the leaders passed are unlike the row, and the next had its label and
 -- is like it before column o.
-use Prim.Native.Nat.{suc, ◌-◌}
 use mathlib.Core.Path.{refl, sym, ◌∙◌}
 use native.Mathlib.Nat.{lt_of_lt_of_le}
 use native.Mathlib.Numerals.{add-one}
 use native.Mathlib.Omega.{arith}
 use borrow.Author.Count.{below_none}
 use borrow.Author.Rules.{rules}
-use Rattle.labels.specs.Inner.Grid.{cell, joined}
-use Rattle.labels.proofs.Alike.{Comparing, none-like, compare_none, compare_more, passed-more, found-like}
-use Rattle.labels.proofs.classify.label_of.Lts as place
-use Rattle.labels.proofs.classify.label_of.Tie as tie
-use Rattle.labels.proofs.classify.label_of.Reads as reads
+use Rattle.labels.specs.Inner.Grid.{joined}
+use Rattle.labels.proofs.Alike.{none-like, compare_none, compare_more, passed-more, found-like}
 use Rattle.labels.proofs.classify.label_of.Goals as goal
-
--- nothing is compared yet
-start : (c : place.After-wide tie.the-claims reads.Pre reads.Post goal.the-invariant-loop-o goal.the-decreases-loop-o goal.the-invariant-next goal.the-decreases-next goal.the-invariant-loop-o goal.the-decreases-loop-o goal.the-invariant-next goal.the-decreases-next) → let a = c.args in
-    Comparing (joined a.before.now (cell a.grid.now a.view)) (suc a.view.columns) a.u a.leaders.now a.count c.next.l c.wide-v.result 0
-start c = compare_none c.next.invariant c.next-test.true c.wide-v.ensures.0
 
 pub next-init : goal.next-init
 next-init c = record { within = search rules; before = below_none _ }
@@ -33,17 +24,17 @@ bounds-before-u c = let s = c.requires in lt_of_lt_of_le s.1 s.0.few-rows
 
 pub next-preserved-then-before-v : goal.next-preserved-then-before-v
 unfolding joined
-next-preserved-then-before-v c = passed-more (start c.before.before.before) (omega arith) c.if-before-v.true
+next-preserved-then-before-v c = passed-more (compare_none c.next.invariant c.next-test.true c.wide-v.ensures.0) (omega arith) c.if-before-v.true
 
 pub loop-o-init : goal.loop-o-init
 unfolding joined
-loop-o-init c = (refl, compare_more (start c.before.before.before) (omega arith) c.if-before-v.false)
+loop-o-init c = (refl, compare_more (compare_none c.next.invariant c.next-test.true c.wide-v.ensures.0) (omega arith) c.if-before-v.false)
 
 pub entry-requires : goal.entry-requires
 entry-requires c =
     let s = c.requires in
     let i = c.loop-o.invariant.1 in
-    (s.0, rw i.row (s.3 c.loop-o.l i.under), c.loop-o-test.true)
+    (s.0, rw i.row (s.3 c.next.l i.under), c.loop-o-test.true)
 
 pub entry-requires-in-loop-o : goal.entry-requires-in-loop-o
 entry-requires-in-loop-o c = let s = c.requires in (s.0, s.1, c.loop-o-test.true)

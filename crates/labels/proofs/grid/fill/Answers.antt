@@ -1,5 +1,5 @@
 -- `labels::grid::fill` meets its contract: a turn of the inner loop puts one entry, one of the outer a row.
-use Prim.Native.Nat.{ℕ, ◌+◌, ◌*◌, ◌-◌, ◌<◌}
+use Prim.Native.Nat.{ℕ, ◌+◌, ◌*◌, ◌≤◌, ◌<◌}
 use mathlib.Core.Path.{◌≡◌, ap}
 use native.Mathlib.Omega.{arith}
 use lib.Arith.{digits_lt}
@@ -10,8 +10,8 @@ use Rattle.labels.proofs.Grids.{entered_more, entered_count, entered_at}
 use Rattle.labels.proofs.grid.fill.Goals as goal
 
 -- the place is in the grid
-room : (c : goal.In-loop-o) → c.loop-i.i * c.args.n + c.loop-o.o < grid_places
-room c = omega (arith, c.requires.3, digits_lt c.loop-i-test.true c.loop-o-test.true)
+room : {i o count n : ℕ} → count * n ≤ grid_places → i < count → o < n → i * n + o < grid_places
+room few h l = omega (arith, few, digits_lt h l)
 
 pub loop-i-init : goal.loop-i-init
 loop-i-init c =
@@ -34,20 +34,20 @@ pub bounds-row-o : goal.bounds-row-o
 bounds-row-o c = omega (arith, c.requires.2, c.put.ensures.0)
 
 pub overflow_mul-grid : goal.overflow_mul-grid
-overflow_mul-grid c = omega (arith, room c)
+overflow_mul-grid c = omega (arith, room c.requires.3 c.loop-i-test.true c.loop-o-test.true)
 
 pub overflow_add-grid : goal.overflow_add-grid
-overflow_add-grid c = omega (arith, room c)
+overflow_add-grid c = omega (arith, room c.requires.3 c.loop-i-test.true c.loop-o-test.true)
 
 pub offset_bounds-grid-i : goal.offset_bounds-grid-i
-offset_bounds-grid-i c = omega (arith, room c)
+offset_bounds-grid-i c = omega (arith, room c.requires.3 c.loop-i-test.true c.loop-o-test.true)
 
 pub bounds-grid-i : goal.bounds-grid-i
-bounds-grid-i c = room c
+bounds-grid-i c = room c.requires.3 c.loop-i-test.true c.loop-o-test.true
 
 pub loop-o-preserved : goal.loop-o-preserved
 loop-o-preserved c =
-    (omega arith, entered_more _ _ c.loop-o.invariant.1 c.loop-o-test.true (room c) (λ p rows few. c.put.ensures.1 p _ rows few c.loop-o-test.true))
+    (omega arith, entered_more _ _ c.loop-o.invariant.1 c.loop-o-test.true (room c.requires.3 c.loop-i-test.true c.loop-o-test.true) (λ p rows few. c.put.ensures.1 p _ rows few c.loop-o-test.true))
 
 pub loop-i-preserved : goal.loop-i-preserved
 loop-i-preserved c =

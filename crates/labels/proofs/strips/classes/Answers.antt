@@ -1,32 +1,25 @@
 -- `labels::strips::classes` meets its contract: the labels are those by the rows of the sets before `start`, and a strip
 -- parts them further.
-use Prim.Native.Nat.{ℕ, ◌+◌, ◌-◌, ◌*◌, ◌/◌, ◌≤◌, ◌<◌}
+use Prim.Native.Nat.{ℕ, ◌+◌, ◌*◌, ◌/◌, ◌≤◌, ◌<◌}
 use mathlib.Core.Path.{◌≡◌, ap, ◌∙◌}
 use native.Mathlib.Nat.{le-div_iff_mul-le}
 use native.Mathlib.Omega.{arith}
 use lib.Arith.{digits_lt}
 use lib.ListN.{get_or}
+use Rattle.policy.specs.Limits.{most_sets}
 use Rattle.labels.specs.Inner.Grid.{grid_places, Inside}
 use Rattle.labels.proofs.Refining.{labelled-none, still_alike}
 use Rattle.labels.proofs.Turn.{labelled-same}
-use Rattle.labels.proofs.strips.classes.Lts as place
-use Rattle.labels.proofs.strips.classes.Tie as tie
-use Rattle.labels.proofs.strips.classes.Reads as reads
 use Rattle.labels.proofs.strips.classes.Goals as goal
 
 -- a strip has room in the grid
-room : (c : place.After-least tie.the-claims reads.Pre reads.Post goal.the-invariant-loop-start goal.the-decreases-loop-start goal.the-invariant-loop-start goal.the-decreases-loop-start) → c.least-columns.result * c.args.n ≤ grid_places
-room c = (le-div_iff_mul-le c.requires.2).0 (omega (arith, c.least-columns.ensures))
+room : {n x : ℕ} → 0 < n → x ≤ grid_places / n → x * n ≤ grid_places
+room some q = (le-div_iff_mul-le some).0 q
 
 -- the strip as it is looked at
-view_inside : (c : place.After-least tie.the-claims reads.Pre reads.Post goal.the-invariant-loop-start goal.the-decreases-loop-start goal.the-invariant-loop-start goal.the-decreases-loop-start) → Inside (record { rows = c.args.n; columns = c.least-columns.result; down = 1; along = c.args.n })
-view_inside c =
-    let s = c.requires in
-    record {
-      few-rows = s.3;
-      few-columns = omega (arith, c.least-columns.ensures, s.4);
-      inside = λ u o hu ho. omega (arith, room c, digits_lt ho hu);
-    }
+view_inside : (n x : ℕ) → n ≤ most_sets → x ≤ most_sets → x * n ≤ grid_places → Inside (record { rows = n; columns = x; down = 1; along = n })
+view_inside n x few few' h =
+    record { few-rows = few; few-columns = few'; inside = λ u o hu ho. omega (arith, h, digits_lt ho hu) }
 
 pub loop-start-init : goal.loop-start-init
 loop-start-init c =
@@ -38,10 +31,10 @@ fill-requires c =
     let s = c.requires in
     let e = c.least-columns.ensures in
     let b : c.loop-start.start + c.least-columns.result ≤ c.args.k = omega (arith, c.loop-start-test.true) in
-    ((s.0.0, s.0.1, omega (arith, s.0.2)), c.loop-start.invariant.1, s.3, room c.before, omega (arith, s.4), λ i h. s.5 i (omega arith))
+    ((s.0.0, s.0.1, omega (arith, s.0.2)), c.loop-start.invariant.1, s.3, room s.2 (omega (arith, e)), omega (arith, s.4), λ i h. s.5 i (omega arith))
 
 pub classify-count-requires : goal.classify-count-requires
-classify-count-requires c = view_inside c.before.before.before.before.before.before.before
+classify-count-requires c = let s = c.requires in let e = c.least-columns.ensures in view_inside _ _ s.3 (omega (arith, e, s.4)) (room s.2 (omega (arith, e)))
 
 pub overflow_add-start : goal.overflow_add-start
 overflow_add-start c = omega (arith, c.least-columns.ensures, c.loop-start-test.true, c.requires.4)
