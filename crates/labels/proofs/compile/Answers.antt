@@ -7,7 +7,7 @@ use Rattle.policy.specs.Limits.{own_widths}
 use Rattle.policy.specs.Value.{policy_of}
 use Rattle.policy.specs.Valid.{valid}
 use Rattle.formula.proofs.Checked.{valid-fits}
-use Rattle.labels.specs.Inner.Grid.{grid_places, ViewOf}
+use Rattle.labels.specs.Inner.Grid.{grid_places}
 use Rattle.labels.proofs.Storing.{actions-few, sets-few, refused-value, refused-widths}
 use Rattle.labels.proofs.compile.Goals as goal
 

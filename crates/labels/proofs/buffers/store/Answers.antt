@@ -1,10 +1,6 @@
 -- `labels::buffers::store` meets its contract: a buffer that is too short is refused before any is written, and the
 -- three writers leave the labels and the table.
-use mathlib.Core.Path.{◌≡◌, sym, ◌∙◌}
-use Rattle.policy.specs.Policy.{Policy}
-use Rattle.labels.specs.Compile.{Buffers, too_short}
-use Rattle.labels.specs.Inner.Grid.{ViewOf}
-use Rattle.labels.specs.Inner.Labels.{LabelsOf}
+use mathlib.Core.Path.{sym, ◌∙◌}
 use Rattle.labels.specs.Inner.Lending.{lent_as}
 use Rattle.labels.proofs.Compiling.{like_users-equivalence, like_objects-equivalence}
 use Rattle.labels.proofs.Storing.{counts-are, users-few, objects-few, none-short, refused-short, stored-all}

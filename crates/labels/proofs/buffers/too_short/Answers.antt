@@ -3,7 +3,6 @@ use Prim.Native.Nat.{◌≤◌}
 use mathlib.Core.Path.{sym}
 use native.Mathlib.Nat.{mul-le-mul}
 use native.Mathlib.Omega.{arith}
-use Rattle.labels.specs.Compile.{Buffers}
 use Rattle.labels.specs.Inner.Lending.{lent_as}
 use Rattle.labels.proofs.Storing.{users-short, objects-short, table-short}
 use Rattle.labels.proofs.buffers.too_short.Lts as place
