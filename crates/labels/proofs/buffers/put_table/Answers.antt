@@ -14,93 +14,90 @@ use Rattle.labels.specs.Compile.{entry_of}
 use Rattle.labels.specs.Inner.Lending.{lent_in}
 use Rattle.labels.proofs.Storing.{entry-narrow}
 use Rattle.labels.proofs.Turn.{leading-row, leading-label}
-use Rattle.labels.proofs.buffers.put_table.Lts as place
-use Rattle.labels.proofs.buffers.put_table.Tie as tie
-use Rattle.labels.proofs.buffers.put_table.Reads as reads
+use Rattle.labels.proofs.buffers.put_table.Invariants.{Of}
 use Rattle.labels.proofs.buffers.put_table.Goals as goal
 
--- the user set and the object set whose turn it is
-user-row : (c : place.After-wide tie.the-claims reads.Pre reads.Post goal.the-invariant-loop-l goal.the-decreases-loop-l goal.the-invariant-loop-k goal.the-decreases-loop-k tie.handed_clauses goal.the-invariant-loop-l goal.the-decreases-loop-l goal.the-invariant-loop-k goal.the-decreases-loop-k tie.handed_clauses) → c.wide-u.result < c.args.view.rows
-user-row c = leading-row c.requires.1.0 c.loop-k-test.true c.wide-u.ensures.0
-
-object-row : (c : place.After-wide2 tie.the-claims reads.Pre reads.Post goal.the-invariant-loop-l goal.the-decreases-loop-l goal.the-invariant-loop-k goal.the-decreases-loop-k tie.handed_clauses goal.the-invariant-loop-l goal.the-decreases-loop-l goal.the-invariant-loop-k goal.the-decreases-loop-k tie.handed_clauses) → c.wide-o.result < c.args.view.columns
-object-row c = leading-row c.requires.1.1 c.loop-l-test.true c.wide-o.ensures.0
-
--- the labels that were read are those whose turn it is, so the place is the next, and it is in the buffer
-next : (c : place.After-entry_of tie.the-claims reads.Pre reads.Post goal.the-invariant-loop-l goal.the-decreases-loop-l goal.the-invariant-loop-k goal.the-decreases-loop-k tie.handed_clauses goal.the-invariant-loop-l goal.the-decreases-loop-l goal.the-invariant-loop-k goal.the-decreases-loop-k tie.handed_clauses) → c.place-at.result ≡ c.loop-k.k * c.args.counts.objects + c.loop-l.l
-next c =
-        c.place-at.ensures
-    ∙ ap₂ (λ (x y : ℕ). x * c.args.counts.objects + y)
-    (leading-label c.requires.1.0 c.loop-k-test.true c.wide-u.ensures.0 c.user_label-ul.ensures)
-    (leading-label c.requires.1.1 c.loop-l-test.true c.wide-o.ensures.0 c.object_label-ol.ensures)
-
-the-policy : (c : place.After-entry_of tie.the-claims reads.Pre reads.Post goal.the-invariant-loop-l goal.the-decreases-loop-l goal.the-invariant-loop-k goal.the-decreases-loop-k tie.handed_clauses goal.the-invariant-loop-l goal.the-decreases-loop-l goal.the-invariant-loop-k goal.the-decreases-loop-k tie.handed_clauses) → let a = c.args in Of c.requires.0.1.0 a.from a.view a.grid.now
-the-policy c = let s = c.requires.0.1 in record { rows = s.1; seen = s.2; kept = s.3 }
-
-room : (c : place.After-entry_of tie.the-claims reads.Pre reads.Post goal.the-invariant-loop-l goal.the-decreases-loop-l goal.the-invariant-loop-k goal.the-decreases-loop-k tie.handed_clauses goal.the-invariant-loop-l goal.the-decreases-loop-l goal.the-invariant-loop-k goal.the-decreases-loop-k tie.handed_clauses)
-    → c.loop-k.k * c.args.counts.objects + c.loop-l.l < length (lent_in c.args.width c.loop-l.bytes c.loop-l.wide)
-room c =
-    omega (arith, (c.loop-l.invariant.1 _ (the-policy c)).size, (c.loop-k.invariant.1 _ (the-policy c)).size, c.requires.0.4, digits_lt c.loop-k-test.true c.loop-l-test.true)
-
--- what is put is the entry of the two sets
-entry-is : (c : place.After-entry_of tie.the-claims reads.Pre reads.Post goal.the-invariant-loop-l goal.the-decreases-loop-l goal.the-invariant-loop-k goal.the-decreases-loop-k tie.handed_clauses goal.the-invariant-loop-l goal.the-decreases-loop-l goal.the-invariant-loop-k goal.the-decreases-loop-k tie.handed_clauses) (p : Policy) → let a = c.args in Of p a.from a.view a.grid.now
-    → c.entry_of-x.result ≡ entry_of p (at c.wide-u.result c.wide-o.result)
-entry-is c p x = c.entry_of-x.ensures p x.kept (c.take_row.ensures.1 p x.rows x.seen.objects)
-
 pub holds-kept-requires : goal.holds-kept-requires
-holds-kept-requires c = let v = c.requires.0.1.2 in (v.few-users, v.few-objects)
+holds-kept-requires c = let v = c.requires.user_value.1.2 in (v.few-users, v.few-objects)
 
 pub loop-k-init : goal.loop-k-init
 loop-k-init c = (omega arith, λ p x. filled-count (filled_none _ _) (omega arith), refl, refl, length-replicate {A = ℕ} most_sets 0)
 
 pub bounds-user_leaders-k : goal.bounds-user_leaders-k
-bounds-user_leaders-k c = omega (arith, c.loop-k-test.true, c.requires.0.2)
+bounds-user_leaders-k c = omega (arith, c.loop-k-test.true, c.requires.user_value.2)
 
 pub user_label-ul-requires : goal.user_label-ul-requires
-user_label-ul-requires c = lt_of_lt_of_le (user-row c) c.requires.0.1.2.few-users
+user_label-ul-requires c = lt_of_lt_of_le (leading-row c.requires.leading.0 c.loop-k-test.true c.wide-u.ensures.0) c.requires.user_value.1.2.few-users
 
 pub take_row-requires : goal.take_row-requires
 take_row-requires c =
-    let s = c.requires.0 in
-    (s.0, (s.1.0, s.1.1, s.1.2.objects), lt_of_lt_of_le (user-row c.before.before) s.1.2.few-users, c.loop-k.invariant.4)
+    let s = c.requires.user_value in
+    (s.0, (s.1.0, s.1.1, s.1.2.objects), lt_of_lt_of_le (leading-row c.requires.leading.0 c.loop-k-test.true c.wide-u.ensures.0) s.1.2.few-users, c.loop-k.invariant.4)
 
 pub loop-l-init : goal.loop-l-init
 loop-l-init c = (omega arith, λ p x. further-count (further-none _ _ _) (omega arith), refl, refl)
 
 pub bounds-object_leaders-l : goal.bounds-object_leaders-l
-bounds-object_leaders-l c = omega (arith, c.loop-l-test.true, c.requires.0.3)
+bounds-object_leaders-l c = omega (arith, c.loop-l-test.true, c.requires.user_value.3)
 
 pub object_label-ol-requires : goal.object_label-ol-requires
-object_label-ol-requires c = lt_of_lt_of_le (object-row c) c.requires.0.1.2.few-objects
+object_label-ol-requires c = lt_of_lt_of_le (leading-row c.requires.leading.1 c.loop-l-test.true c.wide-o.ensures.0) c.requires.user_value.1.2.few-objects
 
 pub entry_of-x-requires : goal.entry_of-x-requires
-entry_of-x-requires c = (c.holds-kept.ensures, (_, c.requires.0.1.2), user-row c.before.before.before.before.before.before.before.before.before.before, object-row c.before.before.before)
+entry_of-x-requires c = (c.holds-kept.ensures, (_, c.requires.user_value.1.2), leading-row c.requires.leading.0 c.loop-k-test.true c.wide-u.ensures.0, leading-row c.requires.leading.1 c.loop-l-test.true c.wide-o.ensures.0)
 
 pub put-requires : goal.put-requires
 put-requires c =
-    let e = c.before.before in
-    let s = c.requires.0 in (
-      rw (next e) (room e),
-      rw (entry-is e _ (the-policy e)) (entry-narrow s.1.0 _ _ (rw (← s.1.1.actions) s.5)),
-    )
+    let a = c.args in
+    let l = c.loop-l in
+    let n : ℕ = a.counts.objects in
+    let s = c.requires.user_value in
+    let hk = c.loop-k-test.true in
+    let hl = c.loop-l-test.true in
+    -- the labels that were read are those whose turn it is, so the place is the next, and it is in the buffer
+    let next : c.place-at.result ≡ c.loop-k.k * n + l.l = c.place-at.ensures
+    ∙ ap₂ (λ (x y : ℕ). x * n + y)
+    (leading-label c.requires.leading.0 hk c.wide-u.ensures.0 c.user_label-ul.ensures)
+    (leading-label c.requires.leading.1 hl c.wide-o.ensures.0 c.object_label-ol.ensures) in
+    let x : Of s.1.0 a.from a.view a.grid.now = record { rows = s.1.1; seen = s.1.2; kept = s.1.3 } in
+    let room : c.loop-k.k * n + l.l < length (lent_in a.width l.bytes l.wide) =
+    omega (arith, (l.invariant.1 _ x).size, (c.loop-k.invariant.1 _ x).size, s.4, digits_lt hk hl) in
+    -- what is put is the entry of the two sets
+    let entry-is : (p : Policy) → Of p a.from a.view a.grid.now → c.entry_of-x.result ≡ entry_of p (at c.wide-u.result c.wide-o.result) =
+    λ p x. c.entry_of-x.ensures p x.kept (c.take_row.ensures.1 p x.rows x.seen.objects) in
+    (rw next room, rw (entry-is _ x) (entry-narrow s.1.0 _ _ (rw (← s.1.1.actions) s.5)))
 
 pub overflow_step-l : goal.overflow_step-l
-overflow_step-l c = omega (arith, c.loop-l-test.true, c.requires.0.3)
+overflow_step-l c = omega (arith, c.loop-l-test.true, c.requires.user_value.3)
 
 pub loop-l-preserved : goal.loop-l-preserved
 loop-l-preserved c =
-    let e = c.before.before.before.before.before.before.before in
     let a = c.args in
-    let h = c.loop-l-test.true in
+    let l = c.loop-l in
+    let n : ℕ = a.counts.objects in
+    let s = c.requires.user_value in
+    let hk = c.loop-k-test.true in
+    let hl = c.loop-l-test.true in
+    -- the labels that were read are those whose turn it is, so the place is the next, and it is in the buffer
+    let next : c.place-at.result ≡ c.loop-k.k * n + l.l = c.place-at.ensures
+    ∙ ap₂ (λ (x y : ℕ). x * n + y)
+    (leading-label c.requires.leading.0 hk c.wide-u.ensures.0 c.user_label-ul.ensures)
+    (leading-label c.requires.leading.1 hl c.wide-o.ensures.0 c.object_label-ol.ensures) in
+    let x : Of s.1.0 a.from a.view a.grid.now = record { rows = s.1.1; seen = s.1.2; kept = s.1.3 } in
+    let room : c.loop-k.k * n + l.l < length (lent_in a.width l.bytes l.wide) =
+    omega (arith, (l.invariant.1 _ x).size, (c.loop-k.invariant.1 _ x).size, s.4, digits_lt hk hl) in
+    -- what is put is the entry of the two sets
+    let entry-is : (p : Policy) → Of p a.from a.view a.grid.now → c.entry_of-x.result ≡ entry_of p (at c.wide-u.result c.wide-o.result) =
+    λ p x. c.entry_of-x.ensures p x.kept (c.take_row.ensures.1 p x.rows x.seen.objects) in
     let k = c.loop-k.k in (
       omega arith,
       λ p x. further-count
           (rw (← c.put.ensures) at
-          (further-more (c.loop-l.invariant.1 p x) (next e) (room e)
-          (entry-is e p x
+          (further-more (l.invariant.1 p x) next room
+          (entry-is p x
           ∙ ap₂ (λ (y z : ℕ). entry_of p (at y z))
-          (c.wide-u.ensures.0 ∙ ap (λ (y : ℕ). get_or a.user-leaders.now y 0) (sym (digits_div k h)))
-          (c.wide-o.ensures.0 ∙ ap (λ (y : ℕ). get_or a.object-leaders.now y 0) (sym (digits_mod k h))))))
+          (c.wide-u.ensures.0 ∙ ap (λ (y : ℕ). get_or a.user_leaders.now y 0) (sym (digits_div k hl)))
+          (c.wide-o.ensures.0 ∙ ap (λ (y : ℕ). get_or a.object_leaders.now y 0) (sym (digits_mod k hl))))))
           (omega arith),
       search rules,
       search rules,
@@ -126,11 +123,11 @@ shape_of-wide c = c.loop-k.invariant.3
 
 pub returns : goal.returns
 returns c =
-        let n = c.args.counts in
+    let n = c.args.counts in
     let q : c.loop-k.k ≡ c.args.counts.users = omega (arith, c.loop-k.invariant.0) in
     λ p rows seen kept f h.
     filled-over
     (filled-same (filled-count (c.loop-k.invariant.1 p (record { rows = rows; seen = seen; kept = kept })) (ap (λ (x : ℕ). x * n.objects) q)) (λ i l.
     let r = in_row n.users n.objects i l in
     h _ _ r.0 r.1))
-    c.requires.0.4
+    c.requires.user_value.4

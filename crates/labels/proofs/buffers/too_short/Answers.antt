@@ -3,7 +3,6 @@ use Prim.Native.Nat.{◌≤◌}
 use mathlib.Core.Path.{sym}
 use native.Mathlib.Nat.{mul-le-mul}
 use native.Mathlib.Omega.{arith}
-use Rattle.labels.specs.Compile.{Buffers}
 use Rattle.labels.specs.Inner.Lending.{lent_as}
 use Rattle.labels.proofs.Storing.{users-short, objects-short, table-short}
 use Rattle.labels.proofs.buffers.too_short.Lts as place
@@ -11,17 +10,17 @@ use Rattle.labels.proofs.buffers.too_short.Tie as tie
 use Rattle.labels.proofs.buffers.too_short.Reads as reads
 use Rattle.labels.proofs.buffers.too_short.Goals as goal
 
--- the buffers
-abbrev lent-here : place.Start tie.the-claims reads.Pre reads.Post → Buffers
-lent-here c =
-    let a = c.args in
-    lent_as a.widths a.users.now a.objects.now a.table.now a.wide-users.now a.wide-objects.now a.wide-table.now
-
 pub returns-then-length-view : goal.returns-then-length-view
-returns-then-length-view c = λ p v nu no. sym (users-short p (lent-here c.before.before.before.before.before.before.before.before.before) (rw (c.length.ensures, v.users) at c.if-length-view.true))
+returns-then-length-view c =
+    let a = c.args in
+    let b = lent_as a.widths a.users.now a.objects.now a.table.now a.wide_users.now a.wide_objects.now a.wide_table.now in
+    λ p v nu no. sym (users-short p b (rw (c.length.ensures, v.users) at c.if-length-view.true))
 
 pub returns-then-length-view-2 : goal.returns-then-length-view-2
-returns-then-length-view-2 c = λ p v nu no. sym (objects-short p (lent-here c.before.before.before.before.before.before.before.before.before.before.before.before) (rw (c.length-2.ensures, v.objects) at c.if-length-view-2.true))
+returns-then-length-view-2 c =
+    let a = c.args in
+    let b = lent_as a.widths a.users.now a.objects.now a.table.now a.wide_users.now a.wide_objects.now a.wide_table.now in
+    λ p v nu no. sym (objects-short p b (rw (c.length-2.ensures, v.objects) at c.if-length-view-2.true))
 
 pub overflow_mul-places : goal.overflow_mul-places
 overflow_mul-places c =
@@ -31,6 +30,9 @@ overflow_mul-places c =
     omega (arith, mul-le-mul u o)
 
 pub returns : goal.returns
-returns c = λ p v nu no.
+returns c =
+    let a = c.args in
+    let b = lent_as a.widths a.users.now a.objects.now a.table.now a.wide_users.now a.wide_objects.now a.wide_table.now in
+    λ p v nu no.
     rw (c.length-3.ensures, nu, no)
-    (table-short p (lent-here c.before.before.before.before.before.before.before.before.before.before.before.before.before.before.before) (rw (c.length.ensures, v.users) at c.if-length-view.false) (rw (c.length-2.ensures, v.objects) at c.if-length-view-2.false))
+    (table-short p b (rw (c.length.ensures, v.users) at c.if-length-view.false) (rw (c.length-2.ensures, v.objects) at c.if-length-view-2.false))
