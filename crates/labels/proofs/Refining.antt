@@ -1,6 +1,6 @@
 -- Laws of labels by strips: before any column is looked at all rows are alike; rows that had one label and are alike in
 -- a strip are alike up to its end; and columns are alike where they are in one row of each label.
-use Prim.Native.Nat.{ℕ, zero, suc, ◌+◌, ◌-◌, ◌≤◌, ◌<◌}
+use Prim.Native.Nat.{ℕ, zero, suc, ◌+◌, ◌-◌, ◌<◌}
 use mathlib.Core.Path.{◌≡◌, sym, ◌∙◌}
 use mathlib.Core.Bool.{true}
 use mathlib.Core.List.{List}

@@ -33,7 +33,7 @@ bounds-stack-d c = omega (arith, c.where_granted-d.ensures.0)
 pub returns : goal.returns
 unfolding policy_of side_of
 returns c =
-                let a = c.args in let w = c.where_granted-d in
+    let a = c.args in let w = c.where_granted-d in
     let p = policy_of a.v in
     let x : InBlock p c.with_juniors-users.result c.with_seniors-objects.result 1 0 0 (at a.user a.object) =
     record {

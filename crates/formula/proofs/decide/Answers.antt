@@ -1,6 +1,5 @@
 -- `formula::decide` meets its contract: refused by check 11, or answered.
 use mathlib.Core.Path.{sym, ◌∙◌}
-use borrow.Author.Tests.{not-true, not-false}
 use Rattle.formula.specs.Truth.{at}
 use Rattle.formula.proofs.Answers.{invalid}
 use Rattle.formula.proofs.decide.Goals as goal

@@ -1,6 +1,6 @@
 -- `formula::attributes::starts` meets its contract: after i turns the first i + 1 entries are sums of widths, and
 -- `next` is the last of them.
-use Prim.Native.Nat.{◌+◌, ◌-◌}
+use Prim.Native.Nat.{◌+◌}
 use mathlib.Core.Path.{◌≡◌, refl}
 use native.Mathlib.Omega.{arith}
 use lib.ListN.{length, take, length-set, length-take}
@@ -32,7 +32,7 @@ loop-i-preserved c =
     let a = c.args in let l = c.loop-i in
     let e : c.if-i-n.next ≡ sum (take (l.i + 1) (take a.n a.widths)) =
     elim c.if-i-n.branch [
-      then-i-n w ↦ omega (arith, w.next-is, width-in a.widths a.n l.i w.if-i-n.true)
+      | then-i-n w ↦ omega (arith, w.next-is, width-in a.widths a.n l.i w.if-i-n.true)
       | else-i-n w ↦ omega (arith, w.next-is, width-out a.widths a.n l.i w.if-i-n.false)
     ] in (
       omega arith,

@@ -1,5 +1,5 @@
 -- `formula::blocks::of_side` meets its contract: the blocks before b have the sets of their numbers.
-use Prim.Native.Nat.{◌-◌, ◌<◌}
+use Prim.Native.Nat.{◌<◌}
 use mathlib.Core.Path.{refl}
 use native.Mathlib.Omega.{arith}
 use native.Mathlib.Nat.{not-suc-le-zero}

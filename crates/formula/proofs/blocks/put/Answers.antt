@@ -1,5 +1,4 @@
 -- `formula::blocks::put` meets its contract: the vectors before v have been put, and the other blocks are left.
-use Prim.Native.Nat.{◌-◌}
 use mathlib.Core.Path.{refl, ◌∙◌}
 use native.Mathlib.Omega.{arith}
 use native.Mathlib.Nat.{not-suc-le-zero}

@@ -1,5 +1,4 @@
 -- `formula::blocks::put_over` meets its contract: the vectors before v have been put.
-use Prim.Native.Nat.{◌-◌}
 use mathlib.Core.Path.{◌∙◌}
 use native.Mathlib.Omega.{arith}
 use native.Mathlib.Nat.{not-suc-le-zero}

@@ -2,7 +2,6 @@
 use mathlib.Core.Path.{◌≡◌, refl, ap, ◌∙◌}
 use mathlib.Core.List.{[]}
 use native.Mathlib.Omega.{arith}
-use borrow.Author.Rules.{rules}
 use Rattle.policy.specs.Policy.{Policy, total}
 use Rattle.policy.specs.Value.{side_of}
 use Rattle.policy.specs.declared.value.SideValue.{SideValue}

@@ -1,5 +1,4 @@
 -- `formula::blockwise::copy` meets its contract, number by number.
-use Prim.Native.Nat.{◌-◌}
 use mathlib.Core.Path.{refl}
 use native.Mathlib.Omega.{arith}
 use borrow.Author.Rules.{rules}

@@ -1,5 +1,4 @@
 -- `formula::entries::add_pairs` meets its contract: the pairs before i have been added, and the others are left.
-use Prim.Native.Nat.{◌-◌}
 use mathlib.Core.Path.{◌≡◌, refl, ◌∙◌}
 use mathlib.Core.Bool.{◌&&◌}
 use native.Mathlib.Omega.{arith}

@@ -1,5 +1,4 @@
 -- `formula::entries::clear` meets its contract: the numbers before i are 0.
-use Prim.Native.Nat.{◌-◌}
 use mathlib.Core.Path.{◌≡◌, refl}
 use native.Mathlib.Omega.{arith}
 use native.Mathlib.Nat.{not-suc-le-zero}

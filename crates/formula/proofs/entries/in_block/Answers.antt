@@ -1,5 +1,4 @@
 -- `formula::entries::in_block` meets its contract: the actions before a have their numbers.
-use Prim.Native.Nat.{◌-◌}
 use mathlib.Core.Path.{◌≡◌, refl}
 use native.Mathlib.Omega.{arith}
 use native.Mathlib.Nat.{not-suc-le-zero}

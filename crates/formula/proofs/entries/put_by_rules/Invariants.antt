@@ -1,5 +1,5 @@
 -- `formula::entries::put_by_rules` meets its contract: the numbers say what the rules from place i on say.
-use Prim.Native.Nat.{ℕ, ◌-◌, ◌≤◌, ◌<◌}
+use Prim.Native.Nat.{ℕ, ◌≤◌, ◌<◌}
 use mathlib.Core.Path.{◌≡◌}
 use lib.ListN.{length, take, drop}
 use Rattle.policy.specs.Policy.{Policy}

@@ -1,5 +1,4 @@
 -- `formula::entries::put_granted` meets its contract: by the rules and then, where there are any, by the pairs.
-use Prim.Native.Nat.{◌-◌}
 use mathlib.Core.Path.{◌∙◌}
 use mathlib.Core.Bool.{◌&&◌}
 use native.Mathlib.Omega.{arith}
@@ -27,22 +26,22 @@ add_pairs-requires c =
 
 pub shape_of-granted-then-pairs-ne0 : goal.shape_of-granted-then-pairs-ne0
 shape_of-granted-then-pairs-ne0 c =
-        c.add_pairs.ensures.0 ∙ c.put_rules.ensures.0 ∙ c.clear.ensures.0
+    c.add_pairs.ensures.0 ∙ c.put_rules.ensures.0 ∙ c.clear.ensures.0
 
 pub returns-then-pairs-ne0 : goal.returns-then-pairs-ne0
 returns-then-pairs-ne0 c =
-        let x = c.put_rules.ensures in let y = c.add_pairs.ensures in (
+    let x = c.put_rules.ensures in let y = c.add_pairs.ensures in (
       y.0 ∙ x.0 ∙ c.clear.ensures.0,
       λ b h p k s t g z a l. y.1 b h p k s z a l ∙ rw (x.1 b h p k s t z a l) (grants-stored p s c.args.grants a g),
     )
 
 pub shape_of-granted-else-pairs-ne0 : goal.shape_of-granted-else-pairs-ne0
 shape_of-granted-else-pairs-ne0 c =
-        c.put_rules.ensures.0 ∙ c.clear.ensures.0
+    c.put_rules.ensures.0 ∙ c.clear.ensures.0
 
 pub returns-else-pairs-ne0 : goal.returns-else-pairs-ne0
 returns-else-pairs-ne0 c =
-        let x = c.put_rules.ensures in let r = c.args in (
+    let x = c.put_rules.ensures in let r = c.args in (
       x.0 ∙ c.clear.ensures.0,
       λ b h p k s t g z a l.
           x.1 b h p k s t z a l ∙ none-stored _ (λ y. eqb y.action a && pair_holds p s y) r.grants.pairs c.if-pairs-ne0.false

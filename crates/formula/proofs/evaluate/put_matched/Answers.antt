@@ -1,6 +1,6 @@
 -- `formula::evaluate::put_matched` meets its contract: attributes of equal width are compared place by place from their
 -- first values.
-use Prim.Native.Nat.{ℕ, ◌-◌}
+use Prim.Native.Nat.{ℕ}
 use mathlib.Core.Path.{◌≡◌, sym, ap, ◌∙◌}
 use native.Mathlib.Omega.{arith}
 use borrow.Author.Tests.{eq-eqb, ne_eqb}

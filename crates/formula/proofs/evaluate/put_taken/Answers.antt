@@ -1,6 +1,6 @@
 -- `formula::evaluate::put_taken` meets its contract: there is a vector for each value that a set may have, and no set has
 -- another.
-use Prim.Native.Nat.{ℕ, ◌-◌}
+use Prim.Native.Nat.{ℕ}
 use mathlib.Core.Path.{sym, ap, ◌∙◌}
 use native.Mathlib.Omega.{arith}
 use Rattle.sets.specs.Set.{has}

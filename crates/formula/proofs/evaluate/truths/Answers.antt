@@ -1,6 +1,6 @@
 -- `formula::evaluate::truths` meets its contract: in every lane the stack is what running the first i words leaves on a
 -- stack on which false lies.
-use Prim.Native.Nat.{ℕ, ◌-◌}
+use Prim.Native.Nat.{ℕ}
 use mathlib.Core.Path.{◌≡◌, refl, sym, ap, ◌∙◌}
 use mathlib.Core.Bool.{Bool}
 use mathlib.Core.List.{[], ◌∷◌}

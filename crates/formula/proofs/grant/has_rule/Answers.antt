@@ -1,5 +1,4 @@
 -- `formula::grant::has_rule` meets its contract: the rules before i are none of the action's.
-use Prim.Native.Nat.{◌-◌}
 use mathlib.Core.Path.{◌≡◌, refl, ◌∙◌}
 use native.Mathlib.Omega.{arith}
 use lib.ListN.{length}
@@ -20,12 +19,12 @@ loop-i-init c =
 pub returns-then-x-action : goal.returns-then-x-action
 unfolding rules_of
 returns-then-x-action c =
-    let l = c.loop-i in     let rs = c.args.rules in
+    let l = c.loop-i in let rs = c.args.rules in
     rule-there rs.entries rs.count l.i c.args.action (omega arith) l.invariant.1 c.if-x-action.true ∙ l.invariant.2
 
 pub loop-i-preserved : goal.loop-i-preserved
 loop-i-preserved c =
-    let l = c.loop-i in     let rs = c.args.rules in (
+    let l = c.loop-i in let rs = c.args.rules in (
       omega arith,
       l.invariant.1,
       rule-passed rs.entries rs.count l.i c.args.action (omega arith) l.invariant.1 c.if-x-action.false ∙ l.invariant.2,

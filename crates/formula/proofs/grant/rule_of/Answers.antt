@@ -1,6 +1,6 @@
 -- `formula::grant::rule_of` meets its contract: what all rules say of the action is what the rules from i on
 -- say of it.
-use Prim.Native.Nat.{◌-◌, ◌<◌}
+use Prim.Native.Nat.{◌<◌}
 use mathlib.Core.Path.{◌≡◌, refl, ◌∙◌}
 use native.Mathlib.Omega.{arith}
 use lib.ListN.{length}

@@ -1,5 +1,4 @@
 -- `formula::grant::where_granted` meets its contract: by its rule and then, where there are any, by its pairs.
-use Prim.Native.Nat.{◌-◌}
 use mathlib.Core.Path.{sym, ap, ◌∙◌}
 use mathlib.Core.Bool.{Bool, ◌||◌}
 use native.Mathlib.Omega.{arith}

@@ -1,5 +1,5 @@
 -- `formula::pairs::add_paired` meets its contract: the place has what it had, and the user values before v.
-use Prim.Native.Nat.{ℕ, ◌-◌}
+use Prim.Native.Nat.{ℕ}
 use mathlib.Core.Path.{◌≡◌, ap, ◌∙◌}
 use mathlib.Core.Bool.{Bool, ◌&&◌}
 use mathlib.Core.Bool.{and-false}
@@ -27,14 +27,14 @@ loop-v-preserved c =
     let l = c.loop-v in let a = c.args in (
       omega arith,
       elim c.if-set-ne0.branch [
-        then-set-ne0 t ↦
-          rw t.to-is (placed_again l.invariant.1
-          (placed_as t.add_partners.ensures (λ b y h e p k s x.
-          e p k s x ∙ some_more (λ u. holds p s (User u) && partner_held p s (get_or a.paired u 0)) l.v (has (in_block a.to.now a.n b a.i) k) (l.invariant.1.here b h p k s x))))
+        | then-set-ne0 t ↦
+            rw t.to-is (placed_again l.invariant.1
+            (placed_as t.add_partners.ensures (λ b y h e p k s x.
+            e p k s x ∙ some_more (λ u. holds p s (User u) && partner_held p s (get_or a.paired u 0)) l.v (has (in_block a.to.now a.n b a.i) k) (l.invariant.1.here b h p k s x))))
         | else-set-ne0 t ↦
-          rw t.to-is (placed_as l.invariant.1 (λ b y h e p k s x.
-          e p k s x ∙ some-passed (λ u. holds p s (User u) && partner_held p s (get_or a.paired u 0)) l.v (has (in_block a.to.now a.n b a.i) k)
-          (ap (λ (m : ℕ). holds p s (User l.v) && partner_held p s m) t.if-set-ne0.false ∙ ap (λ (z : Bool). holds p s (User l.v) && z) (none-held p s) ∙ and-false (holds p s (User l.v)))))
+            rw t.to-is (placed_as l.invariant.1 (λ b y h e p k s x.
+            e p k s x ∙ some-passed (λ u. holds p s (User u) && partner_held p s (get_or a.paired u 0)) l.v (has (in_block a.to.now a.n b a.i) k)
+            (ap (λ (m : ℕ). holds p s (User l.v) && partner_held p s m) t.if-set-ne0.false ∙ ap (λ (z : Bool). holds p s (User l.v) && z) (none-held p s) ∙ and-false (holds p s (User l.v)))))
       ],
     )
 

@@ -1,10 +1,8 @@
 -- `formula::pairs::add_partners` meets its contract: the place has what it had, and the object values before w.
-use Prim.Native.Nat.{◌-◌}
 use mathlib.Core.Path.{◌≡◌, sym, ◌∙◌}
 use native.Mathlib.Omega.{arith}
 use Rattle.sets.specs.Set.{has}
 use Rattle.policy.specs.Limits.{most_values}
-use Rattle.formula.specs.Truth.{holds}
 use Rattle.formula.specs.Inner.Lane.{in_block}
 use Rattle.formula.proofs.Placing.{placed_same, placed_again, placed_as}
 use Rattle.formula.proofs.Pairing.{partner-none, partner-held, partner-passed}
@@ -22,13 +20,13 @@ loop-w-preserved c =
     let l = c.loop-w in let a = c.args in (
       omega arith,
       elim c.if-holds.branch [
-        then-holds t ↦
-          rw t.to-is (placed_again l.invariant.1
-          (placed_as t.add_held.ensures (λ b y h e p k s x.
-          e p k s x ∙ partner-held p s a.v a.set l.w (has (in_block a.to.now a.n b a.i) k) (sym c.holds.ensures ∙ t.if-holds.true) (l.invariant.1.here b h p k s x))))
+        | then-holds t ↦
+            rw t.to-is (placed_again l.invariant.1
+            (placed_as t.add_held.ensures (λ b y h e p k s x.
+            e p k s x ∙ partner-held p s a.v a.set l.w (has (in_block a.to.now a.n b a.i) k) (sym c.holds.ensures ∙ t.if-holds.true) (l.invariant.1.here b h p k s x))))
         | else-holds t ↦
-          rw t.to-is (placed_as l.invariant.1 (λ b y h e p k s x.
-          e p k s x ∙ partner-passed p s a.v a.set l.w (has (in_block a.to.now a.n b a.i) k) (sym c.holds.ensures ∙ t.if-holds.false)))
+            rw t.to-is (placed_as l.invariant.1 (λ b y h e p k s x.
+            e p k s x ∙ partner-passed p s a.v a.set l.w (has (in_block a.to.now a.n b a.i) k) (sym c.holds.ensures ∙ t.if-holds.false)))
       ],
     )
 

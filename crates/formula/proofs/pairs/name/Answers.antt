@@ -1,5 +1,4 @@
 -- `formula::pairs::name` meets its contract: the pairs before i are none of the action's.
-use Prim.Native.Nat.{◌-◌}
 use mathlib.Core.Path.{◌≡◌, refl, sym, ◌∙◌}
 use native.Mathlib.Omega.{arith}
 use lib.ListN.{length}
@@ -21,12 +20,12 @@ loop-i-init c =
 pub returns-then-x-action : goal.returns-then-x-action
 unfolding pairs_of
 returns-then-x-action c =
-    let l = c.loop-i in     let xs = c.args.pairs in let a = c.args.action in
+    let l = c.loop-i in let xs = c.args.pairs in let a = c.args.action in
     sym (any-hit (is a) (pair 0 0 0) xs.entries xs.count l.i (omega arith) l.invariant.1 (eq-eqb _ a c.if-x-action.true)) ∙ l.invariant.2
 
 pub loop-i-preserved : goal.loop-i-preserved
 loop-i-preserved c =
-    let l = c.loop-i in     let xs = c.args.pairs in let a = c.args.action in (
+    let l = c.loop-i in let xs = c.args.pairs in let a = c.args.action in (
       omega arith,
       l.invariant.1,
       sym (any-miss (is a) (pair 0 0 0) xs.entries xs.count l.i (omega arith) l.invariant.1 (ne_eqb _ a c.if-x-action.false)) ∙ l.invariant.2,
@@ -35,5 +34,5 @@ loop-i-preserved c =
 pub returns : goal.returns
 unfolding pairs_of
 returns c =
-    let l = c.loop-i in     let xs = c.args.pairs in let a = c.args.action in
+    let l = c.loop-i in let xs = c.args.pairs in let a = c.args.action in
     sym (any-end (is a) (pair 0 0 0) xs.entries xs.count l.i (omega arith)) ∙ l.invariant.2

@@ -5,7 +5,6 @@ use mathlib.Core.Bool.{Bool}
 use lib.Dec.{eqb}
 use lib.ListN.{length, take, drop}
 use Rattle.basis.specs.Lists.{any}
-use Rattle.policy.specs.Policy.{pair}
 use Rattle.policy.specs.declared.value.Pair.{Pair}
 use Rattle.formula.proofs.pairs.name.Given as goal
 

@@ -1,5 +1,4 @@
 -- `formula::pairs::none_paired` meets its contract: r is 0 exactly where the sets before v are.
-use Prim.Native.Nat.{◌-◌}
 use mathlib.Core.Path.{◌≡◌, refl, ap, ◌∙◌}
 use mathlib.Core.Bool.{Bool, ◌&&◌}
 use native.Mathlib.Numerals.{add-one}

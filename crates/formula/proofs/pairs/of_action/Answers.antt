@@ -1,5 +1,5 @@
 -- `formula::pairs::of_action` meets its contract: r has the action's pairs before i, and the others are left.
-use Prim.Native.Nat.{ℕ, ◌-◌, ◌*◌, ◌%◌, ◌^◌, ◌<◌}
+use Prim.Native.Nat.{ℕ, ◌*◌, ◌%◌, ◌^◌, ◌<◌}
 use mathlib.Core.Path.{◌≡◌, refl, ◌∙◌}
 use native.Mathlib.Nat.{one-mul}
 use native.Mathlib.Omega.{arith}
@@ -20,7 +20,7 @@ use Rattle.formula.proofs.pairs.of_action.Goals as goal
 use Rattle.formula.proofs.pairs.of_action.Goals.{then-pair-action, else-pair-action}
 
 -- the pair at place i fits
-placed : (c : place.After-struct_known reads.Pre reads.Post goal.the-invariant-loop-i goal.the-decreases-loop-i) → 
+placed : (c : place.After-struct_known reads.Pre reads.Post goal.the-invariant-loop-i goal.the-decreases-loop-i) →
     PairFits c.requires.0 (get_or c.args.pairs.entries c.loop-i.i (pair 0 0 0))
 placed c =
     let l = c.loop-i in
@@ -46,9 +46,9 @@ bounds-r-v-then-pair-action c = omega (arith, (placed c.before.before.before).us
 
 pub loop-i-preserved : goal.loop-i-preserved
 loop-i-preserved c =
-    let l = c.loop-i in     let xs = c.args.pairs in let h : l.i < xs.count = omega arith in let i = l.invariant in let f = placed c.before in
+    let l = c.loop-i in let xs = c.args.pairs in let h : l.i < xs.count = omega arith in let i = l.invariant in let f = placed c.before in
     elim c.if-pair-action.branch [
-      then-pair-action y ↦ rw y.r-is (omega arith, i.1, simp length-set i.2, paired_own c.args.action xs.entries xs.count l.i h i.1 l.r i.3 y.if-pair-action.true (omega (arith, f.user, i.2)) _ (shifted _ f.object))
+      | then-pair-action y ↦ rw y.r-is (omega arith, i.1, simp length-set i.2, paired_own c.args.action xs.entries xs.count l.i h i.1 l.r i.3 y.if-pair-action.true (omega (arith, f.user, i.2)) _ (shifted _ f.object))
       | else-pair-action y ↦ rw y.r-is (omega arith, i.1, i.2, paired_other c.args.action xs.entries xs.count l.i h i.1 l.r i.3 y.if-pair-action.false)
     ]
 

@@ -1,5 +1,5 @@
 -- `formula::side::part` meets its contract: after v turns both halves have the vectors of the values below v.
-use Prim.Native.Nat.{◌+◌, ◌*◌, ◌-◌, ◌/◌, ◌%◌, ◌^◌}
+use Prim.Native.Nat.{◌+◌, ◌*◌, ◌/◌, ◌%◌, ◌^◌}
 use mathlib.Core.Path.{refl}
 use native.Mathlib.Omega.{arith}
 use Rattle.formula.specs.Inner.Lane.{lanes}

@@ -1,5 +1,4 @@
 -- `formula::side::spread` meets its contract: after v turns both halves have the vectors of the values below v.
-use Prim.Native.Nat.{◌-◌}
 use mathlib.Core.Path.{refl, ◌∙◌}
 use native.Mathlib.Omega.{arith}
 use Rattle.formula.proofs.Vectors.{filled_none, filled_next, filled-plain}

@@ -1,5 +1,5 @@
 -- `formula::side::with_juniors` meets its contract: in every lane r is what the lines from i on make of the set.
-use Prim.Native.Nat.{◌-◌, ◌≤◌}
+use Prim.Native.Nat.{◌≤◌}
 use lib.ListN.{length, take, drop}
 use Rattle.seniority.proofs.Laws.{lowered}
 use Rattle.formula.proofs.Vectors.{Grown}

@@ -1,6 +1,6 @@
 -- `formula::side::with_seniors` meets its contract: in every lane what the lines from i on make of r is what all of
 -- them make of the set.
-use Prim.Native.Nat.{ℕ, ◌-◌, ◌≤◌}
+use Prim.Native.Nat.{ℕ, ◌≤◌}
 use mathlib.Core.Path.{◌≡◌, refl}
 use native.Mathlib.Omega.{arith}
 use lib.ListN.{length, get_or, take, drop_of_length-le}

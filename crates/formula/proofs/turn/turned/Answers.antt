@@ -15,5 +15,5 @@ swapped-requires c = (lit< tt, refl)
 
 pub returns : goal.returns
 returns c i j =
-        turned_bit c.args.square c.swapped-ones.result c.swapped-twos.result c.swapped.result
+    turned_bit c.args.square c.swapped-ones.result c.swapped-twos.result c.swapped.result
     c.swapped-ones.ensures c.swapped-twos.ensures c.swapped.ensures i j

@@ -1,7 +1,5 @@
 -- `labels::buffers::take_row` meets its contract.
-use mathlib.Core.Bool.{false}
 use native.Mathlib.Omega.{arith}
-use borrow.Author.Tests.{not-false}
 use Rattle.basis.proofs.Bools.{never}
 use Rattle.labels.proofs.buffers.take_row.Goals as goal
 

@@ -5,9 +5,6 @@ use native.Mathlib.Nat.{mul-le-mul}
 use native.Mathlib.Omega.{arith}
 use Rattle.labels.specs.Inner.Lending.{lent_as}
 use Rattle.labels.proofs.Storing.{users-short, objects-short, table-short}
-use Rattle.labels.proofs.buffers.too_short.Lts as place
-use Rattle.labels.proofs.buffers.too_short.Tie as tie
-use Rattle.labels.proofs.buffers.too_short.Reads as reads
 use Rattle.labels.proofs.buffers.too_short.Goals as goal
 
 pub returns-then-length-view : goal.returns-then-length-view

@@ -1,6 +1,5 @@
 -- `labels::rows::first_unlike` meets its contract: the columns passed are alike, and the first that is not is the
 -- answer.
-use Prim.Native.Nat.{◌-◌}
 use mathlib.Core.Path.{◌≡◌, sym}
 use native.Mathlib.Omega.{arith}
 use borrow.Author.Count.{below_none, below_more}
@@ -13,7 +12,7 @@ loop-o-init c = (search rules, below_none _)
 
 pub returns-then-row-o : goal.returns-then-row-o
 returns-then-row-o c =
-        sym (unlike-is _ _ _ _ (omega arith) c.loop-o.invariant.1 (λ _. c.if-row-o.true))
+    sym (unlike-is _ _ _ _ (omega arith) c.loop-o.invariant.1 (λ _. c.if-row-o.true))
 
 pub loop-o-preserved : goal.loop-o-preserved
 loop-o-preserved c = (omega arith, below_more _ _ c.loop-o.invariant.1 c.if-row-o.false)

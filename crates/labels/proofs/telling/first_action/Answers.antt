@@ -1,5 +1,4 @@
 -- `labels::telling::first_action` meets its contract: the actions passed are in both entries or in neither.
-use Prim.Native.Nat.{◌-◌}
 use native.Mathlib.Omega.{arith}
 use borrow.Author.Count.{below_none, below_more}
 use borrow.Author.Rules.{rules}

@@ -1,5 +1,5 @@
 -- `labels::whole::put_lanes` meets its contract: each turn puts the entries of eight lanes more.
-use Prim.Native.Nat.{◌+◌, ◌*◌, ◌-◌}
+use Prim.Native.Nat.{◌+◌, ◌*◌}
 use mathlib.Core.Path.{◌≡◌, refl, ap, ◌∙◌}
 use native.Mathlib.Omega.{arith}
 use Rattle.formula.specs.Inner.Group.{group_size}
