@@ -1,4 +1,4 @@
-//! Links the engine's archive, which `rt staticlib embed` writes.
+//! Links the engine's archive, which `sh build.sh` writes.
 
 use std::path::Path;
 
@@ -8,7 +8,7 @@ fn main() {
     println!("cargo:rerun-if-changed={}", archive.display());
     assert!(
         archive.exists(),
-        "no {}: run `rt staticlib embed` at the top of the repository",
+        "no {}: run `sh build.sh` at the top of the repository",
         archive.display()
     );
     println!("cargo:rustc-link-search=native={}", folder.display());

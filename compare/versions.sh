@@ -1,6 +1,6 @@
 #!/usr/bin/env bash
 # The times of two versions of the engine in one table: versions.sh BEFORE AFTER [LINKS]. BEFORE and AFTER are the tops
-# of two checkouts, in each of which `rt staticlib embed` has written the archive.
+# of two checkouts, in each of which `sh build.sh` has written the archive.
 #
 # Where code lies moves a short call by more than a tenth. So the programs are linked several times, each time with the
 # functions in another order, and the table has the middle ratio. All of it runs on one processor, by turns, so that

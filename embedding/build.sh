@@ -4,7 +4,7 @@
 # measure.c is run by hand, for docs/EMBEDDING.md.
 set -eu
 cd "$(dirname "$0")/.."
-[ -e target/staticlib/libembed.a ] || rt staticlib embed
+[ -e target/staticlib/libembed.a ] || sh build.sh
 mkdir -p target/embedding
 for program in example layout limits measure; do
   gcc -std=c99 -O2 -Wall -Wextra -Werror -pthread -I embedding "embedding/$program.c" target/staticlib/libembed.a \
