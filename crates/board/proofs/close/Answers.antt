@@ -5,13 +5,6 @@ use Rattle.board.specs.Inner.{refusal_of, lower}
 use Rattle.board.proofs.Settled.{stopped, ready, close_ruled, settled-near, closed-again}
 use Rattle.board.proofs.close.Goals as goal
 
--- the ruling is of the call's checks
-ruled : (c : goal.After-of_close-ruling) → (let a = c.args in refusal_of c.of_close-ruling.result ≡ lower a.policy (closes a.user a.session) a.board)
-ruled c =
-    let a = c.args in let x = c.at-entry in let r = c.set_of-found in
-    close_ruled a.policy a.board c.fits.result c.fits.ensures (rw c.if-not-fits.false)
-    a.user a.session x.result x.ensures c.of_close-ruling.result r.result r.ensures c.of_close-ruling.ensures
-
 pub returns-then-not-fits : goal.returns-then-not-fits
 returns-then-not-fits c l = search stopped
 
@@ -22,11 +15,19 @@ set_of-found-requires c =
 
 pub settle-requires : goal.settle-requires
 settle-requires c =
-    let a = c.args in
-    settled-near a.policy (closes a.user a.session) a.board _ (ruled c.before)
+    let a = c.args in let x = c.at-entry in let r = c.set_of-found in
+    -- the ruling is of the call's checks
+    let ruled : refusal_of c.of_close-ruling.result ≡ lower a.policy (closes a.user a.session) a.board =
+    close_ruled a.policy a.board c.fits.result c.fits.ensures (rw c.if-not-fits.false)
+    a.user a.session x.result x.ensures c.of_close-ruling.result r.result r.ensures c.of_close-ruling.ensures in
+    settled-near a.policy (closes a.user a.session) a.board _ ruled
 
 pub returns : goal.returns
 returns c l =
-    let a = c.args in
+    let a = c.args in let x = c.at-entry in let r = c.set_of-found in
+    -- the ruling is of the call's checks
+    let ruled : refusal_of c.of_close-ruling.result ≡ lower a.policy (closes a.user a.session) a.board =
+    close_ruled a.policy a.board c.fits.result c.fits.ensures (rw c.if-not-fits.false)
+    a.user a.session x.result x.ensures c.of_close-ruling.result r.result r.ensures c.of_close-ruling.ensures in
     c.settle.ensures
-    ∙ closed-again l a.policy a.board a.user a.session _ (ruled c.before.before) c.closed-gone.result c.closed-gone.ensures
+    ∙ closed-again l a.policy a.board a.user a.session _ ruled c.closed-gone.result c.closed-gone.ensures

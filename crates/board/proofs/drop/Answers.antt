@@ -5,13 +5,6 @@ use Rattle.board.specs.Inner.{refusal_of, lower}
 use Rattle.board.proofs.Settled.{stopped, ready, drop-ruled, settled-near, dropped}
 use Rattle.board.proofs.drop.Goals as goal
 
--- the ruling is of the call's checks
-ruled : (c : goal.After-of_drop-ruling) → (let a = c.args in refusal_of c.of_drop-ruling.result ≡ lower a.policy (drops a.user a.session a.set) a.board)
-ruled c =
-    let a = c.args in let x = c.at-entry in let r = c.of-reach in
-    drop-ruled a.policy a.board c.fits.result c.fits.ensures (rw c.if-not-fits.false)
-    a.user a.session x.result x.ensures c.of_drop-ruling.result r.result r.ensures a.set c.of_drop-ruling.ensures
-
 pub returns-then-not-fits : goal.returns-then-not-fits
 returns-then-not-fits c l = search stopped
 
@@ -20,11 +13,20 @@ of-reach-requires c = search ready
 
 pub settle-requires : goal.settle-requires
 settle-requires c =
-    let a = c.args in
-    settled-near a.policy (drops a.user a.session a.set) a.board _ (ruled c.before)
+    let a = c.args in let x = c.at-entry in let r = c.of-reach in
+    -- the ruling is of the call's checks
+    let ruled : refusal_of c.of_drop-ruling.result ≡ lower a.policy (drops a.user a.session a.set) a.board =
+    drop-ruled a.policy a.board c.fits.result c.fits.ensures (rw c.if-not-fits.false)
+    a.user a.session x.result x.ensures c.of_drop-ruling.result r.result r.ensures a.set c.of_drop-ruling.ensures in
+    settled-near a.policy (drops a.user a.session a.set) a.board _ ruled
 
 pub returns : goal.returns
 returns c l =
-    let a = c.args in let x = c.at-entry in let h = c.minus-held in
+    let a = c.args in let x = c.at-entry in let r = c.of-reach in
+    -- the ruling is of the call's checks
+    let ruled : refusal_of c.of_drop-ruling.result ≡ lower a.policy (drops a.user a.session a.set) a.board =
+    drop-ruled a.policy a.board c.fits.result c.fits.ensures (rw c.if-not-fits.false)
+    a.user a.session x.result x.ensures c.of_drop-ruling.result r.result r.ensures a.set c.of_drop-ruling.ensures in
+    let h = c.minus-held in
     c.settle.ensures
-    ∙ dropped l a.policy a.board a.user a.session _ a.set x.result x.ensures h.result (ruled c.before.before) h.ensures
+    ∙ dropped l a.policy a.board a.user a.session _ a.set x.result x.ensures h.result ruled h.ensures

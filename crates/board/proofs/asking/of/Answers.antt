@@ -12,14 +12,14 @@ returns-then-not-own_widths c l e =
 pub returns-then-not-fits : goal.returns-then-not-fits
 returns-then-not-fits c l e =
     let a = c.args in
-    stopped a.policy a.board c.fits.result c.fits.ensures l _ c.if-not-fits.true _ refl
+    stopped a.policy a.board c.fits.result c.fits.ensures l _ (rw c.if-not-fits.true) _ refl
 
 pub ask-requires : goal.ask-requires
 ask-requires c = search objects-ready
 
 pub returns : goal.returns
 returns c l e =
-            let a = c.args in
+    let a = c.args in
     asked-step a.policy l a.board a.session a.action a.object c.own_widths.result (rw e c.own_widths.ensures) (rw c.if-not-own_widths.false)
     c.fits.result c.fits.ensures (rw c.if-not-fits.false) c.actions-actions.result c.actions-actions.ensures
     c.ask.result c.ask.ensures _ refl

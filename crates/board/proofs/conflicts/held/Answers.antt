@@ -1,5 +1,5 @@
 -- `board::conflicts::held` meets its contract: the places before place i have what their sessions hold.
-use Prim.Native.Nat.{ℕ, ◌-◌}
+use Prim.Native.Nat.{ℕ}
 use mathlib.Core.Path.{◌≡◌, sym, ◌∙◌}
 use native.Mathlib.Omega.{arith}
 use lib.ListN.{length, length-replicate}
@@ -10,15 +10,17 @@ use Rattle.policy.specs.Limits.{session_numbers}
 use Rattle.board.specs.Board.{closed}
 use Rattle.board.proofs.conflicts.held.Goals as goal
 
-size : (c : goal.Start) → length c.args.sessions ≡ session_numbers
-size c = search (rules, long)
-
 pub loop-i-init : goal.loop-i-init
-loop-i-init c = mapped_none (length-replicate {A = ℕ} session_numbers 0 ∙ sym (size c))
+loop-i-init c =
+    let size : length c.args.sessions ≡ session_numbers = search (rules, long) in
+    mapped_none (length-replicate {A = ℕ} session_numbers 0 ∙ sym size)
 
 pub loop-i-preserved : goal.loop-i-preserved
 loop-i-preserved c =
-        mapped_more c.loop-i.invariant closed (omega (arith, size l.before, c.loop-i-test.true)) c.held_by.ensures
+    let size : length c.args.sessions ≡ session_numbers = search (rules, long) in
+    mapped_more c.loop-i.invariant closed (omega (arith, c.loop-i-test.true)) c.held_by.ensures
 
 pub returns : goal.returns
-returns c = mapped_all c.loop-i.invariant (omega (arith, size c.before.before, c.loop-i-test.false))
+returns c =
+    let size : length c.args.sessions ≡ session_numbers = search (rules, long) in
+    mapped_all c.loop-i.invariant (omega (arith, c.loop-i-test.false))

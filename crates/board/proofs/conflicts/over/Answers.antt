@@ -1,5 +1,5 @@
 -- `board::conflicts::over` meets its contract: no conflict before place i is exceeded.
-use Prim.Native.Nat.{◌≤◌, ◌-◌}
+use Prim.Native.Nat.{◌≤◌}
 use mathlib.Core.Path.{◌≡◌, refl, sym, ◌∙◌}
 use native.Mathlib.Omega.{arith}
 use lib.ListN.{length}
@@ -11,12 +11,6 @@ use Rattle.policy.specs.Value.{conflict_places, conflicts_of}
 use Rattle.policy.specs.declared.value.Conflict.{Conflict}
 use Rattle.board.specs.Inner.{exceeded, over}
 use Rattle.board.proofs.conflicts.over.Goals as goal
-
-size : (c : goal.Start) → length c.args.conflicts.entries ≡ conflict_places
-size c = search (rules, long)
-
-fits : (c : goal.Start) → c.args.conflicts.count ≤ length c.args.conflicts.entries
-fits c = omega (arith, size c, c.requires)
 
 pub loop-i-init : goal.loop-i-init
 loop-i-init c = (omega arith, refl)
@@ -30,12 +24,16 @@ bounds-entries-i c = omega (arith, c.requires)
 pub returns-then-exceeded : goal.returns-then-exceeded
 unfolding conflicts_of over
 returns-then-exceeded c =
-        sym (c.loop-i.invariant.1 ∙ any-hit (λ (x : Conflict). exceeded x _) (conflict 0 0) _ _ _ c.loop-i-test.true (fits l.before.before.before) (sym c.exceeded.ensures ∙ c.if-exceeded.true))
+    let size : length c.args.conflicts.entries ≡ conflict_places = search (rules, long) in
+    let fits : c.args.conflicts.count ≤ length c.args.conflicts.entries = omega (arith, c.requires) in
+    sym (c.loop-i.invariant.1 ∙ any-hit (λ (x : Conflict). exceeded x _) (conflict 0 0) _ _ _ c.loop-i-test.true fits (sym c.exceeded.ensures ∙ c.if-exceeded.true))
 
 pub loop-i-preserved : goal.loop-i-preserved
 unfolding over
 loop-i-preserved c =
-        (omega arith, c.loop-i.invariant.1 ∙ any-miss (λ (x : Conflict). exceeded x _) (conflict 0 0) _ _ _ c.loop-i-test.true (fits l.before.before.before) (sym c.exceeded.ensures ∙ c.if-exceeded.false))
+    let size : length c.args.conflicts.entries ≡ conflict_places = search (rules, long) in
+    let fits : c.args.conflicts.count ≤ length c.args.conflicts.entries = omega (arith, c.requires) in
+    (omega arith, c.loop-i.invariant.1 ∙ any-miss (λ (x : Conflict). exceeded x _) (conflict 0 0) _ _ _ c.loop-i-test.true fits (sym c.exceeded.ensures ∙ c.if-exceeded.false))
 
 pub returns : goal.returns
 unfolding conflicts_of over

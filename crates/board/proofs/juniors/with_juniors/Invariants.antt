@@ -1,6 +1,6 @@
 -- `board::juniors::with_juniors` meets its contract: r is what the lines from i on make of s.
 use mathlib.Core.Path.{◌≡◌}
-use Prim.Native.Nat.{◌≤◌, ◌-◌}
+use Prim.Native.Nat.{◌≤◌}
 use lib.ListN.{length, take, drop}
 use Rattle.seniority.proofs.Laws.{lowered}
 use Rattle.board.proofs.juniors.with_juniors.Given as goal
