@@ -11,14 +11,14 @@ use Rattle.report.proofs.chunks.first_line.Goals as goal
 
 pub count_labels-counts-requires : goal.count_labels-counts-requires
 count_labels-counts-requires c =
-        read-valid c.requires.0 c.requires.1 c.in-Accepted.is
+    read-valid c.requires.0 c.requires.1 c.in-Accepted.is
 
 pub labels_line-to-requires : goal.labels_line-to-requires
 labels_line-to-requires c = omega (arith, c.blank-bytes.ensures)
 
 pub overflow_cast-line : goal.overflow_cast-line
 overflow_cast-line c =
-        omega (arith, read-line c.requires.0 c.requires.1 c.in-Refused.is)
+    omega (arith, read-line c.requires.0 c.requires.1 c.in-Refused.is)
 
 pub refusal_line-to-requires : goal.refusal_line-to-requires
 refusal_line-to-requires c = omega (arith, c.blank-bytes.ensures)
@@ -35,9 +35,9 @@ returns-in-Accepted c =
 pub returns-in-Refused : goal.returns-in-Refused
 returns-in-Refused c =
     let y = c.refusal_line-to.ensures in
-    let v = c.verdict-1 in (
+    let v = c.in-Refused.is in (
       held_fits y c.blank-bytes.ensures,
       λ t x.
           held-put y
-          ∙ ap ended (ap (λ (k : ℕ). refusal_line k v.given.0.1.0) c.number_of.ensures ∙ refused-first (read_text t) x v.given.1),
+          ∙ ap ended (ap (λ (k : ℕ). refusal_line k c.in-Refused.line) c.number_of.ensures ∙ refused-first (read_text t) x v),
     )

@@ -22,7 +22,7 @@ pub returns-then-is_over : goal.returns-then-is_over
 returns-then-is_over c =
     let i = c.loop-at.invariant in
     let a = answer-over i.0 (sym c.is_over.ensures ∙ c.if-is_over.true) in
-    ((λ left l. (a left l).count), ((λ left l. (a left l).buffer), ((λ left l. (a left l).next), i.3)))
+    record { by_index = λ left l. (a left l).count; by_index_2 = λ left l. (a left l).buffer; by_index_3 = λ left l. (a left l).next; next_bound = i.3 }
 
 pub step-s-requires : goal.step-s-requires
 step-s-requires c =
@@ -32,7 +32,7 @@ step-s-requires c =
 pub overflow_add-at : goal.overflow_add-at
 overflow_add-at c =
     let l = c.loop-at in let i = l.invariant in let y = i.0 i.1.0 i.1.1 in
-    omega (arith, handed-sum y (c.step-s.ensures.0 i.1.0 y.stands), put-long y.put, c.well-formed)
+    omega (arith, handed-sum y (c.step-s.ensures.0 i.1.0 y.stands), put-long y.put, c.well_formed)
 
 pub loop-at-smaller : goal.loop-at-smaller
 loop-at-smaller c = c.step-s.ensures.1
@@ -53,4 +53,4 @@ pub returns : goal.returns
 returns c =
     let i = c.loop-at.invariant in
     let a = answer-full i.0 c.loop-at-test.false in
-    ((λ left l. (a left l).count), ((λ left l. (a left l).buffer), ((λ left l. (a left l).next), i.3)))
+    record { by_index = λ left l. (a left l).count; by_index_2 = λ left l. (a left l).buffer; by_index_3 = λ left l. (a left l).next; next_bound = i.3 }

@@ -7,15 +7,15 @@ use Rattle.report.proofs.cursor.hand_held.Goals as goal
 
 pub overflow_add-end : goal.overflow_add-end
 overflow_add-end c =
-        omega (arith, c.least.ensures, c.requires.0.1.held.high, c.requires.0.1.held.long)
+    omega (arith, c.least.ensures, c.requires.0.1.held.high, c.requires.0.1.held.long)
 
 pub slice_bounds-put-end : goal.slice_bounds-put-end
 slice_bounds-put-end c =
-        omega (arith, c.least.ensures, c.requires.0.1.held.high)
+    omega (arith, c.least.ensures, c.requires.0.1.held.high)
 
 pub put-count-requires : goal.put-count-requires
 put-count-requires c =
-        let k = c.least in
+    let k = c.least in
     held-room c.requires.0.1 k.result k.ensures.0 c.args.buf.now k.ensures.1
 
 pub shape_of-buf : goal.shape_of-buf
@@ -23,7 +23,7 @@ shape_of-buf c = put-long c.put-count.ensures
 
 pub returns : goal.returns
 returns c =
-        let k = c.least in (
+    let k = c.least in (
       λ p x. held-handed x k.result k.ensures.0 c.put-count.ensures,
       held-falls c.args.c k.result (k.ensures.2 (omega (arith, c.requires)) c.requires.2) k.ensures.0,
     )

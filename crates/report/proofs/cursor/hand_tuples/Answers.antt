@@ -13,7 +13,7 @@ shape_of-buf c = put-long c.put_tuples-lines.ensures.put
 
 pub returns : goal.returns
 returns c =
-        let y = c.put_tuples-lines.ensures in (
+    let y = c.put_tuples-lines.ensures in (
       λ p x. tuples-handed x c.requires.1 y,
       tuples-fall c.args.c c.put_tuples-lines.result.next (strip-within c.requires.0.1) (y.moves c.requires.2 c.requires.3) y.high,
       refl,

@@ -9,7 +9,7 @@ put_tuples-lines-requires c = tuples-ready c.requires.0.1
 
 pub returns : goal.returns
 returns c =
-        let y = c.put_tuples-lines.ensures in
+    let y = c.put_tuples-lines.ensures in
     let l = c.blank-line.ensures in
     let f = tuples-fall c.args.c c.put_tuples-lines.result.next (strip-within c.requires.0.1) (y.moves c.requires.2 (omega (arith, l))) y.high in (
       λ p x. handed-held (tuples-handed x c.requires.1 y) l c.requires.1,

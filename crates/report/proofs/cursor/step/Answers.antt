@@ -6,7 +6,7 @@ use Rattle.report.proofs.cursor.step.Goals as goal
 
 pub hand_held-requires : goal.hand_held-requires
 hand_held-requires c =
-        (c.requires.0, c.if-held.true, c.requires.2)
+    (c.requires.0, c.if-held.true, c.requires.2)
 
 pub shape_of-buf-then-held : goal.shape_of-buf-then-held
 shape_of-buf-then-held c = let x = c.requires.0 in put-long (c.hand_held.ensures.0 x.0 x.1).put
@@ -19,7 +19,7 @@ overflow_mul-marks c = omega (arith, c.requires.0.1.tuples.strip.few)
 
 pub with_more-next-requires : goal.with_more-next-requires
 with_more-next-requires c =
-        (c.requires.0, c.requires.1, c.if-held.false, c.if-marks-tuples.true)
+    (c.requires.0, c.requires.1, c.if-held.false, c.if-marks-tuples.true)
 
 pub returns-then-marks-tuples : goal.returns-then-marks-tuples
 returns-then-marks-tuples c =

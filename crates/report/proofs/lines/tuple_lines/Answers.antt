@@ -1,6 +1,5 @@
 -- `report::lines::tuple_lines` meets its contract: after each turn the lines of the tuples before the next number are
 -- put, and the start is one of the action.
-use Prim.Native.Nat.{◌-◌}
 use mathlib.Core.Path.{◌∙◌}
 use native.Mathlib.Omega.{arith}
 use Rattle.writer.proofs.Putting.{put-long}
@@ -61,7 +60,7 @@ pub run_lines-lines-requires : goal.run_lines-lines-requires
 run_lines-lines-requires c = (c.start_for-head.ensures.0, c.fill_ends-tabled.ensures.0, c.fill_ends-tabled.ensures.1, omega (arith, c.run_length-count.ensures.2), omega (arith, c.object_set-object.ensures, c.run_length-count.ensures.1, shl_one c.args.values c.requires.0))
 
 pub overflow_add-at : goal.overflow_add-at
-overflow_add-at c = omega (arith, row_fits c.args.action c.args.values c.args.start c.args.n c.args.words.now c.loop-next.invariant.0 c.next-x.result c.next-x.ensures c.if-end-x.false _ _ _ _ c.start_for-head.ensures.0 (c.start_for-head.ensures.1 ∙ c.loop-next.invariant.2) (c.start_for-head.ensures.2 ∙ c.user_set.ensures) c.object_set-object.ensures c.word_from-w.ensures c.run_length-count.ensures c.run_lines-lines.ensures, put-long c.loop-next.invariant.0.put, c.well-formed)
+overflow_add-at c = omega (arith, row_fits c.args.action c.args.values c.args.start c.args.n c.args.words.now c.loop-next.invariant.0 c.next-x.result c.next-x.ensures c.if-end-x.false _ _ _ _ c.start_for-head.ensures.0 (c.start_for-head.ensures.1 ∙ c.loop-next.invariant.2) (c.start_for-head.ensures.2 ∙ c.user_set.ensures) c.object_set-object.ensures c.word_from-w.ensures c.run_length-count.ensures c.run_lines-lines.ensures, put-long c.loop-next.invariant.0.put, c.well_formed)
 
 pub overflow_add-next : goal.overflow_add-next
 overflow_add-next c = omega (arith, c.if-end-x.false, c.run_lines-lines.ensures.high, c.run_length-count.ensures.2, c.requires.2)

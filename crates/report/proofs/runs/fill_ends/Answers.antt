@@ -1,5 +1,4 @@
 -- `report::runs::fill_ends` meets its contract: after each turn the ends of the numbers before n stand in the table.
-use Prim.Native.Nat.{◌-◌}
 use native.Mathlib.Omega.{arith}
 use Rattle.report.proofs.Pieces.{ends-none, ends_next, ends-room}
 use borrow.Author.Rules.{rules}

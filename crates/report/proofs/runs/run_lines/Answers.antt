@@ -1,22 +1,14 @@
 -- `report::runs::run_lines` meets its contract: after each turn the lines of the numbers before k are put, and rest has
 -- the marks from k on.
-use Prim.Native.Nat.{◌-◌}
 use mathlib.Core.List.{[], ◌∷◌}
 use native.Mathlib.Omega.{arith}
-use lib.Count.{count_trailing_zeros}
 use borrow.Author.Rules.{rules}
-use Rattle.formula.specs.Inner.Lane.{lanes}
-use Rattle.tuples.specs.Inner.Marks.{marked}
-use Rattle.tuples.proofs.Marked.{Turn, turn, left_word}
+use Rattle.tuples.proofs.Marked.{turn, left_word}
 use Rattle.tuples.proofs.Seeking.{passed-word}
 use Rattle.writer.proofs.Putting.{put-long, put_next}
 use Rattle.report.proofs.Going.{going_start, going_fits, going_full, going_none, going_line}
 use Rattle.report.proofs.Short.{head-room, tail_room}
 use Rattle.report.proofs.runs.run_lines.Goals as goal
-
-module _ (c : goal.In-loop-rest) where
-  turn_at : Turn (marked (c.args.w ∷ [])) lanes c.loop-rest.rest c.loop-rest.k (count_trailing_zeros lanes c.loop-rest.rest)
-  turn_at = turn _ _ c.loop-rest.rest c.loop-rest.k c.loop-rest.invariant.1 c.loop-rest-test.true
 
 pub loop-rest-init : goal.loop-rest-init
 loop-rest-init c = (going_start (omega arith), left_word (c.args.w ∷ []) 0 (search rules))
@@ -31,16 +23,16 @@ pub returns-then-buf-at-lt-ROOM : goal.returns-then-buf-at-lt-ROOM
 returns-then-buf-at-lt-ROOM c = going_full c.loop-rest.invariant.0 (omega (arith, c.if-buf-at-lt-ROOM.true))
 
 pub overflow_cast-next : goal.overflow_cast-next
-overflow_cast-next c = omega (arith, (turn_at c.before).lane)
+overflow_cast-next c = omega (arith, (turn _ _ c.loop-rest.rest c.loop-rest.k c.loop-rest.invariant.1 c.loop-rest-test.true).lane)
 
 pub overflow_add-next : goal.overflow_add-next
-overflow_add-next c = omega (arith, (turn_at c.before).within)
+overflow_add-next c = omega (arith, (turn _ _ c.loop-rest.rest c.loop-rest.k c.loop-rest.invariant.1 c.loop-rest-test.true).within)
 
 pub shape_of-buf-then-count-next : goal.shape_of-buf-then-count-next
 shape_of-buf-then-count-next c = put-long c.loop-rest.invariant.0.put
 
 pub returns-then-count-next : goal.returns-then-count-next
-returns-then-count-next c = going_none c.loop-rest.invariant.0 (λ k h l. (turn_at c.before.before).next.passed k h (omega (arith, c.if-count-next.true)))
+returns-then-count-next c = going_none c.loop-rest.invariant.0 (λ k h l. (turn _ _ c.loop-rest.rest c.loop-rest.k c.loop-rest.invariant.1 c.loop-rest-test.true).next.passed k h (omega (arith, c.if-count-next.true)))
 
 pub put_start-end-requires : goal.put_start-end-requires
 put_start-end-requires c = (c.requires.0.least, omega (arith, c.requires.0.most, c.requires.0.long), head-room _ _ c.requires.0.most (omega (arith, c.requires.0.most, c.requires.0.long)) (omega (arith, c.if-buf-at-lt-ROOM.false)))
@@ -55,19 +47,19 @@ pub put_end-at-requires : goal.put_end-at-requires
 put_end-at-requires c = (omega (arith, c.requires.1), c.requires.2, tail_room _ _ c.requires.0.most (omega (arith, c.requires.0.most, c.requires.0.long)) (omega (arith, c.if-buf-at-lt-ROOM.false)) _ (omega (arith, c.if-count-next.false, c.requires.4)) c.put_start-end.ensures)
 
 pub overflow_cast-rest : goal.overflow_cast-rest
-overflow_cast-rest c = omega (arith, (turn_at c.before.before.before.before.before.before.before.before.before.before.before.before).lane)
+overflow_cast-rest c = omega (arith, (turn _ _ c.loop-rest.rest c.loop-rest.k c.loop-rest.invariant.1 c.loop-rest-test.true).lane)
 
 pub overflow_shr-rest : goal.overflow_shr-rest
-overflow_shr-rest c = (turn_at c.before.before.before.before.before.before.before.before.before.before.before.before).lane
+overflow_shr-rest c = (turn _ _ c.loop-rest.rest c.loop-rest.k c.loop-rest.invariant.1 c.loop-rest-test.true).lane
 
 pub overflow_add-k : goal.overflow_add-k
-overflow_add-k c = omega (arith, (turn_at c.before.before.before.before.before.before.before.before.before.before.before.before).within)
+overflow_add-k c = omega (arith, (turn _ _ c.loop-rest.rest c.loop-rest.k c.loop-rest.invariant.1 c.loop-rest-test.true).within)
 
 pub loop-rest-smaller : goal.loop-rest-smaller
-loop-rest-smaller c = omega (arith, (turn_at c.before.before.before.before.before.before.before.before.before.before.before.before).within)
+loop-rest-smaller c = omega (arith, (turn _ _ c.loop-rest.rest c.loop-rest.k c.loop-rest.invariant.1 c.loop-rest-test.true).within)
 
 pub loop-rest-preserved : goal.loop-rest-preserved
-loop-rest-preserved c = (going_line c.loop-rest.invariant.0 (turn_at c.before.before.before.before.before.before.before.before.before.before.before.before).next c.if-count-next.false (put_next c.put_start-end.ensures c.put_end-at.ensures), (turn_at c.before.before.before.before.before.before.before.before.before.before.before.before).left)
+loop-rest-preserved c = (going_line c.loop-rest.invariant.0 (turn _ _ c.loop-rest.rest c.loop-rest.k c.loop-rest.invariant.1 c.loop-rest-test.true).next c.if-count-next.false (put_next c.put_start-end.ensures c.put_end-at.ensures), (turn _ _ c.loop-rest.rest c.loop-rest.k c.loop-rest.invariant.1 c.loop-rest-test.true).left)
 
 pub shape_of-buf : goal.shape_of-buf
 shape_of-buf c = put-long c.loop-rest.invariant.0.put
