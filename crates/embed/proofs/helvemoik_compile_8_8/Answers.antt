@@ -6,4 +6,4 @@ use Rattle.embed.proofs.helvemoik_compile_8_8.Goals as goal
 pub returns : goal.returns
 returns c =
     let w = c.compile_8_8 in
-    (c.counts.ensures ∙ ap crossed_counts w.ensures.answer, w.ensures.buffers)
+    record { answer = c.counts.ensures ∙ ap crossed_counts w.ensures.answer; buffers = w.ensures.buffers }

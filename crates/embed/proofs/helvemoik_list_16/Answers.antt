@@ -6,4 +6,4 @@ use Rattle.embed.proofs.helvemoik_list_16.Goals as goal
 pub returns : goal.returns
 returns c =
     let w = c.list_16 in
-    (c.listed.ensures ∙ ap counted w.ensures.0, w.ensures.1)
+    record { answer = c.listed.ensures ∙ ap counted w.ensures.0; tuples = w.ensures.1 }

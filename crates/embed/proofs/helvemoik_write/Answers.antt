@@ -6,4 +6,4 @@ use Rattle.embed.proofs.helvemoik_write.Goals as goal
 pub returns : goal.returns
 returns c =
     let w = c.write in
-    (c.written.ensures ∙ ap counted w.ensures.0, w.ensures.1)
+    record { answer = c.written.ensures ∙ ap counted w.ensures.answer; bytes = w.ensures.bytes }

@@ -1,4 +1,5 @@
 -- `runner::list::decode` meets its contract, kind by kind.
+use native.Mathlib.Omega.{arith}
 use borrow.Author.Tests.{eq-eqb, ne_eqb}
 use Rattle.runner.specs.Calls.{call_in}
 use Rattle.runner.proofs.list.decode.Goals as goal
@@ -31,5 +32,4 @@ pub returns-in_default : goal.returns-in_default
 unfolding call_in
 returns-in_default c =
     let k = c.args.kind in
-    let r = c.in_default.rest in
-    rw (ne_eqb k 0 r.0.0.0.0.1, ne_eqb k 1 r.0.0.0.1, ne_eqb k 2 r.0.0.1, ne_eqb k 3 r.0.1, ne_eqb k 4 r.1)
+    rw (ne_eqb k 0 (omega arith), ne_eqb k 1 (omega arith), ne_eqb k 2 (omega arith), ne_eqb k 3 (omega arith), ne_eqb k 4 (omega arith))
