@@ -6,11 +6,15 @@ ghost use Rattle.std.specs.Prelude.{◌+◌, ◌≡◌, length};
 ghost use Rattle.policy.specs.Limits.{text_bytes};
 ghost use Rattle.lister.specs.Input.{Within};
 
-use libc::{STDERR_FILENO, STDIN_FILENO, STDOUT_FILENO};
 use policy::limits::TEXT_BYTES;
+use std::io;
+use std::io::{ErrorKind, Read};
 
 // One byte more than a text may have.
 const INPUT: usize = TEXT_BYTES + 1;
+
+// The most bytes of a chunk.
+const CHUNK: usize = 65536;
 
 fn blank() -> [u8; INPUT]
     ensures { text_bytes + 1 ≡ length result }
@@ -26,16 +30,14 @@ enum Input {
 }
 
 // Reads up to the end of the input or of the buffer.
-fn read(buffer: &mut [u8]) -> Input
+fn read(from: &mut impl Read, buffer: &mut [u8]) -> Input
     ensures { Within result (length buffer.old) }
 {
     let mut at: usize = 0;
     while at < buffer.len() {
-        let got = libc::read(STDIN_FILENO, &mut buffer[at..]);
-        if got < 0 {
+        let Ok(n) = from.read(&mut buffer[at..]) else {
             return Input::Unreadable;
-        }
-        let n = io::count(got, &buffer[at..]);
+        };
         if n == 0 {
             return Input::Bytes(at);
         }
@@ -44,34 +46,32 @@ fn read(buffer: &mut [u8]) -> Input
     Input::Bytes(at)
 }
 
-// Writes the report of a text chunk by chunk, up to the first empty one, and says whether all was written.
-fn list(text: &[u8]) -> bool {
-    let mut buffer = io::large_buffer();
+// Writes the report of a text chunk by chunk, up to the first empty one.
+fn list(rt: &impl Print, text: &[u8]) -> io::Result<()> {
+    let mut buffer = [0u8; CHUNK];
     let mut cursor = report::chunks::start(text);
     loop {
         let chunk = report::chunks::next(cursor, &mut buffer);
         let n = chunk.count;
         if n == 0 {
-            return true;
+            return Ok(());
         }
-        if !io::write_all(STDOUT_FILENO, &buffer[..n]) {
-            return false;
-        }
+        rt.write_all(&buffer[..n])?;
         cursor = chunk.next;
     }
 }
 
-fn main() {
+// Where the reader of a pipe goes away, nothing is said.
+fn main(rt: HostRuntime) {
     let mut text = blank();
-    let input = read(&mut text);
+    let input = read(&mut rt.stdin(), &mut text);
     let Input::Bytes(n) = input else {
-        io::write_all(STDERR_FILENO, b"lister: standard input cannot be read\n");
+        let _ = eprintln!(rt; "lister: standard input cannot be read");
         return;
     };
-    if !list(&text[..n]) {
-        io::write_all(
-            STDERR_FILENO,
-            b"lister: standard output cannot be written\n",
-        );
+    if let Err(e) = list(&rt, &text[..n])
+        && e.kind() != ErrorKind::BrokenPipe
+    {
+        let _ = eprintln!(rt; "lister: standard output cannot be written");
     }
 }

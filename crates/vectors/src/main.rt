@@ -3,10 +3,15 @@
 // not. Some lines are wrong on purpose: one that is not found different shows what this program does not compare.
 #![tactic(auto)]
 
+ghost use Rattle.std.specs.Io.{ReadsAtMost};
 ghost use Rattle.std.specs.Prelude.{◌<◌, ◌≤◌};
+ghost use Rattle.std.specs.Str.{IsUtf8};
 
 use cursor::NUMBERS;
 use found::Found;
+use std::io::Read;
+use std::rt::Files;
+use std::{fs, io, str};
 use tally::KINDS;
 use text::parts;
 
@@ -21,6 +26,9 @@ mod texts;
 
 // Case files are numbered in two digits.
 const FILES: u8 = 100;
+
+// The most bytes of a case file.
+const FILE_BYTES: usize = 65536;
 
 // A case: its number, and where its text stands in the file.
 #[derive(Clone, Copy)]
@@ -51,18 +59,23 @@ fn answer(tag: u8, a: &[u32; NUMBERS], n: usize, text: &[u8]) -> Found {
 }
 
 // Plays a line, and says whether it agrees, or differs where it is wrong on purpose.
-fn play_line(line: &[u8], text: &[u8], counts: &mut [u32; KINDS]) -> bool {
+fn play_line(
+    rt: &impl Print,
+    line: &[u8],
+    text: &[u8],
+    counts: &mut [u32; KINDS],
+) -> io::Result<bool> {
     let mut a = [0u32; NUMBERS];
     let n = cursor::numbers(line, &mut a);
     let tag = cursor::tag(line);
     let found = answer(tag, &a, n, text);
     let wrong = cursor::is_wrong(line);
     if found::agrees(found, a[0], cursor::size(a[1])) == wrong {
-        tally::print_found(line, found);
-        return false;
+        tally::print_found(rt, line, found)?;
+        return Ok(false);
     }
     tally::count(counts, tag, wrong, a[1]);
-    true
+    Ok(true)
 }
 
 // The case that a `C` line begins; its text stands at a place behind the line.
@@ -80,7 +93,7 @@ fn begin(line: &[u8], at: usize) -> Case
 }
 
 // Plays the lines of a file.
-fn play_lines(file: &[u8], counts: &mut [u32; KINDS]) -> bool {
+fn play_lines(rt: &impl Print, file: &[u8], counts: &mut [u32; KINDS]) -> io::Result<bool> {
     let mut case = Case {
         number: 0,
         from: 0,
@@ -94,56 +107,89 @@ fn play_lines(file: &[u8], counts: &mut [u32; KINDS]) -> bool {
         if cursor::tag(line) == b'C' {
             case = begin(line, at);
             at = case.to + 1;
-        } else if !play_line(line, cursor::bytes(file, case.from, case.to), counts) {
-            tally::print(b"failed: a line of case ", cursor::size(case.number));
-            return false;
+        } else if !play_line(rt, line, cursor::bytes(file, case.from, case.to), counts)? {
+            tally::print(rt, b"failed: a line of case ", cursor::size(case.number))?;
+            return Ok(false);
         }
     }
-    true
+    Ok(true)
+}
+
+// Reads up to the end of a file or of the buffer, and says how many bytes there are.
+fn read_full(file: &mut impl Read, buffer: &mut [u8]) -> io::Result<usize>
+    ensures { ReadsAtMost result buffer.new }
+{
+    let mut at = 0;
+    while at < buffer.len() {
+        let n = file.read(&mut buffer[at..])?;
+        if n == 0 {
+            break;
+        }
+        at += n;
+    }
+    Ok(at)
 }
 
 // Plays a file.
-fn play_file(fd: i32, counts: &mut [u32; KINDS]) -> bool {
-    let mut file = io::large_buffer();
-    let n = io::read_full(fd, &mut file);
-    play_lines(&file[..n], counts)
+fn play_file(rt: &impl Print, file: &mut impl Read, counts: &mut [u32; KINDS]) -> io::Result<bool> {
+    let mut bytes = [0u8; FILE_BYTES];
+    let n = read_full(file, &mut bytes)?;
+    play_lines(rt, &bytes[..n], counts)
+}
+
+// The name of a case file.
+fn name(i: u8) -> [u8; 8]
+    requires { i < 100 }
+    ensures { IsUtf8 result }
+{
+    [
+        b'c',
+        b'a',
+        b's',
+        b'e',
+        b's',
+        b'-',
+        b'0' + i / 10,
+        b'0' + i % 10,
+    ]
+}
+
+// Opens a case file; there may be no such file.
+fn open<R: Files>(rt: &R, i: u8) -> io::Result<Option<R::File>>
+    requires { i < 100 }
+{
+    let name = name(i);
+    match fs::open(rt, str::from_utf8(&name).unwrap()) {
+        Ok(file) => Ok(Some(file)),
+        Err(e) if e.kind() == io::ErrorKind::NotFound => Ok(None),
+        Err(e) => Err(e),
+    }
 }
 
 // Plays the files cases-00, cases-01 and so on, as many as there are.
-fn play_files(counts: &mut [u32; KINDS]) -> bool {
+fn play_files(rt: &(impl Files + Print), counts: &mut [u32; KINDS]) -> io::Result<bool> {
     let mut i = 0u8;
     while i < FILES {
-        let path = [
-            b'c',
-            b'a',
-            b's',
-            b'e',
-            b's',
-            b'-',
-            b'0' + i / 10,
-            b'0' + i % 10,
-        ];
-        let fd = os::open_read(&path);
-        if fd < 0 {
-            return true;
-        }
-        let good = play_file(fd, counts);
-        libc::close(fd);
-        if !good {
-            tally::print(b"in the case file ", i as usize);
-            return false;
+        let Some(mut file) = open(rt, i)? else {
+            return Ok(true);
+        };
+        if !play_file(rt, &mut file, counts)? {
+            tally::print(rt, b"in the case file ", i as usize)?;
+            return Ok(false);
         }
         i += 1;
     }
-    true
+    Ok(true)
 }
 
-fn main() {
+fn main(rt: HostRuntime) -> io::Result<()> {
     let mut counts = [0u32; KINDS];
-    if play_files(&mut counts) {
+    if play_files(&rt, &mut counts)? {
         tally::print_counts(
+            &rt,
             b"texts refused alike: ,texts accepted alike: ,checks of what was read alike: ,writings alike: ,label buffers and tables alike: ,listings alike: ,decisions by policy alike: ,decisions by tuples alike: ,answers of Apart alike: ,lists of calls alike: ,calls in these lists: ,lines wrong on purpose found different: ,",
             &counts,
-        );
+        )?;
     }
+    Ok(())
 }

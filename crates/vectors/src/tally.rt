@@ -1,7 +1,7 @@
 // How many lines of each kind agree, and what is printed.
 use crate::cursor;
 use crate::found::Found;
-use libc::STDOUT_FILENO;
+use std::io;
 use text::parts;
 
 // The kinds of comparisons, lists of calls last; the calls of all lists; and the lines that are wrong on purpose.
@@ -49,31 +49,31 @@ pub fn count(counts: &mut [u32; KINDS], tag: u8, wrong: bool, n: u32) {
 }
 
 // A line with a number behind a text.
-pub fn print(what: &[u8], n: usize) {
-    io::write_all(STDOUT_FILENO, what);
-    io::print_decimal(STDOUT_FILENO, n as u64);
-    io::write_all(STDOUT_FILENO, b"\n");
+pub fn print(rt: &impl Print, what: &[u8], n: usize) -> io::Result<()> {
+    rt.write_all(what)?;
+    println!(rt; "{n}")
 }
 
 // Prints how many lines of each kind agree, each behind its name; a comma stands after a name.
-pub fn print_counts(names: &[u8], counts: &[u32; KINDS]) {
+pub fn print_counts(rt: &impl Print, names: &[u8], counts: &[u32; KINDS]) -> io::Result<()> {
     let mut at = 0;
     let mut i = 0;
     while i < KINDS {
         if names.len() < at {
-            return;
+            return Ok(());
         }
         let e = parts::find(names, at, b',');
-        print(&names[at..e], cursor::size(counts[i]));
+        print(rt, &names[at..e], cursor::size(counts[i]))?;
         at = e + 1;
         i += 1;
     }
+    Ok(())
 }
 
 // Says what the engine gives instead of what a line says.
-pub fn print_found(line: &[u8], found: Found) {
-    io::write_all(STDOUT_FILENO, line);
-    print(b"\nthe engine answers ", found.answer as usize);
-    print(b"with the count ", found.count);
-    print(b"and the first place that differs, or 0: ", found.place);
+pub fn print_found(rt: &impl Print, line: &[u8], found: Found) -> io::Result<()> {
+    rt.write_all(line)?;
+    print(rt, b"\nthe engine answers ", found.answer as usize)?;
+    print(rt, b"with the count ", found.count)?;
+    print(rt, b"and the first place that differs, or 0: ", found.place)
 }

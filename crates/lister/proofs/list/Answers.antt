@@ -4,22 +4,26 @@ use native.Mathlib.Omega.{arith}
 use lib.ListN.{length}
 use lib.Seq.{length-take-le}
 use Rattle.report.specs.Report.{behind}
-use Rattle.lister.proofs.Sending.{same-long, within}
+use Rattle.lister.proofs.Sending.{within}
 use Rattle.lister.proofs.list.Goals as goal
 
+pub loop-buffer-init : goal.loop-buffer-init
+loop-buffer-init g c = (_, c.start-cursor.ensures)
+
 pub slice_bounds-buffer-end : goal.slice_bounds-buffer-end
-slice_bounds-buffer-end c =
-    let l = c.loop-buffer in let x = l.invariant.0 in let y = c.next-chunk.ensures in
-    within x.0 l.buffer (y.1.0 x.0 x.1) (y.0 x.0 x.1)
+slice_bounds-buffer-end g c =
+    let l = c.loop-buffer in let x = l.invariant in let y = c.next-chunk.ensures in
+    within x.0 l.buffer (y.by_index_2 x.0 x.1) (y.by_index x.0 x.1)
 
 pub slice_bounds-write_all-end : goal.slice_bounds-write_all-end
-slice_bounds-write_all-end c = sym (length-take-le _ _ (slice_bounds-buffer-end c.before))
+slice_bounds-write_all-end g c =
+    let l = c.loop-buffer in let x = l.invariant in let y = c.next-chunk.ensures in
+    sym (length-take-le _ _ (within x.0 l.buffer (y.by_index_2 x.0 x.1) (y.by_index x.0 x.1)))
 
 pub loop-buffer-smaller : goal.loop-buffer-smaller
-loop-buffer-smaller c = c.next-chunk.ensures.1.1.1 (omega (arith, c.if-n-eq0.false))
+loop-buffer-smaller g c = c.next-chunk.ensures.next_bound (omega (arith, c.if-n-eq0.false))
 
 pub loop-buffer-preserved : goal.loop-buffer-preserved
-loop-buffer-preserved c =
-    let l = c.loop-buffer in let x = l.invariant.0 in
-    let y = c.next-chunk.ensures in
-    ((behind (length l.buffer) x.0, y.1.1.0 x.0 x.1), omega (arith, same-long x.0 l.buffer (y.1.0 x.0 x.1), l.invariant), l.invariant.2)
+loop-buffer-preserved g c =
+    let l = c.loop-buffer in let x = l.invariant in
+    (behind (length l.buffer) x.0, c.next-chunk.ensures.by_index_3 x.0 x.1)

@@ -5,7 +5,7 @@ use lib.ListN.{length}
 use Rattle.lister.proofs.read.Given as goal
 
 abbrev pub invariant-loop-at : goal.invariant-loop-at
-invariant-loop-at l = (length l.buffer ≡ length l.initial.buffer) × (l.at ≤ length l.initial.buffer)
+invariant-loop-at g l = (length l.buffer ≡ length l.initial.buffer) × (l.at ≤ length l.initial.buffer)
 
 abbrev pub decreases-loop-at : goal.decreases-loop-at
-decreases-loop-at l = length l.initial.buffer - l.at
+decreases-loop-at g l = length l.initial.buffer - l.at

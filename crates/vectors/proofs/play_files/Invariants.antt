@@ -3,7 +3,7 @@ use Rattle.std.proofs.Common.{◌-◌, ◌≤◌}
 use Rattle.vectors.proofs.play_files.Given as goal
 
 abbrev pub invariant-loop-i : goal.invariant-loop-i
-invariant-loop-i l = i ≤ 100
+invariant-loop-i g l = l.i ≤ 100
 
 abbrev pub decreases-loop-i : goal.decreases-loop-i
-decreases-loop-i l = 100 - i
+decreases-loop-i g l = 100 - l.i
