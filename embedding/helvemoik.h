@@ -1,7 +1,7 @@
 /*
  * Helvemoik: label policies on a comment screen, for C.
  *
- * Link libembed.a, which `rt staticlib embed` writes to target/staticlib. layout.c and limits.c hold this header
+ * Link libembed.a, which `sh build.sh` writes to target/staticlib. layout.c and limits.c hold this header
  * against it. docs/EMBEDDING.md has the rest.
  *
  * Everything goes by value or in lent buffers. There is no heap and no global state. A lent buffer is a pointer, which
