@@ -2,8 +2,8 @@
 # Shows that layout.c and limits.c find a wrong header: every two fields of a struct in each other's place, every number
 # field of another width, every array one longer and one shorter, every named number one higher, and every lent buffer
 # with elements of another width. Each time the header's own line on sizes or a buffer's type stops the compiler, or the
-# program finds faults. One wrong width cannot be told: counted.refusal comes back in a register whose other half is
-# padding.
+# program finds faults. Two wrong widths cannot be told: counted.refusal comes back in a register whose other half is
+# padding, and behind reading.refusal the archive writes the padding as 0, so that the wider number is the same.
 set -eu
 cd "$(dirname "$0")/.."
 header=embedding/helvemoik.h
@@ -54,7 +54,7 @@ d}" "$header" | sed -e "${other}s/.*/$(sed -n "${one}p" "$header")/" >"$wrong/he
   done <"$wrong/lines"
   field=$(sed -n "${one}p" "$header")
   case "$struct $field" in
-    *" struct "* | "helvemoik_counted     uint32_t refusal;") ;;
+    *" struct "* | "helvemoik_counted     uint32_t refusal;" | "helvemoik_reading     uint32_t refusal;") ;;
     *)
       sed "${one}s/uint32_t/uint64_t/;${one}s/size_t/uint32_t/;${one}s/uint8_t/uint16_t/" "$header" \
         >"$wrong/helvemoik.h"
