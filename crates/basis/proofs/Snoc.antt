@@ -1,8 +1,8 @@
 -- Lists with one element more at the end: their length, their sum and their last element.
+use Rattle.std.specs.Prelude.{Option, None, Some}
 use Prim.Native.Nat.{ℕ, ◌+◌}
 use mathlib.Core.Path.{◌≡◌, refl, ◌∙◌}
 use mathlib.Core.List.{List, [], ◌∷◌, ◌++◌}
-use mathlib.Core.Option.{Option, none, some}
 use native.Mathlib.Omega.{arith}
 use lib.ListN.{length, length-append}
 use Rattle.basis.specs.Lists.{last, sum}
@@ -18,17 +18,17 @@ sum-snoc (y ∷ xs) x = omega (arith, sum-snoc xs x)
 -- the last element, after another
 abbrev pub last_after : {A : Type 0} → Option A → List A → Option A
 last_after b [] = b
-last_after b (x ∷ xs) = last_after (some x) xs
+last_after b (x ∷ xs) = last_after (Some x) xs
 
-pub last-after : {A : Type 0} (xs : List A) → last xs ≡ last_after none xs
+pub last-after : {A : Type 0} (xs : List A) → last xs ≡ last_after None xs
 unfolding last
 last-after [] = refl
 last-after (x ∷ []) = refl
 last-after (x ∷ y ∷ ys) = last-after (y ∷ ys)
 
-after-snoc : {A : Type 0} (b : Option A) (xs : List A) (x : A) → last_after b (xs ++ (x ∷ [])) ≡ some x
+after-snoc : {A : Type 0} (b : Option A) (xs : List A) (x : A) → last_after b (xs ++ (x ∷ [])) ≡ Some x
 after-snoc b [] x = refl
-after-snoc b (y ∷ xs) x = after-snoc (some y) xs x
+after-snoc b (y ∷ xs) x = after-snoc (Some y) xs x
 
-pub last_snoc : {A : Type 0} (xs : List A) (x : A) → last (xs ++ (x ∷ [])) ≡ some x
-last_snoc xs x = last-after (xs ++ (x ∷ [])) ∙ after-snoc none xs x
+pub last_snoc : {A : Type 0} (xs : List A) (x : A) → last (xs ++ (x ∷ [])) ≡ Some x
+last_snoc xs x = last-after (xs ++ (x ∷ [])) ∙ after-snoc None xs x

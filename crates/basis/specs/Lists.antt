@@ -1,6 +1,5 @@
 -- Lists: tests over them, and lists laid into buffers and arrays.
-use Rattle.std.specs.Prelude.{ℕ, ◌+◌, ◌-◌, Bool, true, false, ◌&&◌, ◌||◌, List, [], ◌∷◌, ◌++◌, length, drop, replicate}
-use Rattle.std.proofs.Math.Option.{Option, none, some}
+use Rattle.std.specs.Prelude.{ℕ, ◌+◌, ◌-◌, Bool, true, false, ◌&&◌, ◌||◌, List, [], ◌∷◌, ◌++◌, length, drop, replicate, Option, None, Some}
 
 -- the test passes at each element; at some element
 unfoldable pub all : {A : Type 0} → (A → Bool) → List A → Bool
@@ -20,8 +19,8 @@ same e (x ∷ xs) (y ∷ ys) = e x y && same e xs ys
 
 -- the last element
 unfoldable pub last : {A : Type 0} → List A → Option A
-last [] = none
-last (x ∷ []) = some x
+last [] = None
+last (x ∷ []) = Some x
 last (x ∷ y ∷ ys) = last (y ∷ ys)
 
 -- the sum of some numbers

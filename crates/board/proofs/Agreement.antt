@@ -1,11 +1,11 @@
 -- Demand 3's list of calls: where the labels decide as the formulas do, the board answers as the plain machine and
 -- holds its sessions. The two share each call's checks and what becomes of its session's entry, so that both go by one
 -- entry, and one induction serves all.
+use Rattle.std.specs.Prelude.{Option, None, Some}
 use Prim.Native.Nat.{ℕ, ◌<◌}
 use mathlib.Core.Path.{◌≡◌, refl, ap, subst}
 use mathlib.Core.Bool.{true, false}
 use mathlib.Core.List.{List}
-use mathlib.Core.Option.{Option, none, some}
 use native.Mathlib.Nat.{lt_of_le_of_lt}
 use lib.Pow.{pow_pos}
 use borrow.Author.Tests.{leb-false}
@@ -35,7 +35,7 @@ pub record Serves (p : Policy) (l : Labels) : Type 0 where
 
 -- each registered object's set is one of its side's
 abbrev pub ObjectsFit : Policy → Type 0
-ObjectsFit p = (n s : ℕ) → set_of_number p.objects n ≡ some s → s < sets p.object
+ObjectsFit p = (n s : ℕ) → set_of_number p.objects n ≡ Some s → s < sets p.object
 
 -- ---- sets below their side's bound
 
@@ -44,20 +44,20 @@ unfolding reach_of reach
 reach_of-lt p u = go (set_of_number p.users u)
   where
     go : (x : Option ℕ) → given x 0 (reach p.user.lines (total p.user)) < sets p.user
-    go none = pow_pos (total p.user)
-    go (some s) = set_of-lt (held_or_senior p.user.lines s) (total p.user)
+    go None = pow_pos (total p.user)
+    go (Some s) = set_of-lt (held_or_senior p.user.lines s) (total p.user)
 
 object_set-lt : (p : Policy) → ObjectsFit p → (n : ℕ) → object_set p n < sets p.object
 unfolding object_set
 object_set-lt p h n = go (set_of_number p.objects n) refl
   where
     go : (x : Option ℕ) → set_of_number p.objects n ≡ x → given x 0 (λ s. s) < sets p.object
-    go none e = pow_pos (total p.object)
-    go (some s) e = h n s e
+    go None e = pow_pos (total p.object)
+    go (Some s) e = h n s e
 
 held-lt : (p : Policy) (e : Option Entry) → fitting p e ≡ true → held_in e < sets p.user
-held-lt p none h = pow_pos (total p.user)
-held-lt p (some x) h =
+held-lt p None h = pow_pos (total p.user)
+held-lt p (Some x) h =
     lt_of_le_of_lt (within-le x.held (reach_of p x.user) (fitting-parts p x h).reached) (reach_of-lt p x.user)
 
 -- ---- one call
@@ -73,7 +73,7 @@ module _ (p : Policy) (l : Labels) (objects : ObjectsFit p) (serves : Serves p l
   own (requests s a n) = rw serves.widths
 
   -- a call that the machine does not refuse finds its places, and is answered alike
-  found : (c : Call) (e : Option Entry) → fitting p e ≡ true → first_broken (look_up p l c e) ≡ none
+  found : (c : Call) (e : Option Entry) → fitting p e ≡ true → first_broken (look_up p l c e) ≡ None
   unfolding look_up first_broken
   found (opens u s set) e f = refl
   found (adds u s set) e f = refl
@@ -81,7 +81,7 @@ module _ (p : Policy) (l : Labels) (objects : ObjectsFit p) (serves : Serves p l
   found (closes u s) e f = refl
   found (requests s a n) e f = rw (serves.inside (sets_asked p n e) (held-lt p e f) (object_set-lt p objects n))
 
-  answered : (c : Call) (e : Option Entry) → fitting p e ≡ true → first_broken (checks p c e) ≡ none → board_reply p l c e ≡ reply p c e
+  answered : (c : Call) (e : Option Entry) → fitting p e ≡ true → first_broken (checks p c e) ≡ None → board_reply p l c e ≡ reply p c e
   unfolding board_reply reply checks
   answered (opens u s set) e f q = refl
   answered (adds u s set) e f q = refl
@@ -100,9 +100,9 @@ module _ (p : Policy) (l : Labels) (objects : ObjectsFit p) (serves : Serves p l
         rw (e, own c, ok, first-broken-append (checks p c x) (look_up p l c x), found c x f) (go (first_broken (checks p c x)) refl)
       where
         go : (r : Option ℕ) → first_broken (checks p c x) ≡ r
-            → ended (given r none some) (board_reply p l c x) (entry_after c x) x ≡ ended r (reply p c x) (entry_after c x) x
-        go none q = rw (answered c x f q)
-        go (some n) q = refl
+            → ended (given r None Some) (board_reply p l c x) (entry_after c x) x ≡ ended r (reply p c x) (entry_after c x) x
+        go None q = rw (answered c x f q)
+        go (Some n) q = refl
 
     -- ---- every list of calls
 

@@ -1,13 +1,13 @@
 -- Check 11 on a board: its entries in reach, place by place, and within every conflict, together as the definition
 -- says.
+use Rattle.std.specs.Prelude.{Option, None, Some}
 use Prim.Native.Nat.{ℕ, ◌+◌, ◌≤◌, ◌<◌}
 use mathlib.Core.Path.{◌≡◌, refl, sym, ◌∙◌}
 use mathlib.Core.Bool.{Bool, true, false, not, cond, ◌&&◌, ◌||◌, and-false, and_assoc}
 use mathlib.Core.List.{List, [], ◌∷◌, map}
-use mathlib.Core.Option.{Option, none, some}
 use lib.Dec.{eqb}
 use lib.ListN.{length, get_or, drop, drop_of_length-le}
-use borrow.Author.Tests.{eq-eqb, ne_eqb}
+use borrow.Author.Tests.{ne_eqb}
 use Rattle.basis.specs.Choice.{given, there}
 use Rattle.basis.specs.Lists.{all, any}
 use Rattle.basis.proofs.Bools.{and_left}
@@ -20,11 +20,10 @@ use Rattle.policy.specs.declared.value.SideValue.{SideValue}
 use Rattle.policy.specs.declared.value.PolicyValue.{PolicyValue}
 use Rattle.board.specs.declared.Session.{Session}
 use Rattle.board.specs.declared.Board.{Board}
-use Rattle.board.specs.declared.reach.Found.{Found}
 use Rattle.board.specs.Machine.{Entry, entry, held_in, reach_of, too_many}
 use Rattle.board.specs.Board.{closed, entry_of, entry_fits, sessions_fit, board_fits, fits}
-use Rattle.board.specs.Inner.{FoundAs, over, held_at, reached, all_reached}
-use Rattle.board.proofs.Users.{reach_in, covers_user}
+use Rattle.board.specs.Inner.{covered, over, held_at, reached, all_reached}
+use Rattle.board.proofs.Users.{covers_user}
 use Rattle.board.proofs.Judging.{judges, none_kept}
 
 -- ---- in reach
@@ -33,11 +32,8 @@ abbrev pub reached_in : Policy → Session → Bool
 reached_in p x = given (entry_of x) true (reached p)
 
 module _ (p : Policy) (x : Session) where
-  pub reached-closed : x.live ≡ 0 → true ≡ reached_in p x
-  reached-closed l = rw (eq-eqb x.live 0 l)
-
-  pub reached-live : (side : SideValue) → p.user ≡ side_of side → (f : Found) → FoundAs (set_of_number p.users x.user) f → (x.live ≡ 0 → ⊥)
-      → (t : Bool) → t ≡ (f.registered && within x.held (reach_in side f.set)) → t ≡ reached_in p x
+  pub reached-live : (side : SideValue) → p.user ≡ side_of side → (f : Option ℕ) → f ≡ set_of_number p.users x.user → (x.live ≡ 0 → ⊥)
+      → (t : Bool) → t ≡ covered side f x.held → t ≡ reached_in p x
   reached-live side es f q l t e = rw (ne_eqb x.live 0 l) (e ∙ covers_user p side es x.user f q x.held)
 
 -- the entries from place i on
@@ -67,7 +63,7 @@ module _ (p : Policy) where
   entry-apart : (x : Session) → given (entry_of x) true (entry_fits p) ≡ (reached_in p x && not (too_many p (held_at x)))
   entry-apart x = go (eqb x.live 0)
     where
-      go : (t : Bool) → let e : Option Entry = cond t none (some (entry x.user x.held)) in
+      go : (t : Bool) → let e : Option Entry = cond t None (Some (entry x.user x.held)) in
           given e true (entry_fits p) ≡ (given e true (reached p) && not (too_many p (held_in e)))
       go true = rw (none_kept p)
       go false = sym (and_assoc (there (set_of_number p.users x.user)) (within x.held (reach_of p x.user)) (not (too_many p x.held)))

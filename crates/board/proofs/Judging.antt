@@ -1,16 +1,15 @@
 -- Sets against conflicts. The code counts the values that a set and a conflict have in common, for each conflict all
 -- sets in turn; a set with fewer values is over no conflict that it kept to.
-use Prim.Native.Nat.{ℕ, ◌+◌, ◌≤◌, ◌<◌}
-use mathlib.Core.Path.{◌≡◌, refl, sym, ap, ◌∙◌}
-use mathlib.Core.Bool.{Bool, true, false, not, ◌&&◌, ◌||◌, or-false, or_assoc}
+use Rattle.std.specs.Prelude.{None}
+use Prim.Native.Nat.{ℕ, ◌≤◌, ◌<◌}
+use mathlib.Core.Path.{◌≡◌, refl, ap, ◌∙◌}
+use mathlib.Core.Bool.{Bool, true, false, not, ◌&&◌, or-false}
 use mathlib.Core.List.{List, [], ◌∷◌, Memᴰ}
-use mathlib.Core.Option.{none}
 use native.Mathlib.Nat.{lt_of_le_of_lt}
 use native.Mathlib.Omega.{arith}
 use lib.Bits.{bit_and, and_le_l}
 use lib.Count.{ones}
 use lib.Dec.{ltb}
-use lib.ListN.{length, get_or, drop, drop_of_length-le}
 use lib.Pow.{pow_pos}
 use borrow.Author.Tests.{le-ltb, ltb-false}
 use Rattle.basis.specs.Lists.{any}
@@ -18,7 +17,6 @@ use Rattle.basis.specs.Numbers.{count}
 use Rattle.basis.proofs.Bools.{and_left, and_right, and_both, both_ways, fails, never}
 use Rattle.basis.proofs.Counting.{count_same, count_under}
 use Rattle.basis.proofs.Lists.{any_at, any_of}
-use Rattle.basis.proofs.Walk.{rest-next}
 use Rattle.sets.specs.Set.{has, minus}
 use Rattle.sets.proofs.Laws.{has_meet, has-minus}
 use Rattle.sets.proofs.Count.{ones-counts}
@@ -34,19 +32,6 @@ use Rattle.policy.proofs.Bounds.{conflict-fits}
 use Rattle.policy.proofs.Valid.{valid-stored}
 use Rattle.board.specs.Machine.{together, too_many}
 use Rattle.board.specs.Inner.{exceeded, over}
-
--- ---- set by set: the answer of the places before place i, and of the rest
-
-module _ (x : Conflict) (ss : List ℕ) (i : ℕ) (a : Bool) where
-  pub exceeded-next : i < length ss → (b : Bool) → b ≡ (a || ltb x.most (ones (bit_and x.set (get_or ss i 0))))
-      → (a || exceeded x (drop i ss)) ≡ (b || exceeded x (drop (i + 1) ss))
-  unfolding exceeded any
-  exceeded-next h b e =
-      rw (rest-next 0 ss i h, e) (sym (or_assoc a (ltb x.most (ones (bit_and x.set (get_or ss i 0)))) (exceeded x (drop (i + 1) ss))))
-
-  pub exceeded-end : length ss ≤ i → (a || exceeded x (drop i ss)) ≡ a
-  unfolding exceeded any
-  exceeded-end h = rw (drop_of_length-le ss h, or-false a)
 
 -- ---- conflicts first or sets first
 
@@ -92,7 +77,7 @@ module _ (v : PolicyValue) (e : valid v ≡ true) where
   judges ss =
       let p = policy_of v in
       let t : Parts p = parts p (whole p (valid-stored v e).1).lists in
-      over-is p p.conflicts (λ c m. (conflict-fits (total p.user) c (rising-at (conflict_within p.user) set_above none p.conflicts t.conflicts c m)).0) ss
+      over-is p p.conflicts (λ c m. (conflict-fits (total p.user) c (rising-at (conflict_within p.user) set_above None p.conflicts t.conflicts c m)).0) ss
 
   pub judges-one : (s : ℕ) → over (conflicts_of v.conflicts) (s ∷ []) ≡ too_many (policy_of v) s
   unfolding any

@@ -1,10 +1,10 @@
 -- What check 11 passes stays so: a call that is not refused leaves its session's entry fitting, and with it the board.
 -- On such a board each call goes by one entry, whatever the policy value and the buffers.
+use Rattle.std.specs.Prelude.{Option, None, Some}
 use Prim.Native.Nat.{ℕ, ◌<◌}
 use mathlib.Core.Path.{◌≡◌, refl, ap, ◌∙◌}
 use mathlib.Core.Bool.{Bool, true, false, cond, not, ◌||◌, and-true}
 use mathlib.Core.List.{List, ◌∷◌, ◌++◌}
-use mathlib.Core.Option.{Option, none, some}
 use native.Mathlib.Omega.{arith}
 use lib.Dec.{eqb}
 use lib.ListN.{length, get_or, set, length-set, length-replicate}
@@ -51,7 +51,7 @@ fitting-whole : (p : Policy) (x : Entry) → Fitting p x → entry_fits p x ≡ 
 fitting-whole p x f = rw (f.registered, f.reached, f.few)
 
 -- a call that is not refused names one of the session numbers
-pub near : (p : Policy) (c : Call) (e : Option Entry) → first_broken (checks p c e) ≡ none → session_of c < session_numbers
+pub near : (p : Policy) (c : Call) (e : Option Entry) → first_broken (checks p c e) ≡ None → session_of c < session_numbers
 unfolding checks
 near p (opens u s set) e h = leb-false session_numbers s (unbroken (checks p (opens u s set) e) h).0
 near p (adds u s set) e h = leb-false session_numbers s (unbroken (checks p (adds u s set) e) h).0
@@ -60,21 +60,21 @@ near p (closes u s) e h = leb-false session_numbers s (unbroken (checks p (close
 near p (requests s a n) e h = leb-false session_numbers s (unbroken (checks p (requests s a n) e) h).1.0
 
 -- and leaves its session's entry fitting
-pub kept : (p : Policy) (c : Call) (e : Option Entry) → fitting p e ≡ true → first_broken (checks p c e) ≡ none → fitting p (entry_after c e) ≡ true
+pub kept : (p : Policy) (c : Call) (e : Option Entry) → fitting p e ≡ true → first_broken (checks p c e) ≡ None → fitting p (entry_after c e) ≡ true
 unfolding checks entry_after
 kept p (opens u s set) e f h =
     let t = unbroken (checks p (opens u s set) e) h in
     fitting-whole p (entry u set) (record { registered = not-false _ t.1.0; reached = not-false _ t.1.1.1.0; few = t.1.1.1.1.0 })
-kept p (adds u s set) none f h = refl
-kept p (adds u s set) (some x) f h =
-    let t = unbroken (checks p (adds u s set) (some x)) h in
+kept p (adds u s set) None f h = refl
+kept p (adds u s set) (Some x) f h =
+    let t = unbroken (checks p (adds u s set) (Some x)) h in
     let g = fitting-parts p x f in
     let q : x.user ≡ u = eqb-true x.user u (not-false _ t.1.1.1.0) in
     let w : within set (reach_of p x.user) ≡ true = rw q (not-false _ t.1.1.1.1.0) in
     fitting-whole p (entry x.user (union x.held set))
     (record { registered = g.registered; reached = within-union x.held set (reach_of p x.user) g.reached w; few = t.1.1.1.1.1.0 })
-kept p (drops u s set) none f h = refl
-kept p (drops u s set) (some x) f h =
+kept p (drops u s set) None f h = refl
+kept p (drops u s set) (Some x) f h =
     let g = fitting-parts p x f in
     fitting-whole p (entry x.user (minus x.held set))
     (record { registered = g.registered; reached = within-minus x.held set (reach_of p x.user) g.reached; few = fewer-kept p x.held set g.few })
@@ -97,8 +97,8 @@ unfolding fresh entry_at empty
 entries-fresh k = ap entry_of (get_or-blank session_numbers k closed)
 
 back : (e : Option Entry) → entry_of (session_for e) ≡ e
-back none = refl
-back (some x) = refl
+back None = refl
+back (Some x) = refl
 
 module _ (p : Policy) (b : Board) (h : Sound p b) where
   pub sound-entry : (s : ℕ) → fitting p (entry_at b s) ≡ true
@@ -124,7 +124,7 @@ module _ (p : Policy) (b : Board) (h : Sound p b) where
       }
 
   -- what a call that is not refused leaves
-  module _ (c : Call) (q : first_broken (checks p c (entry_at b (session_of c))) ≡ none) where
+  module _ (c : Call) (q : first_broken (checks p c (entry_at b (session_of c))) ≡ None) where
     sound-done : Sound p (store b (session_of c) (entry_after c (entry_at b (session_of c))))
     sound-done = sound-stored (session_of c) _ (kept p c (entry_at b (session_of c)) (sound-entry (session_of c)) q)
 
@@ -133,7 +133,7 @@ module _ (p : Policy) (b : Board) (h : Sound p b) where
         ≡ put (entry_at b) (session_of c) (entry_after c (entry_at b (session_of c))) k
     entries-done = stored_at (session_of c) _ (near p c (entry_at b (session_of c)) q)
 
-  sound-after : (c : Call) → first_broken (checks p c (entry_at b (session_of c))) ≡ none → Sound p (board_after c b)
+  sound-after : (c : Call) → first_broken (checks p c (entry_at b (session_of c))) ≡ None → Sound p (board_after c b)
   unfolding board_after
   sound-after (opens u s set) q = sound-done (opens u s set) q
   sound-after (adds u s set) q = sound-done (adds u s set) q
@@ -141,7 +141,7 @@ module _ (p : Policy) (b : Board) (h : Sound p b) where
   sound-after (closes u s) q = sound-done (closes u s) q
   sound-after (requests s a n) q = h
 
-  entries-after : (c : Call) → first_broken (checks p c (entry_at b (session_of c))) ≡ none → (k : ℕ)
+  entries-after : (c : Call) → first_broken (checks p c (entry_at b (session_of c))) ≡ None → (k : ℕ)
       → entry_at (board_after c b) k ≡ put (entry_at b) (session_of c) (entry_after c (entry_at b (session_of c))) k
   unfolding board_after entry_after
   entries-after (opens u s set) q k = entries-done (opens u s set) q k
@@ -166,7 +166,7 @@ module _ (v : PolicyValue) (l : Labels) (c : Call) (b : Board) (h : Sound (polic
   unfolding board_checks fits
   checks-are = rw (h.fitted, and-true (valid v))
 
-  machine-passes : first_broken (board_checks v l c b) ≡ none → first_broken (checks (policy_of v) c (entry_at b (session_of c))) ≡ none
+  machine-passes : first_broken (board_checks v l c b) ≡ None → first_broken (checks (policy_of v) c (entry_at b (session_of c))) ≡ None
   unfolding board_checks
   machine-passes q = unbroken-first _ _ (unbroken-rest _ _ q)
 
@@ -186,8 +186,8 @@ module _ (v : PolicyValue) (l : Labels) (c : Call) (b : Board) (h : Sound (polic
     where
       go : (r : Option ℕ) → first_broken (board_checks v l c b) ≡ r
           → Sound (policy_of v) (ended r (board_reply (policy_of v) l c (entry_at b (session_of c))) (board_after c b) b).state
-      go none q = sound-after (policy_of v) b h c (machine-passes q)
-      go (some n) q = h
+      go None q = sound-after (policy_of v) b h c (machine-passes q)
+      go (Some n) q = h
 
 -- the board's calls go by one entry each
 pub board-by_entry : (v : PolicyValue) (l : Labels) → ByEntry (Sound (policy_of v)) entry_at (board_entry v l) (board_step v l)

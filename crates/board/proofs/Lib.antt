@@ -9,6 +9,7 @@ pub mod Judging
 mod Look
 mod Users
 mod ByNumber
+mod Chains
 mod Ways
 mod Fitting
 mod Settled

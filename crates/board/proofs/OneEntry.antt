@@ -1,11 +1,11 @@
 -- A call looks at one session's entry and changes no other: its answer and what it leaves go by that entry alone. So
 -- does the plain machine, and what goes by entries as it does answers every list of calls as it does. Demand 3 and the
 -- isolation of sessions both rest on this.
+use Rattle.std.specs.Prelude.{Option, None, Some}
 use Prim.Native.Nat.{ℕ}
 use mathlib.Core.Path.{◌≡◌, refl, sym, ap, ◌∙◌}
 use mathlib.Core.Bool.{Bool, true, false, cond}
 use mathlib.Core.List.{List}
-use mathlib.Core.Option.{Option, none, some}
 use lib.Dec.{eqb}
 use borrow.Author.Tests.{eqb-true}
 use Rattle.basis.specs.Choice.{given, first_broken}
@@ -45,13 +45,13 @@ put_same m s k = go (eqb k s) refl
 -- a call that ends goes by its session's entry where what it leaves when it is not refused does
 module _ {S : Type 0} (at : S → Map) (y : Reply) (after before : S) (s : ℕ) (e : Option Entry) where
   pub ended-reply : (r : Option ℕ) → (ended r y after before).reply ≡ (ended r y e (at before s)).reply
-  ended-reply none = refl
-  ended-reply (some n) = refl
+  ended-reply None = refl
+  ended-reply (Some n) = refl
 
-  pub ended-entries : (r : Option ℕ) → (r ≡ none → (k : ℕ) → at after k ≡ put (at before) s e k)
+  pub ended-entries : (r : Option ℕ) → (r ≡ None → (k : ℕ) → at after k ≡ put (at before) s e k)
       → (k : ℕ) → at (ended r y after before).state k ≡ put (at before) s (ended r y e (at before s)).state k
-  ended-entries none h = h refl
-  ended-entries (some n) h = put_same (at before) s
+  ended-entries None h = h refl
+  ended-entries (Some n) h = put_same (at before) s
 
 -- the machine's calls do
 pub machine-by_entry : (p : Policy) → ByEntry {S = Map} (λ m. Unit {0}) (λ m. m) (machine_entry p) (step p)

@@ -1,11 +1,11 @@
 -- Demand 3's last sentence, of one request with any board, policy value, buffers, NU and NO: what is not refused is
 -- granted exactly when the bit at the labels is set, and a place past its buffer's end gets 20. By cases on the lower
 -- refusals and on the places.
+use Rattle.std.specs.Prelude.{Option, None, Some}
 use Prim.Native.Nat.{ℕ, ◌≤◌}
 use mathlib.Core.Path.{◌≡◌, refl, sym, ap, ◌∙◌}
 use mathlib.Core.Bool.{Bool, true, false, cond, ◌||◌}
 use mathlib.Core.Logic.{◌⊎◌, inl, inr, ⊎_elim, ◌↔◌}
-use mathlib.Core.Option.{Option, none, some}
 use lib.Dec.{leb}
 use lib.ListN.{length}
 use borrow.Author.Tests.{le-leb, leb-true}
@@ -62,9 +62,9 @@ bit_only false e = cc
 
 decided-only : (r : Option ℕ) (t g : Bool) → ((k : ℕ) → given r (cond t (refused 20) (decided g)) refused ≡ refused k → ⊥)
     → given r (cond t (refused 20) (decided g)) refused ≡ decided g
-decided-only none true g h = absurd (h 20 refl)
-decided-only none false g h = refl
-decided-only (some k) t g h = absurd (h k refl)
+decided-only None true g h = absurd (h 20 refl)
+decided-only None false g h = refl
+decided-only (Some k) t g h = absurd (h k refl)
 
 module _ (v : PolicyValue) (l : Labels) (b : Board) (s a n : ℕ) where
   looked_up_lem : (t : Bool) → reads_past_end l (sets_of v b s n) ≡ t
@@ -82,11 +82,11 @@ module _ (v : PolicyValue) (l : Labels) (b : Board) (s a n : ℕ) where
       go : (r : Option ℕ)
           → (given {B = Out Board} r (allowed v l (requests s a n) b) (λ k. record { reply = refused k; state = b })).reply
           ≡ given r (looked_up l a (sets_of v b s n)) refused
-      go none = looked_up_lem (reads_past_end l (sets_of v b s n)) refl
-      go (some k) = refl
+      go None = looked_up_lem (reads_past_end l (sets_of v b s n)) refl
+      go (Some k) = refl
 
   -- where no lower refusal applies, 20 is the answer exactly where some place lies past its buffer's end
-  pub refused-iff : other_widths (policy_of v) l (requests s a n) ≡ false → lower v (requests s a n) b ≡ none
+  pub refused-iff : other_widths (policy_of v) l (requests s a n) ≡ false → lower v (requests s a n) b ≡ None
       → (answer v l b s a n ≡ refused 20) ↔ Past l (sets_of v b s n)
   unfolding looked_up
   refused-iff own e =

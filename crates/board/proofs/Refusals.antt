@@ -1,8 +1,8 @@
 -- One call on a board: its refusals are 11, the machine's and 20, in this order.
+use Rattle.std.specs.Prelude.{Option, None, Some}
 use mathlib.Core.Path.{◌≡◌, refl, ap, ◌∙◌}
 use mathlib.Core.Bool.{true, false, not}
 use mathlib.Core.List.{◌∷◌}
-use mathlib.Core.Option.{Option, none, some}
 use Prim.Native.Nat.{ℕ}
 use Rattle.basis.specs.Choice.{given, check, first_broken}
 use Rattle.basis.proofs.Choice.{first-broken-append}
@@ -15,7 +15,7 @@ use Rattle.board.specs.Inner.{lower, invalid}
 use Rattle.board.specs.Board.{entry_at, fits, Labels, look_up, board_reply, other_widths, board_checks, board_after, board_step}
 
 module _ (v : PolicyValue) (c : Call) (b : Board) where
-  pub lower-bad : fits v b ≡ false → lower v c b ≡ some 11
+  pub lower-bad : fits v b ≡ false → lower v c b ≡ Some 11
   unfolding lower first_broken
   lower-bad f = rw f
 
@@ -30,9 +30,9 @@ allowed v l c b =
     (record { reply = board_reply (policy_of v) l c (entry_at b (session_of c)); state = board_after c b })
     (λ n. record { reply = refused n; state = b })
 
-then : {A : Type 0} (r s : Option ℕ) (a : A) (f : ℕ → A) → given (given r s some) a f ≡ given r (given s a f) f
-then none s a f = refl
-then (some n) s a f = refl
+then : {A : Type 0} (r s : Option ℕ) (a : A) (f : ℕ → A) → given (given r s Some) a f ≡ given r (given s a f) f
+then None s a f = refl
+then (Some n) s a f = refl
 
 -- a call made for other widths than the form's
 pub step_other : (v : PolicyValue) (l : Labels) (c : Call) (b : Board) → other_widths (policy_of v) l c ≡ true → board_step v l c b ≡ invalid b

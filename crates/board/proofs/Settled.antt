@@ -1,9 +1,9 @@
 -- The calls that change a session: check 11, then a ruling, which with the session's next entry makes the call's step.
+use Rattle.std.specs.Prelude.{Option, None, Some}
 use Prim.Native.Nat.{ℕ, ◌≤◌, ◌<◌}
 use mathlib.Core.Path.{◌≡◌, refl, sym, ap, ◌∙◌}
 use mathlib.Core.Bool.{Bool, true, false, not, cond}
 use mathlib.Core.List.{[], ◌∷◌}
-use mathlib.Core.Option.{Option, none, some}
 use borrow.Author.Tests.{not-true, not-false}
 use lib.Dec.{eqb}
 use lib.ListN.{get_or, set}
@@ -17,11 +17,9 @@ use Rattle.policy.specs.Answers.{done, refused}
 use Rattle.policy.specs.declared.value.PolicyValue.{PolicyValue}
 use Rattle.board.specs.declared.Session.{Session}
 use Rattle.board.specs.declared.Board.{Board}
-use Rattle.board.specs.declared.reach.Found.{Found}
-use Rattle.board.specs.declared.rulings.Ruling.{Ruling}
 use Rattle.board.specs.Machine.{Entry, Call, opens, adds, drops, closes, requests, session_of, too_many, checks, entry_after, Out}
 use Rattle.board.specs.Board.{closed, entry_of, entry_at, session_for, store, fits, Labels, look_up, other_widths, board_reply, board_after, board_step}
-use Rattle.board.specs.Inner.{refusal_of, FoundAs, Reaches, Reachable, over, lower, invalid, settled}
+use Rattle.board.specs.Inner.{reach_if, Reachable, over, lower, invalid, settled}
 use Rattle.board.proofs.Refusals.{allowed, step_other, step_is, lower-bad, lower-good}
 use Rattle.board.proofs.Fitting.{fits-valid}
 use Rattle.board.proofs.Kept.{near}
@@ -29,19 +27,19 @@ use Rattle.board.proofs.Judging.{judges-one, conflicts-within}
 use Rattle.board.proofs.Valid.{reachable, objects-within}
 
 -- what passes the checks passes the machine's
-lower-none : (v : PolicyValue) (c : Call) (b : Board) → lower v c b ≡ none → first_broken (checks (policy_of v) c (entry_at b (session_of c))) ≡ none
+lower-none : (v : PolicyValue) (c : Call) (b : Board) → lower v c b ≡ None → first_broken (checks (policy_of v) c (entry_at b (session_of c))) ≡ None
 unfolding lower
 lower-none v c b e = unbroken-rest _ _ e
 
 module _ (v : PolicyValue) (c : Call) (b : Board) (r : Option ℕ) (h : r ≡ lower v c b) where
-  pub settled-near : r ≡ none → session_of c < session_numbers
+  pub settled-near : r ≡ None → session_of c < session_numbers
   settled-near e = near (policy_of v) c (entry_at b (session_of c)) (lower-none v c b (sym h ∙ e))
 
   -- a call that is done as the entry says
   abbrev Done : Labels → Type 0
   Done l = allowed v l c b ≡ record { reply = done; state = store b (session_of c) (entry_after c (entry_at b (session_of c))) }
 
-  settled-step : (l : Labels) → other_widths (policy_of v) l c ≡ false → Done l → (x : Session) → (r ≡ none → x ≡ session_for (entry_after c (entry_at b (session_of c))))
+  settled-step : (l : Labels) → other_widths (policy_of v) l c ≡ false → Done l → (x : Session) → (r ≡ None → x ≡ session_for (entry_after c (entry_at b (session_of c))))
       → settled b (session_of c) r x ≡ board_step v l c b
   unfolding settled store
   settled-step l own d x e = rw (step_is v l c b own, ← h) (go r refl)
@@ -50,15 +48,15 @@ module _ (v : PolicyValue) (c : Call) (b : Board) (r : Option ℕ) (h : r ≡ lo
           → given {B = Out Board} q (record { reply = done; state = record { sessions = set b.sessions (session_of c) x } })
           (λ n. record { reply = refused n; state = b })
           ≡ given q (allowed v l c b) (λ n. record { reply = refused n; state = b })
-      go none k = rw (d, e k)
-      go (some n) k = refl
+      go None k = rw (d, e k)
+      go (Some n) k = refl
 
 -- ---- the session's next entry
 
 pub live_of : (x : Session) → there (entry_of x) ≡ true → eqb x.live 0 ≡ false
 live_of x e = go (eqb x.live 0) e
   where
-    go : (t : Bool) → there (cond {A = Option Entry} t none (some (record { user = x.user; held = x.held }))) ≡ true → t ≡ false
+    go : (t : Bool) → there (cond {A = Option Entry} t None (Some (record { user = x.user; held = x.held }))) ≡ true → t ≡ false
     go true f = cc
     go false f = refl
 
@@ -68,13 +66,13 @@ module _ (v : PolicyValue) (b : Board) (u s set : ℕ) (x : Session) (hx : x ≡
   unfolding entry_at
   at_entry = ap entry_of hx
 
-  live_add : lower v (adds u s set) b ≡ none → eqb x.live 0 ≡ false
+  live_add : lower v (adds u s set) b ≡ None → eqb x.live 0 ≡ false
   unfolding checks
   live_add e =
       live_of x
       (rw at_entry (not-false (there (entry_at b s)) (unbroken (checks (policy_of v) (adds u s set) (entry_at b s)) (lower-none v (adds u s set) b e)).1.1.0))
 
-  live_drop : lower v (drops u s set) b ≡ none → eqb x.live 0 ≡ false
+  live_drop : lower v (drops u s set) b ≡ None → eqb x.live 0 ≡ false
   unfolding checks
   live_drop e =
       live_of x
@@ -140,28 +138,28 @@ module _ (v : PolicyValue) (b : Board) (t : Bool) (ht : t ≡ fits v b) where
     unfolding entry_at
     ruled c x h r e = e ∙ rw h (sym (lower-good v c b (sym ht ∙ not-false t n)))
 
-    module _ (u s : ℕ) (x : Session) (hx : x ≡ get_or b.sessions s closed) (y : Ruling) where
-      pub close_ruled : (f : Found) → FoundAs (set_of_number (entries_of v.users) u) f
-          → ((p : Policy) → f.registered ≡ there (set_of_number p.users u) → refusal_of y ≡ first_broken (checks p (closes u s) (entry_of x)))
-          → refusal_of y ≡ lower v (closes u s) b
+    module _ (u s : ℕ) (x : Session) (hx : x ≡ get_or b.sessions s closed) (y : Option ℕ) where
+      pub close_ruled : (g : Bool) → g ≡ there (set_of_number (entries_of v.users) u)
+          → ((p : Policy) → g ≡ there (set_of_number p.users u) → y ≡ first_broken (checks p (closes u s) (entry_of x)))
+          → y ≡ lower v (closes u s) b
       unfolding policy_of
-      close_ruled f hf hy = ruled (closes u s) x hx (refusal_of y) (hy (policy_of v) hf.registered)
+      close_ruled g hg hy = ruled (closes u s) x hx y (hy (policy_of v) hg)
 
-      module _ (f : Found) (hf : (p : Policy) → p.users ≡ entries_of v.users → p.user ≡ side_of v.user → Reaches p u f) where
+      module _ (f : Option ℕ) (hf : (p : Policy) → p.users ≡ entries_of v.users → p.user ≡ side_of v.user → f ≡ reach_if p u) where
         pub open_ruled : (set : ℕ) (o : Bool) → o ≡ over (conflicts_of v.conflicts) (set ∷ [])
-            → ((p : Policy) (w : ℕ) → Reaches p w f → o ≡ too_many p set → refusal_of y ≡ first_broken (checks p (opens w s set) (entry_of x)))
-            → refusal_of y ≡ lower v (opens u s set) b
+            → ((p : Policy) (w : ℕ) → f ≡ reach_if p w → o ≡ too_many p set → y ≡ first_broken (checks p (opens w s set) (entry_of x)))
+            → y ≡ lower v (opens u s set) b
         unfolding policy_of
-        open_ruled set o ho hy = ruled (opens u s set) x hx (refusal_of y) (hy (policy_of v) u (hf (policy_of v) refl refl) (ho ∙ judged set))
+        open_ruled set o ho hy = ruled (opens u s set) x hx y (hy (policy_of v) u (hf (policy_of v) refl refl) (ho ∙ judged set))
 
         pub add_ruled : (set held : ℕ) → held ≡ union x.held set → (o : Bool) → o ≡ over (conflicts_of v.conflicts) (held ∷ [])
-            → ((p : Policy) → Reaches p u f → o ≡ too_many p (union x.held set) → refusal_of y ≡ first_broken (checks p (adds u s set) (entry_of x)))
-            → refusal_of y ≡ lower v (adds u s set) b
+            → ((p : Policy) → f ≡ reach_if p u → o ≡ too_many p (union x.held set) → y ≡ first_broken (checks p (adds u s set) (entry_of x)))
+            → y ≡ lower v (adds u s set) b
         unfolding policy_of
         add_ruled set held hh o ho hy =
-            ruled (adds u s set) x hx (refusal_of y) (hy (policy_of v) (hf (policy_of v) refl refl) (rw (← hh) (ho ∙ judged held)))
+            ruled (adds u s set) x hx y (hy (policy_of v) (hf (policy_of v) refl refl) (rw (← hh) (ho ∙ judged held)))
 
-        pub drop-ruled : (set : ℕ) → ((p : Policy) → Reaches p u f → refusal_of y ≡ first_broken (checks p (drops u s set) (entry_of x)))
-            → refusal_of y ≡ lower v (drops u s set) b
+        pub drop-ruled : (set : ℕ) → ((p : Policy) → f ≡ reach_if p u → y ≡ first_broken (checks p (drops u s set) (entry_of x)))
+            → y ≡ lower v (drops u s set) b
         unfolding policy_of
-        drop-ruled set hy = ruled (drops u s set) x hx (refusal_of y) (hy (policy_of v) (hf (policy_of v) refl refl))
+        drop-ruled set hy = ruled (drops u s set) x hx y (hy (policy_of v) (hf (policy_of v) refl refl))

@@ -1,9 +1,9 @@
 -- What check 11 on the policy value gives the board: reach can be worked out, and registered sets are their side's.
+use Rattle.std.specs.Prelude.{Option, None, Some}
 use Prim.Native.Nat.{ℕ, ◌≤◌, ◌<◌}
 use mathlib.Core.Path.{◌≡◌, refl, ap}
 use mathlib.Core.Bool.{Bool, true, false, cond}
 use mathlib.Core.List.{List, [], ◌∷◌, Memᴰ}
-use mathlib.Core.Option.{Option, none, some}
 use native.Mathlib.Nat.{le_trans}
 use native.Mathlib.Omega.{arith}
 use lib.Dec.{eqb, lit≤}
@@ -21,19 +21,19 @@ use Rattle.policy.proofs.Valid.{valid-stored}
 use Rattle.board.specs.Inner.{Reachable}
 
 -- a set that is found is that of an entry with the number
-set-in : (es : List Entry) (n s : ℕ) → set_of_number es n ≡ some s → (e : Entry) × Memᴰ e es × (e.number ≡ n) × (e.set ≡ s)
+set-in : (es : List Entry) (n s : ℕ) → set_of_number es n ≡ Some s → (e : Entry) × Memᴰ e es × (e.number ≡ n) × (e.set ≡ s)
 unfolding set_of_number
 set-in [] n s q = let z : ◌≡◌ {A = ℕ} 0 1 = cc in absurd (omega arith)
 set-in (e ∷ es) n s q = go (eqb e.number n) refl (set-in es n s) q
   where
-    go : (t : Bool) → eqb e.number n ≡ t → (set_of_number es n ≡ some s → (e : Entry) × Memᴰ e es × (e.number ≡ n) × (e.set ≡ s))
-        → ◌≡◌ {A = Option ℕ} (cond t (some e.set) (set_of_number es n)) (some s)
+    go : (t : Bool) → eqb e.number n ≡ t → (set_of_number es n ≡ Some s → (e : Entry) × Memᴰ e es × (e.number ≡ n) × (e.set ≡ s))
+        → ◌≡◌ {A = Option ℕ} (cond t (Some e.set) (set_of_number es n)) (Some s)
         → (d : Entry) × Memᴰ d (e ∷ es) × (d.number ≡ n) × (d.set ≡ s)
     go true w h f = (e, Memᴰ.head refl, eqb-true e.number n w, cc)
     go false w h f = let r = h f in (r.0, Memᴰ.tail r.1, r.2, r.3)
 
-module _ (most : ℕ) (side : Side) (es : List Entry) (h : rising (number_fits most side) number_above none es ≡ true) (n s : ℕ)
-    (q : set_of_number es n ≡ some s) where
+module _ (most : ℕ) (side : Side) (es : List Entry) (h : rising (number_fits most side) number_above None es ≡ true) (n s : ℕ)
+    (q : set_of_number es n ≡ Some s) where
   number_lt : n < most
   number_lt = let r = set-in es n s q in rw r.2 at (entry-bounds most side es h r.0 r.1).0
 

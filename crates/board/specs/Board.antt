@@ -1,6 +1,5 @@
 -- The board: what each of the five calls answers and leaves, whatever board, policy value and buffers it is handed.
-use Rattle.std.specs.Prelude.{ℕ, ◌+◌, ◌*◌, Bool, true, false, cond, not, ◌&&◌, ◌||◌, List, [], ◌∷◌, ◌++◌, eqb, leb, length, get_or, set, replicate}
-use Rattle.std.proofs.Math.Option.{Option, none, some}
+use Rattle.std.specs.Prelude.{ℕ, ◌+◌, ◌*◌, Bool, true, false, cond, not, ◌&&◌, ◌||◌, List, [], ◌∷◌, ◌++◌, eqb, leb, length, get_or, set, replicate, Option, None, Some, Result, Ok, Err}
 use Rattle.basis.specs.Choice.{given, there, Check, check, first_broken}
 use Rattle.basis.specs.Lists.{all}
 use Rattle.sets.specs.Set.{has, within}
@@ -9,6 +8,7 @@ use Rattle.policy.specs.Policy.{Policy, set_of_number}
 use Rattle.policy.specs.Value.{policy_of}
 use Rattle.policy.specs.Valid.{valid}
 use Rattle.policy.specs.Answers.{number_of, Reply, done, granted, denied, refused, decided}
+use Rattle.policy.specs.declared.refusal.Refusal.{Refusal}
 use Rattle.policy.specs.declared.value.PolicyValue.{PolicyValue}
 use Rattle.formula.specs.Truth.{Sets}
 use Rattle.labels.specs.Compile.{Buffers}
@@ -16,8 +16,8 @@ use Rattle.labels.specs.declared.Counts.{Counts}
 use Rattle.board.specs.Machine.{Entry, Call, opens, adds, drops, closes, requests, session_of, reach_of, too_many, checks, entry, entry_after, sets_asked, Out}
 use Rattle.board.specs.declared.Session.{Session}
 use Rattle.board.specs.declared.Board.{Board}
-use Rattle.board.specs.declared.Answer.{Answer}
-use Rattle.board.specs.declared.Answer.TheVariants.{Done, Granted, Denied, Refused}
+use Rattle.board.specs.declared.Reply.{Reply as CodeReply}
+use Rattle.board.specs.declared.Reply.TheVariants.{Denied, Granted, Done}
 use Rattle.board.specs.declared.Call.{Call as CodeCall}
 use Rattle.board.specs.declared.Call.TheVariants.{Open, Add, Drop, Close, Request}
 use Rattle.board.specs.declared.Step.{Step}
@@ -30,11 +30,14 @@ call_of (Drop u s set) = drops u s set
 call_of (Close u s) = closes u s
 call_of (Request s a n) = requests s a n
 
-abbrev pub reply_of : Answer → Reply
-reply_of Done = done
-reply_of Granted = granted
-reply_of Denied = denied
-reply_of (Refused r) = refused (number_of r)
+abbrev pub replied : CodeReply → Reply
+replied Denied = denied
+replied Granted = granted
+replied Done = done
+
+abbrev pub reply_of : Result CodeReply Refusal → Reply
+reply_of (Ok r) = replied r
+reply_of (Err r) = refused (number_of r)
 
 abbrev pub out_of : Step → Out Board
 out_of r = record { reply = reply_of r.answer; state = r.board }
@@ -46,12 +49,12 @@ closed = record { live = 0; user = 0; held = 0 }
 
 -- document 01 calls a live session open: 0 is closed, any other number open
 abbrev pub entry_of : Session → Option Entry
-entry_of x = cond (eqb x.live 0) none (some (entry x.user x.held))
+entry_of x = cond (eqb x.live 0) None (Some (entry x.user x.held))
 
 -- what a call stores
 abbrev pub session_for : Option Entry → Session
-session_for none = closed
-session_for (some e) = record { live = 1; user = e.user; held = e.held }
+session_for None = closed
+session_for (Some e) = record { live = 1; user = e.user; held = e.held }
 
 unfoldable pub entry_at : Board → ℕ → Option Entry
 entry_at b s = entry_of (get_or b.sessions s closed)

@@ -1,16 +1,17 @@
 -- What the inner functions of the code answer, and what they ask of a policy value. Public contracts do without these.
-use Rattle.std.specs.Prelude.{ℕ, ◌≤◌, ◌<◌, ◌≡◌, Bool, true, false, cond, not, ◌&&◌, List, [], ◌∷◌, ◌++◌, ltb, length, get_or, set}
-use Rattle.std.proofs.Math.Option.{Option, none, some}
+use Rattle.std.specs.Prelude.{ℕ, ◌≤◌, ◌<◌, ◌≡◌, Bool, true, false, cond, not, ◌&&◌, List, [], ◌∷◌, ◌++◌, ltb, length, get_or, set, Option, None, Some, Result, Ok, Err}
 use Rattle.std.specs.Int.Bits.{bit_and}
 use Rattle.std.specs.Int.Count.{ones}
-use Rattle.basis.specs.Choice.{given, there, Result, gives, refuses, Check, check, first_broken, unless_refused}
+use Rattle.basis.specs.Choice.{given, there, Check, check, first_broken, unless_refused}
 use Rattle.basis.specs.Lists.{all, any}
 use Rattle.sets.specs.Set.{within}
+use Rattle.seniority.specs.Seniority.{reach}
 use Rattle.seniority.specs.Inner.{Ordered, word_bits}
 use Rattle.policy.specs.Limits.{user_numbers}
 use Rattle.policy.specs.Policy.{Policy, total, sets, set_of_number}
 use Rattle.policy.specs.Value.{entry_places, side_of, entries_of, policy_of, line_places}
 use Rattle.policy.specs.Answers.{number_of, Reply, done, refused, decided}
+use Rattle.policy.specs.declared.refusal.Refusal.{Refusal}
 use Rattle.policy.specs.declared.value.Entry.{Entry}
 use Rattle.policy.specs.declared.value.SideValue.{SideValue}
 use Rattle.policy.specs.declared.value.Register.{Register}
@@ -21,68 +22,44 @@ use Rattle.board.specs.Machine.{Entry as SessionEntry, Call, closes, requests, s
 use Rattle.board.specs.Board.{entry_of, entry_at, fits, Labels, reads_past_end, grants_by_labels}
 use Rattle.board.specs.declared.Session.{Session}
 use Rattle.board.specs.declared.Board.{Board}
-use Rattle.board.specs.declared.reach.Found.{Found}
-use Rattle.board.specs.declared.rulings.Ruling.{Ruling}
-use Rattle.board.specs.declared.rulings.Ruling.TheVariants.{Allowed, Refused}
 use Rattle.board.specs.declared.asking.Asked.{Asked}
-use Rattle.board.specs.declared.asking.Asked.TheVariants.{Of, Refused as AskedRefused}
-use Rattle.board.specs.declared.buffers.Read.{Read}
-use Rattle.board.specs.declared.buffers.Read.TheVariants.{Past, At}
-use Rattle.board.specs.declared.buffers.UserRead.{UserRead}
-use Rattle.board.specs.declared.buffers.UserRead.TheVariants.{Past as UserPast, At as UserAt}
-use Rattle.board.specs.declared.buffers.ObjectRead.{ObjectRead}
-use Rattle.board.specs.declared.buffers.ObjectRead.TheVariants.{Past as ObjectPast, At as ObjectAt}
 
 -- ---- what the answers stand for
 
-abbrev pub refusal_of : Ruling → Option ℕ
-refusal_of Allowed = none
-refusal_of (Refused r) = some (number_of r)
+-- the refusal, if it is one
+abbrev pub refusal_of : {A : Type 0} → Result A Refusal → Option ℕ
+refusal_of (Ok a) = None
+refusal_of (Err r) = Some (number_of r)
 
-abbrev pub asked_of : Asked → Result Sets
-asked_of (Of held object) = gives (at held object)
-asked_of (AskedRefused r) = refuses (number_of r)
+abbrev pub sets_of : Asked → Sets
+sets_of x = at x.held x.object
 
-abbrev pub read_of : Read → Option ℕ
-read_of Past = none
-read_of (At x) = some x
-
-abbrev pub user_of : UserRead → Option ℕ
-user_of UserPast = none
-user_of (UserAt l) = some l.0
-
-abbrev pub object_of : ObjectRead → Option ℕ
-object_of ObjectPast = none
-object_of (ObjectAt l) = some l.0
+abbrev pub asked_of : Result Asked Refusal → Result Sets ℕ
+asked_of (Ok x) = Ok (sets_of x)
+asked_of (Err r) = Err (number_of r)
 
 -- ---- what the functions work out
-
--- whether there is a set, and the set; 0 stands for none
-pub record FoundAs (o : Option ℕ) (f : Found) : Type 0 where
-  pub registered : f.registered ≡ there o
-  pub set : f.set ≡ given o 0 (λ s. s)
-
--- what is found for a number that is not registered
-abbrev pub not_found : Found
-not_found = record { registered = false; set = 0 }
 
 -- the place of a number among those of the user numbers; past them is one for all others
 unfoldable pub place_of : ℕ → ℕ
 place_of n = cond (ltb n user_numbers) n user_numbers
 
--- what is found for each user number, and nothing at the place of all others
-pub record ByNumber (es : List Entry) (found : List Found) : Type 0 where
-  pub below : (n : ℕ) → n < user_numbers → FoundAs (set_of_number es n) (get_or found n not_found)
-  pub past : get_or found user_numbers not_found ≡ not_found
+-- the set of each user number, and none at the place of all others
+pub record ByNumber (es : List Entry) (found : List (Option ℕ)) : Type 0 where
+  pub below : (n : ℕ) → n < user_numbers → get_or found n None ≡ set_of_number es n
+  pub past : get_or found user_numbers None ≡ None
 
--- whether a user is registered, and the user's reach
-pub record Reaches (p : Policy) (u : ℕ) (f : Found) : Type 0 where
-  pub registered : f.registered ≡ there (set_of_number p.users u)
-  pub set : f.set ≡ reach_of p u
+-- a user's reach, where the user is registered
+unfoldable pub reach_if : Policy → ℕ → Option ℕ
+reach_if p u = given (set_of_number p.users u) None (λ s. Some (reach p.user.lines (total p.user) s))
 
--- what stands at a place of a buffer, whatever its width
-unfoldable pub read_at : List ℕ → ℕ → Option ℕ
-read_at buffer place = cond (ltb place (length buffer)) (some (get_or buffer place 0)) none
+-- a number is registered, and the set within the reach of what it is assigned
+unfoldable pub covered : SideValue → Option ℕ → ℕ → Bool
+covered side assigned set = given assigned false (λ s. within set (reach (side_of side).lines (total (side_of side)) s))
+
+-- what stands at a place of a buffer, or 20
+unfoldable pub read_at : List ℕ → ℕ → Result ℕ ℕ
+read_at buffer place = cond (ltb place (length buffer)) (Ok (get_or buffer place 0)) (Err 20)
 
 -- what the labels of two sets say
 unfoldable pub looked_up : Labels → ℕ → Sets → Reply
@@ -116,13 +93,13 @@ abbrev pub all_reached : Policy → List Session → Bool
 all_reached p xs = all (λ x. given (entry_of x) true (reached p)) xs
 
 -- what a request comes to: the sets that it is decided on, or the lowest of 12 to 17
-unfoldable pub asked : Policy → ℕ → ℕ → ℕ → Option SessionEntry → Result Sets
+unfoldable pub asked : Policy → ℕ → ℕ → ℕ → Option SessionEntry → Result Sets ℕ
 asked p s a n e = unless_refused (checks p (requests s a n) e) (sets_asked p n e)
 
 -- the answer to it
-abbrev pub answered : Labels → ℕ → Result Sets → Reply
-answered l a (gives s) = looked_up l a s
-answered l a (refuses n) = refused n
+abbrev pub answered : Labels → ℕ → Result Sets ℕ → Reply
+answered l a (Ok s) = looked_up l a s
+answered l a (Err n) = refused n
 
 -- the first refusal but 20 of a call that is made for the form's own widths: 11, then the machine's
 unfoldable pub lower : PolicyValue → Call → Board → Option ℕ
@@ -148,5 +125,5 @@ pub record Rising (side : SideValue) : Type 0 where
 pub record Reachable (side : SideValue) (users : Register) : Type 0 where
   pub seniority : Rising side
   pub count : users.count ≤ entry_places
-  pub numbers : (n s : ℕ) → set_of_number (entries_of users) n ≡ some s → n < user_numbers
-  pub assigned : (n s : ℕ) → set_of_number (entries_of users) n ≡ some s → s < sets (side_of side)
+  pub numbers : (n s : ℕ) → set_of_number (entries_of users) n ≡ Some s → n < user_numbers
+  pub assigned : (n s : ℕ) → set_of_number (entries_of users) n ≡ Some s → s < sets (side_of side)

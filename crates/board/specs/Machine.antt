@@ -1,7 +1,6 @@
 -- The plain machine, "fed the text and the calls with the arguments listed below, and nothing of the board, the lent
 -- buffers, NU or NO". Its session functions are those of source document 002, Tables 5 and 6.
-use Rattle.std.specs.Prelude.{ℕ, Bool, false, cond, not, ◌&&◌, List, [], ◌∷◌, eqb, leb, ltb}
-use Rattle.std.proofs.Math.Option.{Option, none, some}
+use Rattle.std.specs.Prelude.{ℕ, Bool, false, cond, not, ◌&&◌, List, [], ◌∷◌, eqb, leb, ltb, Option, None, Some}
 use Rattle.basis.specs.Choice.{given, there, Check, check, first_broken}
 use Rattle.basis.specs.Lists.{any}
 use Rattle.basis.specs.Numbers.{count}
@@ -25,7 +24,7 @@ abbrev pub Map : Type 0
 Map = ℕ → Option Entry
 
 unfoldable pub empty : Map
-empty k = none
+empty k = None
 
 unfoldable pub put : Map → ℕ → Option Entry → Map
 put m s e k = cond (eqb k s) e (m k)
@@ -62,10 +61,10 @@ entry u held = record { user = u; held = held }
 -- by a call that is not refused: "the map gains (user, set)"; "the held set gains or loses these values"; "the entry
 -- goes"; "the map is unchanged"
 unfoldable pub entry_after : Call → Option Entry → Option Entry
-entry_after (opens u s set) e = some (entry u set)
-entry_after (adds u s set) e = given e none (λ x. some (entry x.user (union x.held set)))
-entry_after (drops u s set) e = given e none (λ x. some (entry x.user (minus x.held set)))
-entry_after (closes u s) e = none
+entry_after (opens u s set) e = Some (entry u set)
+entry_after (adds u s set) e = given e None (λ x. Some (entry x.user (union x.held set)))
+entry_after (drops u s set) e = given e None (λ x. Some (entry x.user (minus x.held set)))
+entry_after (closes u s) e = None
 entry_after (requests s a n) e = e
 
 abbrev pub held_in : Option Entry → ℕ

@@ -3,45 +3,28 @@ ghost use Rattle.std.specs.Prelude.{◌≡◌, ◌≤◌};
 ghost use Rattle.policy.specs.Value.{entry_places, entries_of};
 ghost use Rattle.board.specs.Inner.{place_of, ByNumber};
 
-use crate::reach::Found;
 use policy::limits::USER_NUMBERS;
 use policy::value::Register;
 
 // A place for each user number, and one for all other numbers, which no user has.
 const PLACES: usize = USER_NUMBERS as usize + 1;
 
-// The place of a number.
+// The place of a number. No `From`: all numbers that no user has share the last place.
 pub fn place(number: u32) -> usize
     ensures { result ≡ place_of number }
 {
-    if number < USER_NUMBERS {
-        number as usize
-    } else {
-        USER_NUMBERS as usize
-    }
+    number.min(USER_NUMBERS) as usize
 }
 
-// What is found for each user number. From the last entry to the first, so that a number's first entry counts.
-pub fn table(users: Register) -> [Found; PLACES]
+// The set that each user number is assigned. From the last entry to the first, so that a number's first entry counts.
+pub fn table(users: Register) -> [Option<u32>; PLACES]
     requires { users.count ≤ entry_places }
     ensures { ByNumber (entries_of users) result }
 {
-    let entries = users.entries;
-    let none = Found {
-        registered: false,
-        set: 0,
-    };
-    let mut found = [none; PLACES];
-    let mut i = users.count;
-    while 0 < i {
-        i -= 1;
-        let e = entries[i];
+    let mut found = [None; PLACES];
+    for e in users.entries[..users.count].iter().rev() {
         if e.number < USER_NUMBERS {
-            let n = e.number as usize;
-            found[n] = Found {
-                registered: true,
-                set: e.set,
-            };
+            found[e.number as usize] = Some(e.set);
         }
     }
     found

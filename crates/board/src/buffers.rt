@@ -1,183 +1,60 @@
-// The three lent buffers of a request: each is read at one place. Each is lent as bytes or in 16 bits; only here is it
-// told how a label or an entry is looked up.
-ghost use Rattle.std.specs.Prelude.{◌≡◌};
-ghost use Rattle.formula.specs.Truth.{at};
-ghost use Rattle.labels.specs.Inner.Lending.{lent_in, lent_as};
-ghost use Rattle.board.specs.Board.{labels_of, reply_of, out_of};
-ghost use Rattle.board.specs.Inner.{asked_of, answered, read_of, user_of, object_of, read_at, looked_up};
+// The three lent buffers of a request: each is read at one place.
+ghost use Rattle.std.specs.Prelude.{◌≡◌, map};
+ghost use Rattle.policy.specs.Limits.{bits};
+ghost use Rattle.policy.specs.Answers.{answer_of};
+ghost use Rattle.labels.specs.Compile.{lent as lent_as};
+ghost use Rattle.board.specs.Board.{labels_of, reply_of};
+ghost use Rattle.board.specs.Inner.{sets_of, asked_of, answered, read_at, looked_up};
 
+use crate::Reply;
 use crate::asking::Asked;
-use crate::{Answer, Board, Step};
 use labels::{Counts, ObjectLabel, UserLabel};
-use policy::limits::{BYTE, Widths};
 use policy::refusal::Refusal;
+use policy::stored;
+use policy::stored::Stored;
 
-// The number at a place of a buffer of either width, where the place is in it.
+// What a request is lent: how many labels are used on each side, the label of each set, and the table of entries.
 #[derive(Clone, Copy)]
-pub enum Read {
-    Past,
-    At(u16),
+pub struct Lent<'a, L, E> {
+    pub counts: Counts,
+    pub users: &'a [L],
+    pub objects: &'a [L],
+    pub table: &'a [E],
 }
 
-// The one way in which a lent buffer of bytes is read.
-fn byte_at(buffer: &[u8], place: usize) -> Read
-    ensures { read_of result ≡ read_at buffer.now place }
+// The number at a place of a lent buffer, where the place is in it.
+fn at<S: Stored>(buffer: &[S], place: usize) -> Result<u32, Refusal>
+    ensures { answer_of result ≡ read_at (map S.number buffer.now) place }
 {
-    if place < buffer.len() {
-        Read::At(buffer[place] as u16)
-    } else {
-        Read::Past
-    }
-}
-
-// The one way in which a lent buffer of 16 bits is read.
-fn wide_at(buffer: &[u16], place: usize) -> Read
-    ensures { read_of result ≡ read_at buffer.now place }
-{
-    if place < buffer.len() {
-        Read::At(buffer[place])
-    } else {
-        Read::Past
-    }
-}
-
-// A label or an entry at a place: of the two buffers that may be lent, the one of its width is read.
-fn read_at(width: u32, bytes: &[u8], wide: &[u16], place: usize) -> Read
-    ensures { read_of result ≡ read_at (lent_in width bytes.now wide.now) place }
-{
-    if width == BYTE {
-        byte_at(bytes, place)
-    } else {
-        wide_at(wide, place)
-    }
-}
-
-// The label of a user set and that of an object set, where its place is in the buffer.
-#[derive(Clone, Copy)]
-pub enum UserRead {
-    Past,
-    At(UserLabel),
-}
-
-#[derive(Clone, Copy)]
-pub enum ObjectRead {
-    Past,
-    At(ObjectLabel),
-}
-
-// The held set's label.
-fn user_label(width: u32, bytes: &[u8], wide: &[u16], held: u32) -> UserRead
-    ensures { user_of result ≡ read_at (lent_in width bytes.now wide.now) held }
-{
-    match read_at(width, bytes, wide, held as usize) {
-        Read::Past => UserRead::Past,
-        Read::At(label) => UserRead::At(UserLabel(label)),
-    }
-}
-
-// The object set's label.
-fn object_label(width: u32, bytes: &[u8], wide: &[u16], object: u32) -> ObjectRead
-    ensures { object_of result ≡ read_at (lent_in width bytes.now wide.now) object }
-{
-    match read_at(width, bytes, wide, object as usize) {
-        Read::Past => ObjectRead::Past,
-        Read::At(label) => ObjectRead::At(ObjectLabel(label)),
-    }
+    stored::get(buffer, place).ok_or(Refusal::BufferTooShort)
 }
 
 // What the labels of two sets say of an action.
-fn look_up(
-    counts: Counts,
-    widths: Widths,
-    users: &[u8],
-    objects: &[u8],
-    table: &[u8],
-    wide_users: &[u16],
-    wide_objects: &[u16],
-    wide_table: &[u16],
+fn look_up<L: Stored, E: Stored>(
+    lent: Lent<L, E>,
     action: u32,
-    held: u32,
-    object: u32,
-) -> Answer
-    ensures { reply_of result ≡ looked_up (labels_of counts (lent_as widths users.now objects.now table.now wide_users.now wide_objects.now wide_table.now)) action (at held object) }
+    asked: Asked,
+) -> Result<Reply, Refusal>
+    ensures { reply_of result ≡ looked_up (labels_of lent.entry.counts (lent_as (bits L.BITS E.BITS) (map L.number lent.entry.users.now) (map L.number lent.entry.objects.now) (map E.number lent.entry.table.now))) action (sets_of asked) }
 {
-    let UserRead::At(ul) = user_label(widths.label, users, wide_users, held) else {
-        return Answer::Refused(Refusal::BufferTooShort);
-    };
-    let ObjectRead::At(ol) = object_label(widths.label, objects, wide_objects, object) else {
-        return Answer::Refused(Refusal::BufferTooShort);
-    };
-    let place = labels::place(ul, ol, counts.objects);
-    let Read::At(x) = read_at(widths.entry, table, wide_table, place) else {
-        return Answer::Refused(Refusal::BufferTooShort);
-    };
-    if sets::holds(x as u32, action) {
-        Answer::Granted
+    let user = at(lent.users, asked.held as usize)?;
+    let object = at(lent.objects, asked.object as usize)?;
+    let place = labels::place(UserLabel(user), ObjectLabel(object), lent.counts.objects);
+    let entry = at(lent.table, place)?;
+    if sets::holds(entry, action) {
+        Ok(Reply::Granted)
     } else {
-        Answer::Denied
+        Ok(Reply::Denied)
     }
 }
 
 // The answer to a request: what the labels of its two sets say, or why it is refused.
-fn answer(
-    counts: Counts,
-    widths: Widths,
-    users: &[u8],
-    objects: &[u8],
-    table: &[u8],
-    wide_users: &[u16],
-    wide_objects: &[u16],
-    wide_table: &[u16],
+pub fn answer<L: Stored, E: Stored>(
+    lent: Lent<L, E>,
     action: u32,
-    asked: Asked,
-) -> Answer
-    ensures { reply_of result ≡ answered (labels_of counts (lent_as widths users.now objects.now table.now wide_users.now wide_objects.now wide_table.now)) action (asked_of asked) }
+    asked: Result<Asked, Refusal>,
+) -> Result<Reply, Refusal>
+    ensures { reply_of result ≡ answered (labels_of lent.entry.counts (lent_as (bits L.BITS E.BITS) (map L.number lent.entry.users.now) (map L.number lent.entry.objects.now) (map E.number lent.entry.table.now))) action (asked_of asked) }
 {
-    match asked {
-        Asked::Of(held, object) => look_up(
-            counts,
-            widths,
-            users,
-            objects,
-            table,
-            wide_users,
-            wide_objects,
-            wide_table,
-            action,
-            held,
-            object,
-        ),
-        Asked::Refused(why) => Answer::Refused(why),
-    }
-}
-
-// The step of a request: what its labels say, or why it is refused. The board stays.
-pub fn answered(
-    board: Board,
-    counts: Counts,
-    widths: Widths,
-    users: &[u8],
-    objects: &[u8],
-    table: &[u8],
-    wide_users: &[u16],
-    wide_objects: &[u16],
-    wide_table: &[u16],
-    action: u32,
-    asked: Asked,
-) -> Step
-    ensures { out_of result ≡ record { reply = answered (labels_of counts (lent_as widths users.now objects.now table.now wide_users.now wide_objects.now wide_table.now)) action (asked_of asked); state = board } }
-{
-    let answer = answer(
-        counts,
-        widths,
-        users,
-        objects,
-        table,
-        wide_users,
-        wide_objects,
-        wide_table,
-        action,
-        asked,
-    );
-    Step { answer, board }
+    look_up(lent, action, asked?)
 }

@@ -1,5 +1,5 @@
 // Sets against the conflicts of a policy. Values count as they are held: no junior is looked for.
-ghost use Rattle.std.specs.Prelude.{◌≡◌, ◌||◌, map, ◌≤◌};
+ghost use Rattle.std.specs.Prelude.{◌≡◌, map, ◌≤◌};
 ghost use Rattle.policy.specs.Value.{conflict_places, conflicts_of};
 ghost use Rattle.board.specs.Inner.{held_at, exceeded, over};
 
@@ -17,41 +17,18 @@ fn held_by(entry: Session) -> u32
 pub fn held(sessions: [Session; SESSION_PLACES]) -> [u32; SESSION_PLACES]
     ensures { result ≡ map held_at sessions }
 {
-    let mut held = [0; SESSION_PLACES];
-    let mut i: usize = 0;
-    while i < SESSION_PLACES {
-        let entry = sessions[i];
-        held[i] = held_by(entry);
-        i += 1;
-    }
-    held
+    sessions.map(held_by)
 }
 
-// Whether one of two holds.
-fn either(a: bool, b: bool) -> bool
-    ensures { result ≡ (a || b) }
-{
-    if a {
-        return true;
-    }
-    b
-}
-
-// Whether one of these sets has too many values of a conflict. The loop has no early way out, so that the compiler can
+// Whether one of these sets has too many values of a conflict. The chain has no early way out, so that the compiler can
 // look at several sets at once.
 fn exceeded(conflict: Conflict, sets: &[u32]) -> bool
     ensures { result ≡ exceeded conflict sets.now }
 {
-    let mut some = false;
-    let mut i = 0;
-    while i < sets.len() {
-        some = either(
-            some,
-            conflict.most < u32::count_ones(conflict.set & sets[i]),
-        );
-        i += 1;
-    }
-    some
+    sets.iter().fold(
+        false,
+        |some, set| some | (conflict.most < (conflict.set & set).count_ones()),
+    )
 }
 
 // Whether one of these sets has too many values of some conflict.
@@ -59,15 +36,7 @@ pub fn over(conflicts: Conflicts, sets: &[u32]) -> bool
     requires { conflicts.count ≤ conflict_places }
     ensures { result ≡ over (conflicts_of conflicts) sets.now }
 {
-    let entries = conflicts.entries;
-    let count = conflicts.count;
-    let mut i = 0;
-    while i < count {
-        let x = entries[i];
-        if exceeded(x, sets) {
-            return true;
-        }
-        i += 1;
-    }
-    false
+    conflicts.entries[..conflicts.count]
+        .iter()
+        .any(|conflict| exceeded(*conflict, sets))
 }

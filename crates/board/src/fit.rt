@@ -5,22 +5,17 @@ ghost use Rattle.basis.specs.Choice.{given};
 ghost use Rattle.policy.specs.Policy as policy;
 ghost use Rattle.policy.specs.Value.{entries_of, side_of};
 ghost use Rattle.board.specs.Board.{entry_of, fits};
-ghost use Rattle.board.specs.Inner.{FoundAs, reached, all_reached, Rising, Reachable};
+ghost use Rattle.board.specs.Inner.{reached, all_reached, Rising, Reachable};
 
-use crate::reach::Found;
 use crate::{Board, SESSION_PLACES, Session, assigned, conflicts, reach};
 use policy::value::{PolicyValue, Register, SideValue};
 
-// Whether an entry is closed, or its user registered and its set in the user's reach, where this is found for its user.
-fn entry_reached(found: Found, side: SideValue, entry: Session) -> bool
-    requires { Rising side × (found.set < policy.sets (side_of side)) }
-    ensures { (p : policy.Policy) → p.user ≡ side_of side → FoundAs (policy.set_of_number p.users entry.user) found → result ≡ given (entry_of entry) true (reached p) }
+// Whether an entry is closed, or its user registered and its set in the user's reach, by what its user is assigned.
+fn entry_reached(assigned: Option<u32>, side: SideValue, entry: Session) -> bool
+    requires { Rising side × (given assigned 0 (λ s. s) < policy.sets (side_of side)) }
+    ensures { (p : policy.Policy) → p.user ≡ side_of side → assigned ≡ policy.set_of_number p.users entry.user → result ≡ given (entry_of entry) true (reached p) }
 {
-    if entry.live != 0 {
-        reach::covers(found, side, entry.held)
-    } else {
-        true
-    }
+    entry.live == 0 || reach::covers(assigned, side, entry.held)
 }
 
 // Whether that holds of each entry.
@@ -29,15 +24,11 @@ fn all_reached(users: Register, side: SideValue, sessions: [Session; SESSION_PLA
     ensures { (p : policy.Policy) → p.users ≡ entries_of users → p.user ≡ side_of side → result ≡ all_reached p sessions }
 {
     let table = assigned::table(users);
-    let mut i: usize = 0;
-    while i < SESSION_PLACES {
-        let entry = sessions[i];
-        let place = assigned::place(entry.user);
-        let found = table[place];
-        if !entry_reached(found, side, entry) {
+    for entry in sessions {
+        let assigned = table[assigned::place(entry.user)];
+        if !entry_reached(assigned, side, entry) {
             return false;
         }
-        i += 1;
     }
     true
 }
@@ -46,21 +37,13 @@ fn all_reached(users: Register, side: SideValue, sessions: [Session; SESSION_PLA
 pub fn fits(policy: PolicyValue, board: Board) -> bool
     ensures { result ≡ fits policy board }
 {
-    if validity::check(policy) {
-        let users = policy.users;
-        let side = policy.user;
-        let sessions = board.sessions;
-        if all_reached(users, side, sessions) {
-            let conflicts = policy.conflicts;
-            // Most policies have none, and then the sets need not be gathered.
-            if conflicts.count == 0 {
-                return true;
-            }
-            let held = conflicts::held(sessions);
-            return !conflicts::over(conflicts, &held);
-        }
-        false
-    } else {
-        false
+    if !validity::check(policy) {
+        return false;
     }
+    if !all_reached(policy.users, policy.user, board.sessions) {
+        return false;
+    }
+    // Most policies have no conflict, and then the sets need not be gathered.
+    policy.conflicts.count == 0
+        || !conflicts::over(policy.conflicts, &conflicts::held(board.sessions))
 }

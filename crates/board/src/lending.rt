@@ -1,28 +1,21 @@
-// Calls that are lent buffers in either width: of the two of each, the one of the widths that the call is made for.
-ghost use Rattle.std.specs.Prelude.{◌≡◌};
-ghost use Rattle.labels.specs.Inner.Lending.{lent_as};
+// A call as a value, as a list of calls has it.
+ghost use Rattle.std.specs.Prelude.{◌≡◌, map};
+ghost use Rattle.policy.specs.Limits.{bits};
+ghost use Rattle.labels.specs.Compile.{lent as lent_as};
 ghost use Rattle.board.specs.Board.{labels_of, call_of, out_of, board_step};
 
-use crate::{Board, Call, Step, asking, buffers};
-use labels::Counts;
-use policy::limits::Widths;
+use crate::{Board, Call, Lent, Step};
+use policy::stored::Stored;
 use policy::value::PolicyValue;
 
 // One call, by its case.
-pub fn take(
+pub fn take<L: Stored, E: Stored>(
     board: Board,
     policy: PolicyValue,
-    counts: Counts,
-    widths: Widths,
-    users: &[u8],
-    objects: &[u8],
-    table: &[u8],
-    wide_users: &[u16],
-    wide_objects: &[u16],
-    wide_table: &[u16],
+    lent: Lent<L, E>,
     call: Call,
 ) -> Step
-    ensures { out_of result ≡ board_step policy (labels_of counts (lent_as widths users.now objects.now table.now wide_users.now wide_objects.now wide_table.now)) (call_of call) board }
+    ensures { out_of result ≡ board_step policy (labels_of lent.entry.counts (lent_as (bits L.BITS E.BITS) (map L.number lent.entry.users.now) (map L.number lent.entry.objects.now) (map E.number lent.entry.table.now))) (call_of call) board }
 {
     match call {
         Call::Open(user, session, set) => crate::open(board, policy, user, session, set),
@@ -30,20 +23,7 @@ pub fn take(
         Call::Drop(user, session, set) => crate::drop(board, policy, user, session, set),
         Call::Close(user, session) => crate::close(board, policy, user, session),
         Call::Request(session, action, object) => {
-            let asked = asking::of(board, policy, widths, session, action, object);
-            buffers::answered(
-                board,
-                counts,
-                widths,
-                users,
-                objects,
-                table,
-                wide_users,
-                wide_objects,
-                wide_table,
-                action,
-                asked,
-            )
+            crate::request(board, policy, lent, session, action, object)
         }
     }
 }

@@ -1,12 +1,12 @@
 // The board of staff sessions: its five calls.
 #![tactic(auto)]
 
-ghost use Rattle.std.specs.Prelude.{◌≡◌};
+ghost use Rattle.std.specs.Prelude.{◌≡◌, map};
 ghost use Rattle.policy.specs.Answers.{reply_number};
 ghost use Rattle.policy.specs.Limits.{bits};
-ghost use Rattle.labels.specs.Compile.{lent};
+ghost use Rattle.labels.specs.Compile.{lent as lent_as};
 ghost use Rattle.board.specs.Machine.{opens, adds, drops, closes, requests};
-ghost use Rattle.board.specs.Board.{Labels, labels_of, reply_of, out_of, fresh, board_step};
+ghost use Rattle.board.specs.Board.{Labels, labels_of, replied, reply_of, out_of, fresh, board_step};
 
 mod asking;
 mod assigned;
@@ -20,17 +20,18 @@ mod reach;
 mod rulings;
 mod steps;
 
-use labels::Counts;
-use policy::limits::SESSION_NUMBERS;
+pub use buffers::Lent;
+use policy::limits::{SESSION_NUMBERS, Widths};
 use policy::refusal::Refusal;
+use policy::stored::Stored;
 use policy::value::PolicyValue;
-use policy::{limits, refusal};
 
 // A board has a place for each session number.
 const SESSION_PLACES: usize = SESSION_NUMBERS as usize;
 
 // The entry of a session number: while it is live, which document 01 calls open, its user and the set it holds. It is
-// live at every number but 0; the calls store 1.
+// live at every number but 0; the calls store 1. A number and no Option, since C lays the entry out and may hand over any
+// number.
 #[repr(C)]
 #[derive(Clone, Copy)]
 pub struct Session {
@@ -56,31 +57,36 @@ pub enum Call {
     Request(u32, u32, u32),
 }
 
-// What a call answers.
-#[derive(Clone, Copy)]
-pub enum Answer {
-    Done,
-    Granted,
-    Denied,
-    Refused(Refusal),
+// What a call answers that is not refused, by its number.
+#[derive(Clone, Copy, PartialEq, Eq)]
+pub enum Reply {
+    Denied = 0,
+    Granted = 1,
+    Done = 2,
 }
 
-// The answer of a call and the board after it; after a refusal, the old board.
+impl From<Reply> for u32 {
+    ghost from_gives = { λ reply n. n ≡ reply_number (replied reply) };
+
+    fn from(reply: Reply) -> u32 {
+        reply as u32
+    }
+}
+
+// What a call answers, or why it is refused, and the board after it; after a refusal, the old board.
 #[derive(Clone, Copy)]
 pub struct Step {
-    pub answer: Answer,
+    pub answer: Result<Reply, Refusal>,
     pub board: Board,
 }
 
-// The number of an answer: 0 denied, 1 granted, 2 done, or the refusal's.
-pub fn number_of(answer: Answer) -> u32
+// The number of an answer: its reply's, or its refusal's. No `From`, since neither type is of this crate alone.
+pub fn number_of(answer: Result<Reply, Refusal>) -> u32
     ensures { result ≡ reply_number (reply_of answer) }
 {
     match answer {
-        Answer::Done => 2,
-        Answer::Granted => 1,
-        Answer::Denied => 0,
-        Answer::Refused(why) => refusal::number_of(why),
+        Ok(reply) => u32::from(reply),
+        Err(why) => u32::from(why),
     }
 }
 
@@ -88,10 +94,14 @@ pub fn number_of(answer: Answer) -> u32
 pub fn fresh() -> Board
     ensures { result ≡ fresh }
 {
-    let none = entries::closed();
-    let sessions = [none; SESSION_PLACES];
-    Board { sessions: sessions }
+    Board {
+        sessions: [entries::CLOSED; SESSION_PLACES],
+    }
 }
+
+// The calls take what document 01 names, in its order.
+// Each of these four begins by check 11 and the session's entry. One function of these lines for all would be handed
+// board and policy, which are large, once more by value.
 
 // Opens a session of the user that holds the set.
 pub fn open(board: Board, policy: PolicyValue, user: u32, session: u32, set: u32) -> Step
@@ -100,17 +110,13 @@ pub fn open(board: Board, policy: PolicyValue, user: u32, session: u32, set: u32
     if !fit::fits(policy, board) {
         return steps::invalid(board);
     }
-    let sessions = board.sessions;
-    let entry = entries::at(sessions, session);
-    let users = policy.users;
-    let side = policy.user;
-    let reach = reach::of(users, side, user);
-    let conflicts = policy.conflicts;
-    let over = conflicts::over(conflicts, &[set]);
+    let entry = entries::at(board.sessions, session);
+    let reach = reach::of(policy.users, policy.user, user);
+    let over = conflicts::over(policy.conflicts, &[set]);
     let ruling = rulings::of_open(entry, reach, over, session, set);
     let next = Session {
         live: 1,
-        user: user,
+        user,
         held: set,
     };
     steps::settle(board, session, ruling, next)
@@ -123,19 +129,15 @@ pub fn add(board: Board, policy: PolicyValue, user: u32, session: u32, set: u32)
     if !fit::fits(policy, board) {
         return steps::invalid(board);
     }
-    let sessions = board.sessions;
-    let entry = entries::at(sessions, session);
-    let users = policy.users;
-    let side = policy.user;
-    let reach = reach::of(users, side, user);
+    let entry = entries::at(board.sessions, session);
+    let reach = reach::of(policy.users, policy.user, user);
     let held = sets::union(entry.held, set);
-    let conflicts = policy.conflicts;
-    let over = conflicts::over(conflicts, &[held]);
+    let over = conflicts::over(policy.conflicts, &[held]);
     let ruling = rulings::of_add(entry, reach, over, user, session, set);
     let next = Session {
         live: 1,
         user: entry.user,
-        held: held,
+        held,
     };
     steps::settle(board, session, ruling, next)
 }
@@ -147,17 +149,14 @@ pub fn drop(board: Board, policy: PolicyValue, user: u32, session: u32, set: u32
     if !fit::fits(policy, board) {
         return steps::invalid(board);
     }
-    let sessions = board.sessions;
-    let entry = entries::at(sessions, session);
-    let users = policy.users;
-    let side = policy.user;
-    let reach = reach::of(users, side, user);
+    let entry = entries::at(board.sessions, session);
+    let reach = reach::of(policy.users, policy.user, user);
     let ruling = rulings::of_drop(entry, reach, user, session, set);
     let held = sets::minus(entry.held, set);
     let next = Session {
         live: 1,
         user: entry.user,
-        held: held,
+        held,
     };
     steps::settle(board, session, ruling, next)
 }
@@ -169,106 +168,29 @@ pub fn close(board: Board, policy: PolicyValue, user: u32, session: u32) -> Step
     if !fit::fits(policy, board) {
         return steps::invalid(board);
     }
-    let sessions = board.sessions;
-    let entry = entries::at(sessions, session);
-    let users = policy.users;
-    let found = reach::set_of(users, user);
-    let ruling = rulings::of_close(entry, found.registered, user, session);
-    let gone = entries::closed();
-    steps::settle(board, session, ruling, gone)
+    let entry = entries::at(board.sessions, session);
+    let found = reach::set_of(policy.users, user);
+    let ruling = rulings::of_close(entry, found.is_some(), user, session);
+    steps::settle(board, session, ruling, entries::CLOSED)
 }
 
-// Grants or denies by the labels of the held set and the object's set, of a policy whose form has labels and table in
-// bytes: reads one byte of each lent buffer.
-pub fn request_8_8(
+// Grants or denies by the labels of the held set and the object's set, of a policy whose form stores labels and entries
+// as they are lent: reads one number of each lent buffer.
+pub fn request<L: Stored, E: Stored>(
     board: Board,
     policy: PolicyValue,
-    counts: Counts,
-    users: &[u8],
-    objects: &[u8],
-    table: &[u8],
+    lent: Lent<L, E>,
     session: u32,
     action: u32,
     object: u32,
 ) -> Step
-    ensures { out_of result ≡ board_step policy (labels_of counts (lent (bits 8 8) users.now objects.now table.now)) (requests session action object) board }
+    ensures { out_of result ≡ board_step policy (labels_of lent.entry.counts (lent_as (bits L.BITS E.BITS) (map L.number lent.entry.users.now) (map L.number lent.entry.objects.now) (map E.number lent.entry.table.now))) (requests session action object) board }
 {
-    let none = [0u16; 0];
-    let asked = asking::of(board, policy, limits::WIDTHS_8_8, session, action, object);
-    buffers::answered(
-        board,
-        counts,
-        limits::WIDTHS_8_8,
-        users,
-        objects,
-        table,
-        &none,
-        &none,
-        &none,
-        action,
-        asked,
-    )
-}
-
-// The same of a form with labels in bytes and a table of 16-bit entries: reads one entry of the table.
-pub fn request_8_16(
-    board: Board,
-    policy: PolicyValue,
-    counts: Counts,
-    users: &[u8],
-    objects: &[u8],
-    table: &[u16],
-    session: u32,
-    action: u32,
-    object: u32,
-) -> Step
-    ensures { out_of result ≡ board_step policy (labels_of counts (lent (bits 8 16) users.now objects.now table.now)) (requests session action object) board }
-{
-    let no_table = [0u8; 0];
-    let no_labels = [0u16; 0];
-    let asked = asking::of(board, policy, limits::WIDTHS_8_16, session, action, object);
-    buffers::answered(
-        board,
-        counts,
-        limits::WIDTHS_8_16,
-        users,
-        objects,
-        &no_table,
-        &no_labels,
-        &no_labels,
-        table,
-        action,
-        asked,
-    )
-}
-
-// The same of a form with labels and entries of 16 bits: reads one number of each lent buffer.
-pub fn request_16_16(
-    board: Board,
-    policy: PolicyValue,
-    counts: Counts,
-    users: &[u16],
-    objects: &[u16],
-    table: &[u16],
-    session: u32,
-    action: u32,
-    object: u32,
-) -> Step
-    ensures { out_of result ≡ board_step policy (labels_of counts (lent (bits 16 16) users.now objects.now table.now)) (requests session action object) board }
-{
-    let none = [0u8; 0];
-    let asked = asking::of(board, policy, limits::WIDTHS_16_16, session, action, object);
-    buffers::answered(
-        board,
-        counts,
-        limits::WIDTHS_16_16,
-        &none,
-        &none,
-        &none,
-        users,
-        objects,
-        table,
-        action,
-        asked,
-    )
+    let widths = Widths {
+        label: L::BITS,
+        entry: E::BITS,
+    };
+    let asked = asking::of(board, policy, widths, session, action, object);
+    let answer = buffers::answer(lent, action, asked);
+    Step { answer, board }
 }

@@ -1,12 +1,10 @@
 // What a call makes of the board: refused, the old one; done, the board with the entry that the call's session gets.
 ghost use Rattle.std.specs.Prelude.{◌≡◌, ◌<◌};
-ghost use Rattle.std.proofs.Math.Option.{none};
 ghost use Rattle.policy.specs.Limits.{session_numbers};
 ghost use Rattle.board.specs.Board.{out_of};
 ghost use Rattle.board.specs.Inner.{refusal_of, invalid, settled};
 
-use crate::rulings::Ruling;
-use crate::{Answer, Board, Session, Step};
+use crate::{Board, Reply, Session, Step};
 use policy::refusal::Refusal;
 
 // The step of a call that check 11 refuses.
@@ -14,29 +12,28 @@ pub fn invalid(board: Board) -> Step
     ensures { out_of result ≡ invalid board }
 {
     Step {
-        answer: Answer::Refused(Refusal::InvalidState),
-        board: board,
+        answer: Err(Refusal::InvalidState),
+        board,
     }
 }
 
 // The step of a call that changes a session, by its ruling and the entry that the session gets.
-pub fn settle(board: Board, session: u32, ruling: Ruling, entry: Session) -> Step
-    requires { refusal_of ruling ≡ none → session < session_numbers }
+pub fn settle(board: Board, session: u32, ruling: Result<(), Refusal>, entry: Session) -> Step
+    requires { refusal_of ruling ≡ None → session < session_numbers }
     ensures { out_of result ≡ settled board session (refusal_of ruling) entry }
 {
     match ruling {
-        Ruling::Allowed => {
-            let i = session as usize;
+        Ok(()) => {
             let mut after = board;
-            after.sessions[i] = entry;
+            after.sessions[session as usize] = entry;
             Step {
-                answer: Answer::Done,
+                answer: Ok(Reply::Done),
                 board: after,
             }
         }
-        Ruling::Refused(why) => Step {
-            answer: Answer::Refused(why),
-            board: board,
+        Err(why) => Step {
+            answer: Err(why),
+            board,
         },
     }
 }

@@ -1,131 +1,94 @@
--- What the answers about a rule's words rest on: one law for each answer about a word, and for each turn of the loops
--- over the first n words.
+-- What the answers about a rule's words rest on: the checks of a list of words, word by word.
+use Rattle.std.specs.Prelude.{Option, None, Some}
+use Rattle.std.specs.List.{list_all}
 use Prim.Native.Nat.{ℕ, ◌+◌, ◌-◌, ◌≤◌, ◌<◌}
 use mathlib.Core.Path.{◌≡◌, refl, sym, ◌∙◌}
-use mathlib.Core.Bool.{Bool, true, false}
+use mathlib.Core.Bool.{Bool, true, false, cond, ◌&&◌, and-false}
 use mathlib.Core.List.{List, [], ◌∷◌, map}
 use native.Mathlib.Omega.{arith}
-use borrow.Author.Tests.{le-leb, lt-leb}
-use lib.Dec.{eqb, ltb}
-use lib.ListN.{length, get_or, take, drop, length-take, get_or-eq_default}
-use lib.Seq.{get_or-take}
+use lib.Dec.{eqb, leb}
+use lib.ListN.{length, get_or, drop, drop_of_length-le}
+use Rattle.basis.specs.Choice.{given}
 use Rattle.basis.specs.Lists.{all}
-use Rattle.basis.proofs.Walk.{part-next, part_end}
+use Rattle.basis.proofs.Walk.{rest-next}
 use Rattle.words.specs.Word.{numbered}
 use Rattle.words.specs.declared.Word.{Word}
-use Rattle.words.specs.declared.Word.TheVariants.{Holds, Compares}
-use Rattle.words.specs.declared.Holding.{Holding}
-use Rattle.words.specs.declared.Holding.TheVariants.{User, Object}
-use Rattle.words.specs.declared.Comparison.{Comparison}
-use Rattle.words.specs.declared.Comparison.TheVariants.{Dominates, Equals}
-use Rattle.policy.specs.Checks.{Sizes, both_there, word_fits, widths_equal, equal_width, takes, balanced}
-use Rattle.policy.specs.Value.{words_in}
-use Rattle.checks.specs.Inner.{sizes_in, both_in}
-use Rattle.checks.specs.declared.side.Shape.{Shape}
+use Rattle.policy.specs.Checks.{Sizes, word_fits, widths_equal, takes, balanced}
+use Rattle.checks.specs.Inner.{after}
 
--- ---- one word
+-- a test of some words, as a chain over their numbers makes it
+pub all-chain : (f : Word → Bool) (numbers : List ℕ) → list_all (λ n. f (numbered n)) numbers ≡ all f (map numbered numbers)
+unfolding all
+all-chain f [] = refl
+all-chain f (n ∷ ns) = rw (all-chain f ns)
 
-module _ (user object : Shape) (w : Word) (b : Bool) where
-  module _ (h : Holding) (v : ℕ) (e : w ≡ Holds h) where
-    pub fits-user : h ≡ User v → b ≡ ltb v user.total → b ≡ word_fits (both_in user object) w
-    fits-user f q = rw (e, f) q
+-- ---- the words in turn, with the truth values that those before leave
 
-    pub fits-object : h ≡ Object v → b ≡ ltb v object.total → b ≡ word_fits (both_in user object) w
-    fits-object f q = rw (e, f) q
+-- a test of some words, with d truth values on the stack, that goes by a test of each word
+pub record Walk (f : ℕ → List Word → Bool) (p : Word → Bool) : Type 0 where
+  pub none : (d : ℕ) → f d [] ≡ eqb d 1
+  pub more : (d : ℕ) (w : Word) (ws : List Word) → f d (w ∷ ws) ≡ (p w && given (after d w) false (λ e. f e ws))
 
-  module _ (c : Comparison) (i j : ℕ) (e : w ≡ Compares c) where
-    module _ (is : b ≡ both_there (both_in user object) i j) where
-      pub fits-dominates : c ≡ Dominates i j → b ≡ word_fits (both_in user object) w
-      fits-dominates f = rw (e, f) is
+-- one word more: l says whether it finds enough truth values and n how many it leaves, a and b whether it passes two tests,
+-- and x, y and z whether the words behind it do
+in-turn : (a b l x y : Bool) (n : ℕ) (z : ℕ → Bool)
+    → ((a && x) && ((b && y) && (l && z n))) ≡ ((a && b) && given (cond l (Some n) None) false (λ d. x && (y && z d)))
+in-turn false b l x y n z = refl
+in-turn true false l x y n z = and-false x
+in-turn true true true x y n z = refl
+in-turn true true false x y n z = rw (and-false y, and-false x)
 
-      pub fits-equals : c ≡ Equals i j → b ≡ word_fits (both_in user object) w
-      fits-equals f = rw (e, f) is
+pub balanced-walk : Walk balanced (λ w. true)
+unfolding balanced
+balanced-walk =
+    record {
+      none = λ d. refl;
+      more = λ d w ws. in-turn true true (leb (takes w) d) true true (d - takes w + 1) (λ e. balanced e ws);
+    }
 
-    module _ (is : b ≡ equal_width (both_in user object) i j) where
-      pub equal-dominates : c ≡ Dominates i j → b ≡ widths_equal (both_in user object) w
-      equal-dominates f = rw (e, f) is
+-- checks 6, 8 and 9
+abbrev pub sound : Sizes → ℕ → List Word → Bool
+sound s d ws = all (word_fits s) ws && (all (widths_equal s) ws && balanced d ws)
 
-      pub equal-equals : c ≡ Equals i j → b ≡ widths_equal (both_in user object) w
-      equal-equals f = rw (e, f) is
+pub sound-walk : (s : Sizes) → Walk (sound s) (λ w. word_fits s w && widths_equal s w)
+unfolding all balanced
+sound-walk s =
+    record {
+      none = λ d. refl;
+      more = λ d w ws. in-turn (word_fits s w) (widths_equal s w) (leb (takes w) d) (all (word_fits s) ws) (all (widths_equal s) ws) (d - takes w + 1) (λ e. balanced e ws);
+    }
 
-module _ (x : Shape) (i : ℕ) where
-  pub width-there : i < x.attributes → get_or x.widths i 0 ≡ get_or (sizes_in x).widths i 0
-  width-there h = sym (get_or-take x.attributes x.widths i 0 h)
+-- a word leaves at most one truth value more
+after-few : (d e : ℕ) (w : Word) → after d w ≡ Some e → e ≤ d + 1
+after-few d e w q = go (leb (takes w) d) q
+  where
+    go : (b : Bool) → cond b (Some (d - takes w + 1)) None ≡ Some e → e ≤ d + 1
+    go true h = let k : d - takes w + 1 ≡ e = cc in omega arith
+    go false h = let k : ◌≡◌ {A = ℕ} 0 1 = cc in absurd (omega arith)
 
-  pub width-none : x.attributes ≤ i → 0 ≡ get_or (sizes_in x).widths i 0
-  width-none h =
-      let k : length (take x.attributes x.widths) ≤ i = omega (arith, length-take x.attributes x.widths) in
-      sym (get_or-eq_default (take x.attributes x.widths) 0 k)
-
--- ---- the first n words from place i on
-
-abbrev pub words_from : List ℕ → ℕ → ℕ → List Word
-words_from numbers n i = map numbered (drop i (take n numbers))
-
-module _ (numbers : List ℕ) (n i : ℕ) where
-  word_next : i < n → n ≤ length numbers
-      → words_from numbers n i ≡ numbered (get_or numbers i 0) ∷ words_from numbers n (i + 1)
-  word_next h k = rw (part-next 0 numbers i n h k)
-
-  word_end : n ≤ i → words_from numbers n i ≡ []
-  word_end h = rw (part_end numbers n i h)
-
--- the words before place i pass a test
-pub record Passed (f : Word → Bool) (numbers : List ℕ) (n i : ℕ) : Type 0 where
-  pub before : i ≤ n
-  pub rest : all f (words_in n numbers) ≡ all f (words_from numbers n i)
-
-module _ (f : Word → Bool) {numbers : List ℕ} {n : ℕ} where
-  pub passed_none : Passed f numbers n 0
-  passed_none = record { before = omega arith; rest = refl }
-
-  module _ {i : ℕ} (q : Passed f numbers n i) where
-    pub passed-all : n ≤ i → true ≡ all f (words_in n numbers)
-    unfolding all
-    passed-all h = sym (q.rest ∙ rw (word_end numbers n i h))
-
-    module _ (h : i < n) (k : n ≤ length numbers) {w : Word} (is : w ≡ numbered (get_or numbers i 0))
-        {b : Bool} (t : b ≡ f w) where
-      pub passed-more : b ≡ true → Passed f numbers n (i + 1)
-      unfolding all
-      passed-more e = record { before = omega arith; rest = q.rest ∙ rw (word_next numbers n i h k, ← is, ← t, e) }
-
-      pub passed-not : b ≡ false → false ≡ all f (words_in n numbers)
-      unfolding all
-      passed-not e = sym (q.rest ∙ rw (word_next numbers n i h k, ← is, ← t, e))
-
--- the words before place i leave d truth values
-pub record Leaves (numbers : List ℕ) (n d i : ℕ) : Type 0 where
-  pub before : i ≤ n
+-- the words before place i leave d truth values: the answer is that of the words from place i on
+pub record Walked (f : ℕ → List Word → Bool) (numbers : List ℕ) (d i : ℕ) : Type 0 where
   pub few : d ≤ i
-  pub rest : balanced 0 (words_in n numbers) ≡ balanced d (words_from numbers n i)
+  pub rest : f 0 (map numbered numbers) ≡ f d (map numbered (drop i numbers))
 
-module _ {numbers : List ℕ} {n : ℕ} where
-  pub leaves_none : Leaves numbers n 0 0
-  leaves_none = record { before = omega arith; few = omega arith; rest = refl }
+pub walked_none : {f : ℕ → List Word → Bool} {numbers : List ℕ} → Walked f numbers 0 0
+walked_none = record { few = omega arith; rest = refl }
 
-  module _ {d i : ℕ} (q : Leaves numbers n d i) where
-    pub leaves_one : n ≤ i → eqb d 1 ≡ balanced 0 (words_in n numbers)
-    unfolding balanced
-    leaves_one h = sym (q.rest ∙ rw (word_end numbers n i h))
+module _ {f : ℕ → List Word → Bool} {p : Word → Bool} (t : Walk f p) {numbers : List ℕ} {d i : ℕ} (q : Walked f numbers d i) where
+  pub walked_all : length numbers ≤ i → eqb d 1 ≡ f 0 (map numbered numbers)
+  walked_all h = sym (q.rest ∙ rw (drop_of_length-le numbers h) (t.none d))
 
-    module _ (h : i < n) (k : n ≤ length numbers) {w : Word} (is : w ≡ numbered (get_or numbers i 0))
-        {t : ℕ} (e : t ≡ takes w) where
-      pub leaves_more : t ≤ d → Leaves numbers n (d - t + 1) (i + 1)
-      unfolding balanced
-      leaves_more g =
-          record {
-            before = omega arith;
-            few = omega (arith, q.few);
-            rest = q.rest ∙ rw (word_next numbers n i h k, ← is, ← e, le-leb t d g);
-          }
+  module _ (h : i < length numbers) {w : Word} (is : w ≡ numbered (get_or numbers i 0)) where
+    turn : f 0 (map numbered numbers) ≡ (p w && given (after d w) false (λ e. f e (map numbered (drop (i + 1) numbers))))
+    turn = q.rest ∙ rw (rest-next 0 numbers i h, ← is) (t.more d w (map numbered (drop (i + 1) numbers)))
 
-      pub leaves_few : d < t → false ≡ balanced 0 (words_in n numbers)
-      unfolding balanced
-      leaves_few g = sym (q.rest ∙ rw (word_next numbers n i h k, ← is, ← e, lt-leb t d g))
+    pub walked-not : {b : Bool} → b ≡ p w → b ≡ false → false ≡ f 0 (map numbered numbers)
+    walked-not u e = sym (turn ∙ rw (← u, e))
 
--- the words before place i pass both tests and leave d truth values
-pub record Checked (s : Sizes) (numbers : List ℕ) (n d i : ℕ) : Type 0 where
-  pub fit : Passed (word_fits s) numbers n i
-  pub equal : Passed (widths_equal s) numbers n i
-  pub stack : Leaves numbers n d i
+    module _ {o : Option ℕ} (u : o ≡ after d w) where
+      pub walked-stuck : o ≡ None → false ≡ f 0 (map numbered numbers)
+      walked-stuck e = sym (turn ∙ rw (← u, e, and-false))
+
+      pub walked-more : {b : Bool} → b ≡ p w → b ≡ true → {e : ℕ} → o ≡ Some e → Walked f numbers e (i + 1)
+      walked-more v g {e} k =
+          record { few = omega (arith, q.few, after-few d e w (sym u ∙ k)); rest = turn ∙ rw (← v, g, ← u, k) }

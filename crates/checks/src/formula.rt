@@ -1,121 +1,77 @@
 // The words of a rule, by their numbers, against both sides and against the stack.
-ghost use Rattle.std.specs.Prelude.{◌≡◌, ◌&&◌, ◌≤◌, ltb, get_or};
+ghost use Rattle.std.specs.Prelude.{◌≡◌, ◌+◌, ◌^◌, ◌<◌, ◌&&◌, map};
 ghost use Rattle.basis.specs.Lists.{all};
+ghost use Rattle.words.specs.Word.{numbered};
 ghost use Rattle.policy.specs.Checks as checks;
-ghost use Rattle.policy.specs.Value.{width_places, word_places, words_in};
-ghost use Rattle.checks.specs.Inner.{sizes_in, both_in};
+ghost use Rattle.checks.specs.Inner.{both_in, after};
 
-use crate::side::Shape;
-use policy::value::WORD_PLACES;
+use crate::shape::Shapes;
 use words::{Comparison, Holding, Word};
 
-fn value_there(total: u32, v: u8) -> bool
-    ensures { result ≡ ltb v total }
-{
-    (v as u32) < total
-}
-
-fn both_there(user: usize, object: usize, i: u8, j: u8) -> bool
-    ensures { result ≡ (ltb i user && ltb j object) }
-{
-    if (i as usize) < user {
-        return (j as usize) < object;
-    }
-    false
-}
-
-// Check 6 of a word.
-fn word_fits(user: Shape, object: Shape, word: Word) -> bool
-    ensures { result ≡ checks.word_fits (both_in user object) word }
-{
-    match word {
-        Word::True => true,
-        Word::False => true,
-        Word::Holds(h) => match h {
-            Holding::User(v) => value_there(user.total, v),
-            Holding::Object(v) => value_there(object.total, v),
-        },
-        Word::Compares(c) => match c {
-            Comparison::Dominates(i, j) => both_there(user.attributes, object.attributes, i, j),
-            Comparison::Equals(i, j) => both_there(user.attributes, object.attributes, i, j),
-        },
-        Word::Not => true,
-        Word::And => true,
-        Word::Or => true,
-    }
-}
-
-// The width of attribute i; 0 where there is none.
-fn width(side: Shape, i: u8) -> u32
-    requires { side.attributes ≤ width_places }
-    ensures { result ≡ get_or (sizes_in side).widths i 0 }
-{
-    let k = i as usize;
-    if k < side.attributes {
-        let widths = side.widths;
-        return widths[k];
-    }
-    0
-}
-
-fn equal_width(user: Shape, object: Shape, i: u8, j: u8) -> bool
-    requires { (user.attributes ≤ width_places) × (object.attributes ≤ width_places) }
-    ensures { result ≡ checks.equal_width (both_in user object) i j }
-{
-    width(user, i) == width(object, j)
-}
-
-// Check 8 of a word.
-fn widths_equal(user: Shape, object: Shape, word: Word) -> bool
-    requires { (user.attributes ≤ width_places) × (object.attributes ≤ width_places) }
-    ensures { result ≡ checks.widths_equal (both_in user object) word }
-{
-    match word {
-        Word::True => true,
-        Word::False => true,
-        Word::Holds(_) => true,
-        Word::Compares(c) => match c {
-            Comparison::Dominates(i, j) => equal_width(user, object, i, j),
-            Comparison::Equals(i, j) => equal_width(user, object, i, j),
-        },
-        Word::Not => true,
-        Word::And => true,
-        Word::Or => true,
-    }
-}
-
-// Check 6 of the first n words.
-pub fn all_fit(user: Shape, object: Shape, numbers: [u8; WORD_PLACES], n: usize) -> bool
-    requires { n ≤ word_places }
-    ensures { result ≡ all (checks.word_fits (both_in user object)) (words_in n numbers) }
-{
-    let mut i = 0;
-    while i < n {
-        let w = words::of_number(numbers[i]);
-        if word_fits(user, object, w) {
-            i += 1;
-        } else {
-            return false;
+impl Shapes {
+    // Check 6 of a word.
+    fn word_fits(&self, word: Word) -> bool
+        ensures { result ≡ checks.word_fits (both_in self.now) word }
+    {
+        match word {
+            Word::Holds(Holding::User(v)) => u32::from(v) < self.user.total,
+            Word::Holds(Holding::Object(v)) => u32::from(v) < self.object.total,
+            Word::Compares(Comparison::Dominates(i, j) | Comparison::Equals(i, j)) => {
+                usize::from(i) < self.user.attributes && usize::from(j) < self.object.attributes
+            }
+            Word::True | Word::False | Word::Not | Word::And | Word::Or => true,
         }
     }
-    true
-}
 
-// Check 8 of the first n words.
-pub fn all_equal(user: Shape, object: Shape, numbers: [u8; WORD_PLACES], n: usize) -> bool
-    requires { (n ≤ word_places) × (user.attributes ≤ width_places) × (object.attributes ≤ width_places) }
-    ensures { result ≡ all (checks.widths_equal (both_in user object)) (words_in n numbers) }
-{
-    let mut i = 0;
-    while i < n {
-        let w = words::of_number(numbers[i]);
-        if widths_equal(user, object, w) {
-            i += 1;
-        } else {
-            return false;
+    // Check 8 of a word.
+    fn widths_equal(&self, word: Word) -> bool
+        ensures { result ≡ checks.widths_equal (both_in self.now) word }
+    {
+        match word {
+            Word::Compares(Comparison::Dominates(i, j) | Comparison::Equals(i, j)) => {
+                self.user.width(i) == self.object.width(j)
+            }
+            Word::True | Word::False | Word::Holds(_) | Word::Not | Word::And | Word::Or => true,
         }
     }
-    true
+
+    fn word_sound(&self, word: Word) -> bool
+        ensures { result ≡ (checks.word_fits (both_in self.now) word && checks.widths_equal (both_in self.now) word) }
+    {
+        self.word_fits(word) && self.widths_equal(word)
+    }
+
+    // Check 6 of some words. This and the next are two chains of one line: one function of a test would be no shorter.
+    pub fn words_fit(&self, words: &[u8]) -> bool
+        ensures { result ≡ all (checks.word_fits (both_in self.now)) (map numbered words.now) }
+    {
+        words.iter().all(|n| self.word_fits(Word::from(*n)))
+    }
+
+    // Check 8 of some words.
+    pub fn all_widths_equal(&self, words: &[u8]) -> bool
+        ensures { result ≡ all (checks.widths_equal (both_in self.now)) (map numbered words.now) }
+    {
+        words.iter().all(|n| self.widths_equal(Word::from(*n)))
+    }
+
+    // Checks 6, 8 and 9 of some words in one pass, for check 11, which does not tell which of them is broken.
+    pub fn words_sound(&self, words: &[u8]) -> bool
+        ensures { let ws = map numbered words.now in result ≡ (all (checks.word_fits (both_in self.now)) ws && (all (checks.widths_equal (both_in self.now)) ws && checks.balanced 0 ws)) }
+    {
+        let mut depth = 0;
+        for n in words {
+            let word = Word::from(*n);
+            if !self.word_sound(word) {
+                return false;
+            }
+            let Some(next) = after(depth, word) else {
+                return false;
+            };
+            depth = next;
+        }
+        depth == 1
+    }
 }
 
 // How many truth values a word takes off the stack; each puts one on it.
@@ -123,56 +79,30 @@ fn takes(word: Word) -> usize
     ensures { result ≡ checks.takes word }
 {
     match word {
-        Word::True => 0,
-        Word::False => 0,
-        Word::Holds(_) => 0,
-        Word::Compares(_) => 0,
+        Word::True | Word::False | Word::Holds(_) | Word::Compares(_) => 0,
         Word::Not => 1,
-        Word::And => 2,
-        Word::Or => 2,
+        Word::And | Word::Or => 2,
     }
 }
 
-// Check 9 of the first n words.
-pub fn balanced(numbers: [u8; WORD_PLACES], n: usize) -> bool
-    requires { n ≤ word_places }
-    ensures { result ≡ checks.balanced 0 (words_in n numbers) }
+// How many truth values are on a stack of `depth` after a word; none where the word finds too few.
+fn after(depth: usize, word: Word) -> Option<usize>
+    requires { depth + 1 < 2 ^ 64 }
+    ensures { result ≡ after depth word }
 {
-    let mut depth: usize = 0;
-    let mut i = 0;
-    while i < n {
-        let w = words::of_number(numbers[i]);
-        let k = takes(w);
-        if depth < k {
-            return false;
-        }
-        depth = depth - k + 1;
-        i += 1;
-    }
-    depth == 1
+    Some(depth.checked_sub(takes(word))? + 1)
 }
 
-// Checks 6, 8 and 9 of the first n words in one pass, for check 11, which does not tell which of them is broken.
-pub fn sound(user: Shape, object: Shape, numbers: [u8; WORD_PLACES], n: usize) -> bool
-    requires { (n ≤ word_places) × (user.attributes ≤ width_places) × (object.attributes ≤ width_places) }
-    ensures { result ≡ (all (checks.word_fits (both_in user object)) (words_in n numbers) && (all (checks.widths_equal (both_in user object)) (words_in n numbers) && checks.balanced 0 (words_in n numbers))) }
+// Check 9 of some words.
+pub fn balanced(words: &[u8]) -> bool
+    ensures { result ≡ checks.balanced 0 (map numbered words.now) }
 {
-    let mut depth: usize = 0;
-    let mut i = 0;
-    while i < n {
-        let w = words::of_number(numbers[i]);
-        if !word_fits(user, object, w) {
+    let mut depth = 0;
+    for n in words {
+        let Some(next) = after(depth, Word::from(*n)) else {
             return false;
-        }
-        if !widths_equal(user, object, w) {
-            return false;
-        }
-        let k = takes(w);
-        if depth < k {
-            return false;
-        }
-        depth = depth - k + 1;
-        i += 1;
+        };
+        depth = next;
     }
     depth == 1
 }

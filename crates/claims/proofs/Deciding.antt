@@ -1,13 +1,13 @@
 -- Deciding by the policy and deciding by a listing, for the value of an accepted text and sets of its sides: neither is
 -- refused, the one says what the formula and the pairs say, and the other whether the pair of sets stands in the
 -- listing.
+use Rattle.std.specs.Prelude.{Option, None, Some}
 use Prim.Native.Nat.{ℕ, zero, suc, ◌/◌, ◌%◌, ◌≤◌, ◌<◌}
 use mathlib.Core.Path.{◌≡◌, refl, sym, ap, ap₂, ◌∙◌}
 use mathlib.Core.Bool.{Bool, true, false, false≢true, ◌&&◌, ◌||◌}
 use mathlib.Core.List.{List, [], ◌∷◌}
 use mathlib.Core.Logic.Iff
 use mathlib.Core.Logic.{◌↔◌, ◌⊎◌, inl, inr, ⊎_elim}
-use mathlib.Core.Option.{Option, none, some}
 use native.Mathlib.Omega.{arith}
 use borrow.Author.Tests.{eqb-true, eq-eqb, le-ltb, lt-leb}
 use lib.Arith.{digits_div, digits_mod}
@@ -43,13 +43,13 @@ either false = inr refl
 
 module _ (p : Policy) (a : ℕ) (s : Sets) where
   in_formula : (o : Option (List Word)) → formula_in p.rules a ≡ o → (given o false (truth p s) ≡ true) ↔ FormulaTrue p a s
-  in_formula none q = (
+  in_formula None q = (
     (λ e. absurd (false≢true e)),
     (λ w. let f = sym q ∙ w.formula in let z : ◌≡◌ {A = ℕ} 0 1 = cc in absurd (omega arith)),
   )
-  in_formula (some ws) q = (
+  in_formula (Some ws) q = (
     (λ e. record { words = ws; formula = q; holds = e }),
-    (λ w. let f : some ws ≡ some w.words = sym q ∙ w.formula in let g : ws ≡ w.words = cc in rw g w.holds),
+    (λ w. let f : Some ws ≡ Some w.words = sym q ∙ w.formula in let g : ws ≡ w.words = cc in rw g w.holds),
   )
 
   formula-iff : (formula_true p a s ≡ true) ↔ FormulaTrue p a s

@@ -1,19 +1,19 @@
 -- Demand 1, call by call: each goes by the first broken check of its list.
+use Rattle.std.specs.Prelude.{Option, None, Some, Result, Ok, Err}
 use Prim.Native.Nat.{ℕ}
 use mathlib.Core.Path.{◌≡◌, refl, ap}
 use mathlib.Core.List.{[], ◌∷◌, map}
-use mathlib.Core.Option.{Option, none, some}
 use native.Mathlib.Omega.{arith}
 use Rattle.policy.specs.Write.{write, write_buffer, write_checks}
 use Rattle.policy.specs.Answers.{number_of, value_in}
 use Rattle.policy.specs.declared.value.PolicyValue.{PolicyValue}
+use Rattle.policy.specs.declared.refusal.Refusal.{Refusal}
 use Rattle.policy.proofs.Valid.{blank-refused}
 use Rattle.formula.specs.Decide as byPolicy
 use Rattle.tuples.specs.Tuples as byTuples
 use Rattle.labels.specs.Compile.{compile, compile_buffers, compile_checks}
 use Rattle.labels.specs.Apart.{Tells, apart_checks}
-use Rattle.labels.specs.declared.Apartness.{Apartness}
-use Rattle.labels.specs.declared.Apartness.TheVariants.{Alike, Apart, Refused as ApartRefused}
+use Rattle.labels.specs.declared.Witness.{Witness}
 use Rattle.board.specs.Machine.{Call, opens, adds, drops, closes, requests, Out, checks}
 use Rattle.board.specs.Board.{Labels, board_step, board_checks, look_up}
 use Rattle.board.specs.declared.Board.{Board}
@@ -25,17 +25,17 @@ use Rattle.claims.proofs.Reading.{because}
 
 -- ---- Apart
 
-no_number : {A : Type 0} (o : Option ℕ) (n : ℕ) → o ≡ none → o ≡ some n → A
+no_number : {A : Type 0} (o : Option ℕ) (n : ℕ) → o ≡ None → o ≡ Some n → A
 no_number o n e f = let z : ◌≡◌ {A = ℕ} 0 1 = cc in absurd (omega arith)
 
-same_number : (o : Option ℕ) (m n : ℕ) → o ≡ some m → o ≡ some n → m ≡ n
+same_number : (o : Option ℕ) (m n : ℕ) → o ≡ Some m → o ≡ Some n → m ≡ n
 same_number o m n e f = cc
 
-apart : (v : PolicyValue) (u w : ℕ) (r : Apartness) → Tells v u w r
+apart : (v : PolicyValue) (u w : ℕ) (r : Result (Option Witness) Refusal) → Tells v u w r
     → Answers (11 ∷ 19 ∷ []) (apart_checks v u w) (ApartResult v u w r) (ApartRefuses r)
-apart v u w Alike t = answers _ (apart_checks v u w) refl (λ e. t.1) (λ n e. no_number _ n t.0 e)
-apart v u w (Apart x) t = answers _ (apart_checks v u w) refl (λ e. t.1) (λ n e. no_number _ n t.0 e)
-apart v u w (ApartRefused r) t =
+apart v u w (Ok None) t = answers _ (apart_checks v u w) refl (λ e. t.1) (λ n e. no_number _ n t.0 e)
+apart v u w (Ok (Some x)) t = answers _ (apart_checks v u w) refl (λ e. t.1) (λ n e. no_number _ n t.0 e)
+apart v u w (Err r) t =
     answers _ (apart_checks v u w) refl (λ e. no_number _ (number_of r) e t) (λ n e. same_number _ (number_of r) n t e)
 
 -- ---- session calls

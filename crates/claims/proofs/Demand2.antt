@@ -1,9 +1,9 @@
 -- Demand 2: what decides, what dominates, what is alike, sessions within reach and conflicts, and texts both ways.
+use Rattle.std.specs.Prelude.{Option, None, Some, Result, Ok, Err}
 use Prim.Native.Nat.{ℕ, ◌≤◌}
 use mathlib.Core.Path.{◌≡◌, refl, ap, ◌∙◌}
 use mathlib.Core.Bool.{Bool, true, false, cond, false≢true}
 use mathlib.Core.List.{List, [], ◌∷◌}
-use mathlib.Core.Option.{Option, none, some}
 use native.Mathlib.Omega.{arith}
 use borrow.Author.Tests.{le-ltb}
 use lib.Dec.{eqb}
@@ -18,13 +18,13 @@ use Rattle.policy.specs.Text.{text_of}
 use Rattle.policy.specs.Value.{value_of, policy_of}
 use Rattle.policy.specs.Write.{write, write_buffer}
 use Rattle.policy.specs.Answers.{refused}
+use Rattle.policy.specs.declared.refusal.Refusal.{Refusal}
 use Rattle.policy.proofs.Parts.{parts, whole}
 use Rattle.policy.proofs.RoundTrip.{read-sound, read-text, sound-read}
 use Rattle.policy.proofs.Valid.{yielded_policy, yielded_valid, valid-iff, valid-stored}
 use Rattle.labels.specs.Compile.{like_users}
 use Rattle.labels.specs.Apart.{Separates, apart_refusal, Tells}
-use Rattle.labels.specs.declared.Apartness.{Apartness}
-use Rattle.labels.specs.declared.Apartness.TheVariants.{Alike, Apart, Refused}
+use Rattle.labels.specs.declared.Witness.{Witness}
 use Rattle.labels.proofs.Compiling.{like_users-iff, user_label-iff, object_label-iff}
 use Rattle.labels.proofs.Separation.{apart-unlike}
 use Rattle.labels.proofs.Told.{not-refused}
@@ -57,8 +57,8 @@ step-fitting p c m h = go (first_broken (checks p c (m (session_of c)))) refl
         (record { reply = reply p c (m (session_of c)); state = put m (session_of c) (entry_after c (m (session_of c))) })
         (λ n. record { reply = refused n; state = m })
         ).state
-    go none q = put-fitting p m (session_of c) (entry_after c (m (session_of c))) h (kept p c (m (session_of c)) (h (session_of c)) q)
-    go (some n) q = h
+    go None q = put-fitting p m (session_of c) (entry_after c (m (session_of c))) h (kept p c (m (session_of c)) (h (session_of c)) q)
+    go (Some n) q = h
 
 run-fitting : (p : Policy) (calls : List Call) (m : Map) → Fitting p m → Fitting p (run (step p) calls m).state
 unfolding run
@@ -70,13 +70,13 @@ unfolding machine empty
 machine-fitting t p e calls = rw e (run-fitting p calls empty (λ k. refl))
 
 -- a value that is there
-some-there : (o : Option ℕ) → there o ≡ true → (s : ℕ) × (o ≡ some s)
-some-there none q = absurd (false≢true q)
-some-there (some s) q = (s, refl)
+some-there : (o : Option ℕ) → there o ≡ true → (s : ℕ) × (o ≡ Some s)
+some-there None q = absurd (false≢true q)
+some-there (Some s) q = (s, refl)
 
 allowed : (t : List ℕ) (p : Policy) → read_text t ≡ Accepted p → (calls : List Call) → Allowed t p calls
 allowed t p e calls =
-    let fits : (k : ℕ) (x : Entry) → (machine t calls).state k ≡ some x → fitting p (some x) ≡ true = λ k x q. rw q at (machine-fitting t p e calls k) in
+    let fits : (k : ℕ) (x : Entry) → (machine t calls).state k ≡ Some x → fitting p (Some x) ≡ true = λ k x q. rw q at (machine-fitting t p e calls k) in
     record {
       registered = λ k x q. some-there (set_of_number p.users x.user) (fitting-parts p x (fits k x q)).registered;
       in_reach = λ k x q. (fitting-parts p x (fits k x q)).reached;
@@ -85,14 +85,14 @@ allowed t p e calls =
 
 -- ---- alike as Apart tells it
 
-told : (p : Policy) → policy_of (value_of p) ≡ p → (u w : ℕ) (r : Apartness) → apart_refusal (value_of p) u w ≡ none → Tells (value_of p) u w r → Told p u w r
-told p back u w Alike n x =
+told : (p : Policy) → policy_of (value_of p) ≡ p → (u w : ℕ) (r : Result (Option Witness) Refusal) → apart_refusal (value_of p) u w ≡ None → Tells (value_of p) u w r → Told p u w r
+told p back u w (Ok None) n x =
     record {
       alike = (λ e. (like_users-iff p u w).0 (rw back at x.1), λ h. refl);
       apart = λ y e. absurd (let z : ◌≡◌ {A = ℕ} 0 1 = cc in omega arith);
       never-refused = λ y e. let z : ◌≡◌ {A = ℕ} 0 1 = cc in omega arith;
     }
-told p back u w (Apart y) n x =
+told p back u w (Ok (Some y)) n x =
     let s : Separates p u w y.action y.object = rw back at x.1 in
     record {
       alike = (
@@ -102,7 +102,7 @@ told p back u w (Apart y) n x =
       apart = λ z e. let q : y ≡ z = cc in rw (← q) s;
       never-refused = λ z e. let q : ◌≡◌ {A = ℕ} 0 1 = cc in omega arith;
     }
-told p back u w (Refused y) n x = let z : ◌≡◌ {A = ℕ} 0 1 = cc in absurd (omega arith)
+told p back u w (Err y) n x = let z : ◌≡◌ {A = ℕ} 0 1 = cc in absurd (omega arith)
 
 -- ---- texts
 

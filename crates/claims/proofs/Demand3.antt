@@ -1,11 +1,12 @@
 -- Demand 3, from the text through reading and compiling to every list of calls.
+use Rattle.std.specs.Prelude.{Ok}
 use Prim.Native.Nat.{ℕ, ◌≤◌, ◌<◌}
 use mathlib.Core.Path.{◌≡◌, refl, ap, ◌∙◌}
 use mathlib.Core.Bool.{true}
 use mathlib.Core.List.{List}
 use borrow.Author.Tests.{eq-eqb, le-ltb, lt-leb}
 use lib.ListN.{length}
-use Rattle.basis.specs.Choice.{gives, first_broken}
+use Rattle.basis.specs.Choice.{first_broken}
 use Rattle.basis.specs.Lists.{over}
 use Rattle.policy.specs.Limits.{actions, object_numbers, tuple_bits}
 use Rattle.policy.specs.Policy.{Policy}
@@ -37,7 +38,7 @@ module _ (t : List ℕ) (p : Policy) (e : read_text t ≡ Accepted p) where
   -- ---- tuples
 
   module _ (a : ℕ) (ha : a < actions p.form) (buffer : List ℕ) (room : length (tuples p a) ≤ length buffer) where
-    is-listed : list (value_of p) (tuple_bits p.form) a buffer ≡ gives (length (tuples p a))
+    is-listed : list (value_of p) (tuple_bits p.form) a buffer ≡ Ok (length (tuples p a))
     unfolding list first_broken value_of
     is-listed = rw (back, ok, eq-eqb (tuple_bits p.form) (tuple_bits p.form) refl, lt-leb (actions p.form) a ha, le-ltb (length buffer) (length (tuples p a)) room)
 
@@ -58,7 +59,7 @@ module _ (t : List ℕ) (p : Policy) (e : read_text t ≡ Accepted p) where
   -- ---- labels
 
   module _ (b : Buffers) (room : Enough p b) where
-    is-compiled : compile (value_of p) b ≡ gives (counts p)
+    is-compiled : compile (value_of p) b ≡ Ok (counts p)
     unfolding compile first_broken value_of
     is-compiled = rw (back, ok, room.own, room.long)
 

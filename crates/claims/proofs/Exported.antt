@@ -1,10 +1,10 @@
 -- The exported calls keep to demands 1 and 3, since the number of an answer says which it is, and to request 6.
+use Rattle.std.specs.Prelude.{Option, None, Some, Result, Ok, Err}
 use Prim.Native.Nat.{ℕ}
 use mathlib.Core.Path.{◌≡◌, refl, ap, ap₂, ◌∙◌}
 use mathlib.Core.Bool.{Bool, true, false}
 use mathlib.Core.List.{List, [], ◌∷◌, map}
 use mathlib.Core.Logic.{inl, inr, ⊎_elim}
-use mathlib.Core.Option.{Option, none, some}
 use native.Mathlib.Omega.{arith}
 use borrow.Author.Tests.{leb-true, ne_eqb}
 use lib.Dec.{leb}
@@ -18,11 +18,11 @@ use Rattle.policy.specs.Read.{Outcome, Accepted, Refused, read_text}
 use Rattle.policy.specs.Value.{value_of}
 use Rattle.policy.specs.Answers.{Reply, done, granted, denied, refused, decided, reply_number, value_in}
 use Rattle.policy.specs.declared.value.PolicyValue.{PolicyValue}
+use Rattle.policy.specs.declared.refusal.Refusal.{Refusal}
 use Rattle.policy.proofs.Valid.{yielded_valid, yielded_policy}
 use Rattle.formula.specs.Truth.{grants}
 use Rattle.labels.specs.Compile.{Buffers, too_short, compile, compile_buffers}
-use Rattle.labels.specs.declared.Apartness.{Apartness}
-use Rattle.labels.specs.declared.Apartness.TheVariants.{Alike, Apart, Refused as ApartRefused}
+use Rattle.labels.specs.declared.Witness.{Witness}
 use Rattle.board.specs.Machine.{Call, opens, adds, drops, closes, requests, session_of, Entry, Map, Out, checks, reply, sets_asked, put, empty, entry_after, policy_in, step, run, machine}
 use Rattle.board.specs.Board.{Labels, board_step, closed, entry_at, fresh}
 use Rattle.board.specs.declared.Board.{Board}
@@ -77,15 +77,15 @@ module _ (t : List ℕ) where
 
 -- ---- the other calls
 
-separated : (v : PolicyValue) (u w : ℕ) (a : Apartness) → ApartResult v u w a → Separated v u w (separation a)
-separated v u w Alike x = inl (refl, x)
-separated v u w (Apart y) x = inr (refl, x)
-separated v u w (ApartRefused r) x = absurd x
+separated : (v : PolicyValue) (u w : ℕ) (a : Result (Option Witness) Refusal) → ApartResult v u w a → Separated v u w (separation a)
+separated v u w (Ok None) x = inl (refl, x)
+separated v u w (Ok (Some y)) x = inr (refl, x)
+separated v u w (Err r) x = absurd x
 
-unseparated : (a : Apartness) (n : ℕ) → ApartRefuses a n → separation a ≡ record { answer = n; action = 0; object = 0 }
-unseparated Alike n x = absurd x
-unseparated (Apart y) n x = absurd x
-unseparated (ApartRefused r) n x = rw x
+unseparated : (a : Result (Option Witness) Refusal) (n : ℕ) → ApartRefuses a n → separation a ≡ record { answer = n; action = 0; object = 0 }
+unseparated (Ok None) n x = absurd x
+unseparated (Ok (Some y)) n x = absurd x
+unseparated (Err r) n x = rw x
 
 calls : (v : PolicyValue) → Calls v
 calls v =
@@ -101,7 +101,7 @@ calls v =
       session = λ l c b. through (λ x. rw (x.0, x.1)) (λ n x. rw (x.0, x.1)) (d.session l c b);
     }
 
-none-fresh : (k : ℕ) → entry_at fresh k ≡ none
+none-fresh : (k : ℕ) → entry_at fresh k ≡ None
 unfolding entry_at fresh
 none-fresh k = rw (get_or-blank session_numbers k closed)
 
@@ -163,8 +163,8 @@ step-telling p c m = go (first_broken (checks p c (m (session_of c)))) refl
         (λ n. record { reply = refused n; state = m })
         ).reply
         ≡ true
-    go none q = reply-telling p c (m (session_of c))
-    go (some n) q = met_all high (checks p c (m (session_of c))) n (checks-high p c (m (session_of c))) (met _ n q)
+    go None q = reply-telling p c (m (session_of c))
+    go (Some n) q = met_all high (checks p c (m (session_of c))) n (checks-high p c (m (session_of c))) (met _ n q)
 
 run-telling : (p : Policy) (cs : List Call) (m : Map) → all telling (run (step p) cs m).replies ≡ true
 unfolding run all

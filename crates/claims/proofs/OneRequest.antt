@@ -1,8 +1,8 @@
 -- Demand 3's last sentence, about one request, whatever it is handed.
+use Rattle.std.specs.Prelude.{Option, None, Some}
 use Prim.Native.Nat.{ℕ}
 use mathlib.Core.Path.{◌≡◌, refl}
 use mathlib.Core.Bool.{Bool, true, false, cond, not, ◌||◌}
-use mathlib.Core.Option.{Option, none, some}
 use native.Mathlib.Omega.{arith}
 use Rattle.basis.specs.Choice.{given, first_broken}
 use Rattle.policy.specs.Value.{policy_of}
@@ -18,15 +18,15 @@ use Rattle.claims.specs.Demand3.{sets_at, answered, RequestClaim}
 -- a step that leaves its state either way
 state-kept : (o : Option ℕ) (r : Reply) (b : Board)
     → (given {B = Out Board} o (record { reply = r; state = b }) (λ n. record { reply = refused n; state = b })).state ≡ b
-state-kept none r b = refl
-state-kept (some n) r b = refl
+state-kept None r b = refl
+state-kept (Some n) r b = refl
 
 board-kept : (v : PolicyValue) (l : Labels) (b : Board) (s a n : ℕ) → (answered v l b s a n).state ≡ b
 unfolding board_step board_after
 board-kept v l b s a n = state-kept (first_broken (board_checks v l (requests s a n) b)) _ b
 
 -- check 11 is met by neither of its conditions
-neither : (other unfit : Bool) (r : Option ℕ) → cond (other || unfit) (some 11) r ≡ none → (other ≡ false) × (cond unfit (some 11) r ≡ none)
+neither : (other unfit : Bool) (r : Option ℕ) → cond (other || unfit) (Some 11) r ≡ None → (other ≡ false) × (cond unfit (Some 11) r ≡ None)
 neither true unfit r e = let z : ◌≡◌ {A = ℕ} 0 1 = cc in absurd (omega arith)
 neither false unfit r e = (refl, e)
 

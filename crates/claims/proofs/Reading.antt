@@ -1,10 +1,10 @@
 -- Why a text is accepted or refused, by induction over its lines.
+use Rattle.std.specs.Prelude.{Option, None, Some}
 use Prim.Native.Nat.{ℕ, suc, ◌+◌, ◌≤◌}
 use mathlib.Core.Path.{◌≡◌, refl}
 use mathlib.Core.Bool.{Bool, true, false, cond, ◌&&◌, ◌||◌}
 use mathlib.Core.List.{List, [], ◌∷◌, ◌++◌}
 use mathlib.Core.Logic.{◌⊎◌, inl, inr, ⊎_elim}
-use mathlib.Core.Option.{Option, none, some}
 use native.Mathlib.Omega.{arith}
 use borrow.Author.Tests.{ltb-true, ltb-false, leb-true}
 use lib.Dec.{leb, ltb}
@@ -14,8 +14,6 @@ use Rattle.basis.specs.Lists.{all}
 use Rattle.basis.proofs.Bools.{and_left, and_right, or_cases}
 use Rattle.text.specs.Parts.{TextLine, lines}
 use Rattle.text.specs.declared.kind.Kind.{Kind}
-use Rattle.text.specs.declared.kind.Named.{Named}
-use Rattle.text.specs.declared.kind.Named.TheVariants.{Is, Unknown}
 use Rattle.policy.specs.Limits.{text_bytes}
 use Rattle.policy.specs.Policy.{Policy}
 use Rattle.policy.specs.Read.{Outcome, Accepted, Refused, State, start, kind_of, checks_of, checks_for, refusal_of, line_checks, line_refusal, line_after, ending, read_lines, read_text}
@@ -29,10 +27,10 @@ use Rattle.claims.proofs.Answers.{met, met_all}
 abbrev of_line : Check → Bool
 of_line c = (leb 2 c.number && leb c.number 9) || (leb 21 c.number && leb c.number 22)
 
-numbers : (before : Option Kind) (p : Policy) (ended : Bool) (k : Named) (fs : List (List ℕ)) → all of_line (checks_for before p ended k fs) ≡ true
+numbers : (before : Option Kind) (p : Policy) (ended : Bool) (k : Option Kind) (fs : List (List ℕ)) → all of_line (checks_for before p ended k fs) ≡ true
 unfolding all checks_for checks_of
-numbers before p ended Unknown fs = refl
-numbers before p ended (Is k) fs = refl
+numbers before p ended None fs = refl
+numbers before p ended (Some k) fs = refl
 
 line-number : (s : State) (l : TextLine) (n : ℕ) → Met (line_checks s l) n → ((2 ≤ n) × (n ≤ 9)) ⊎ ((21 ≤ n) × (n ≤ 22))
 line-number s l n w =
@@ -75,7 +73,7 @@ at-end s m = go (ends s) refl
     go false e = inr (record { number = refl; count = omega arith; sound = refl; unended = e })
 
 -- a line that passes, in front of the others
-behind-line : (s : State) (m : ℕ) (l : TextLine) (ls : List TextLine) (o : Outcome) → line_refusal s l ≡ none
+behind-line : (s : State) (m : ℕ) (l : TextLine) (ls : List TextLine) (o : Outcome) → line_refusal s l ≡ None
     → From (line_after s l) (suc m) ls o → From s m (l ∷ ls) o
 unfolding passes after_lines
 behind-line s m l ls (Accepted p) e w = record { sound = rw e w.sound; ended = w.ended; policy = w.policy }
@@ -99,8 +97,8 @@ from (l ∷ ls) s m = go (line_refusal s l) refl (from ls (line_after s l) (suc 
   where
     go : (r : Option ℕ) → line_refusal s l ≡ r → From (line_after s l) (suc m) ls (read_lines (line_after s l) (suc m) ls)
         → From s m (l ∷ ls) (given r (read_lines (line_after s l) (suc m) ls) (λ n. Refused n m))
-    go none e w = behind-line s m l ls (read_lines (line_after s l) (suc m) ls) e w
-    go (some n) e w =
+    go None e w = behind-line s m l ls (read_lines (line_after s l) (suc m) ls) e w
+    go (Some n) e w =
         inl (record {
           before = [];
           at = l;

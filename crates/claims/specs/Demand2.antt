@@ -2,10 +2,8 @@
 -- tuple grants only on equal sets, alike sets are those no formula parts, sessions hold what the LaBAC rules allow.
 -- Writing and reading back gives the same policy; an accepted text is written back unchanged." By document 02 pairs
 -- decide and part sets as formulas do, dominance follows seniority, and sessions keep to conflicts.
-use Rattle.std.specs.Prelude.{ℕ, ◌+◌, ◌≤◌, ◌<◌, ◌≡◌, true, ◌↔◌, ◌⊎◌, length, get_or, take}
+use Rattle.std.specs.Prelude.{ℕ, ◌+◌, ◌≤◌, ◌<◌, ◌≡◌, true, ◌↔◌, ◌⊎◌, length, get_or, take, Some, Ok, Option, None, Result, Err}
 use mathlib.Core.List.{List, Memᴰ}
-use Rattle.std.proofs.Math.Option.{some}
-use Rattle.basis.specs.Choice.{gives}
 use Rattle.basis.specs.Lists.{over}
 use Rattle.sets.specs.Set.{within}
 use Rattle.seniority.specs.Seniority.{Senior, held_or_senior, held_or_junior}
@@ -28,8 +26,6 @@ use Rattle.formula.specs.Decide.{decide}
 use Rattle.tuples.specs.Tuples.{stored, decide_by_tuples}
 use Rattle.labels.specs.Compile.{user_label, object_label}
 use Rattle.labels.specs.Apart.{Separates, Tells}
-use Rattle.labels.specs.declared.Apartness.{Apartness}
-use Rattle.labels.specs.declared.Apartness.TheVariants.{Alike, Apart, Refused}
 use Rattle.labels.specs.declared.Witness.{Witness}
 use Rattle.board.specs.Machine.{Call, Entry, machine, reach_of, together}
 
@@ -42,7 +38,7 @@ OfSides p s = (s.user < sets p.user) × (s.object < sets p.object)
 -- the action has a formula, and it is true at these sets
 pub record FormulaTrue (p : Policy) (a : ℕ) (s : Sets) : Type 0 where
   pub words : List Word
-  pub formula : formula_in p.rules a ≡ some words
+  pub formula : formula_in p.rules a ≡ Some words
   pub holds : truth p s words ≡ true
 
 -- the action has a pair line, and "the user set holds V or a senior of it and the object set W or a junior of it"
@@ -92,31 +88,31 @@ abbrev pub NonePartsObjects : Policy → ℕ → ℕ → Type 0
 NonePartsObjects p o q = (a u : ℕ) → a < actions p.form → u < sets p.user → grants p a (at u o) ≡ grants p a (at u q)
 
 -- an answer of Apart
-pub record Told (p : Policy) (u w : ℕ) (r : Apartness) : Type 0 where
-  pub alike : (r ≡ Alike) ↔ NoneParts p u w
-  pub apart : (x : Witness) → r ≡ Apart x → Separates p u w x.action x.object
-  pub never-refused : (n : Refusal) → r ≡ Refused n → ⊥
+pub record Told (p : Policy) (u w : ℕ) (r : Result (Option Witness) Refusal) : Type 0 where
+  pub alike : (r ≡ Ok None) ↔ NoneParts p u w
+  pub apart : (x : Witness) → r ≡ Ok (Some x) → Separates p u w x.action x.object
+  pub never-refused : (n : Refusal) → r ≡ Err n → ⊥
 
 -- two user sets have one label exactly when no action and no object set tells them apart; object sets likewise
 pub record AlikeSets (p : Policy) : Type 0 where
   pub users : (u w : ℕ) → u < sets p.user → w < sets p.user → (user_label p u ≡ user_label p w) ↔ NoneParts p u w
   pub objects : (o q : ℕ) → o < sets p.object → q < sets p.object → (object_label p o ≡ object_label p q) ↔ NonePartsObjects p o q
-  pub told : (u w : ℕ) → u < sets p.user → w < sets p.user → (r : Apartness) → Tells (value_of p) u w r → Told p u w r
+  pub told : (u w : ℕ) → u < sets p.user → w < sets p.user → (r : Result (Option Witness) Refusal) → Tells (value_of p) u w r → Told p u w r
 
 -- ---- "sessions hold what the LaBAC rules allow", and conflicts
 
 -- after any list of calls, an open session's user is registered and holds only values in reach, and "of the values in
 -- user set S .. at most K" for every conflict
 pub record Allowed (t : List ℕ) (p : Policy) (calls : List Call) : Type 0 where
-  pub registered : (k : ℕ) (e : Entry) → (machine t calls).state k ≡ some e → (s : ℕ) × (set_of_number p.users e.user ≡ some s)
-  pub in_reach : (k : ℕ) (e : Entry) → (machine t calls).state k ≡ some e → within e.held (reach_of p e.user) ≡ true
-  pub few-together : (k : ℕ) (e : Entry) → (machine t calls).state k ≡ some e → (c : Conflict) → Memᴰ c p.conflicts → together p e.held c ≤ c.most
+  pub registered : (k : ℕ) (e : Entry) → (machine t calls).state k ≡ Some e → (s : ℕ) × (set_of_number p.users e.user ≡ Some s)
+  pub in_reach : (k : ℕ) (e : Entry) → (machine t calls).state k ≡ Some e → within e.held (reach_of p e.user) ≡ true
+  pub few-together : (k : ℕ) (e : Entry) → (machine t calls).state k ≡ Some e → (c : Conflict) → Memᴰ c p.conflicts → together p e.held c ≤ c.most
 
 -- ---- texts both ways
 
 -- "an accepted text is written back unchanged": by the value that reading it yields, into any buffer long enough
 pub record WrittenBack (t : List ℕ) (p : Policy) (buffer : List ℕ) : Type 0 where
-  pub count : write (value_of p) buffer ≡ gives (length t)
+  pub count : write (value_of p) buffer ≡ Ok (length t)
   pub bytes : write_buffer (value_of p) buffer ≡ over t buffer
 
 -- the value passes check 11 and says what the text says
@@ -140,7 +136,7 @@ Claim = (t : List ℕ) (p : Policy) → read_text t ≡ Accepted p → Demand2 t
 -- yields the value
 pub record ReadBack (v : PolicyValue) (buffer : List ℕ) : Type 0 where
   pub count : ℕ
-  pub returned : write v buffer ≡ gives count
+  pub returned : write v buffer ≡ Ok count
   pub policy : Policy
   pub accepted : read_text (take count (write_buffer v buffer)) ≡ Accepted policy
   pub same : value_of policy ≡ v

@@ -1,9 +1,8 @@
 -- Demand 3: "for every accepted text and every list of calls from a fresh board, each answer is the plain machine's and
 -- the board ends with its sessions; tuples and labels are exactly document 01's, labels as few as any labelling that
 -- grants alike." One claim.
-use Rattle.std.specs.Prelude.{ℕ, ◌≤◌, ◌<◌, ◌≡◌, true, false, List, ◌∷◌, ◌↔◌, length, get_or}
-use Rattle.std.proofs.Math.Option.{none}
-use Rattle.basis.specs.Choice.{gives, check, first_broken}
+use Rattle.std.specs.Prelude.{ℕ, ◌≤◌, ◌<◌, ◌≡◌, true, false, List, ◌∷◌, ◌↔◌, length, get_or, None, Ok}
+use Rattle.basis.specs.Choice.{check, first_broken}
 use Rattle.basis.specs.Lists.{over}
 use Rattle.policy.specs.Limits.{actions, own_widths, tuple_bits}
 use Rattle.policy.specs.Policy.{Policy, sets}
@@ -29,7 +28,7 @@ Rising ns = (i j : ℕ) → i < j → j < length ns → get_or ns i 0 < get_or n
 
 pub record Tuples (p : Policy) (a : ℕ) : Type 0 where
   pub rising : Rising (tuples p a)
-  pub listed : (buffer : List ℕ) → length (tuples p a) ≤ length buffer → list (value_of p) (tuple_bits p.form) a buffer ≡ gives (length (tuples p a))
+  pub listed : (buffer : List ℕ) → length (tuples p a) ≤ length buffer → list (value_of p) (tuple_bits p.form) a buffer ≡ Ok (length (tuples p a))
   pub stored-are : (buffer : List ℕ) → length (tuples p a) ≤ length buffer → list_buffer (value_of p) (tuple_bits p.form) a buffer ≡ over (tuples p a) buffer
   pub decides : (buffer : List ℕ) → length (tuples p a) ≤ length buffer → (u o : ℕ) → u < sets p.user → o < sets p.object
       → decide_by_tuples (value_of p) (tuple_bits p.form) (at u o) (list_buffer (value_of p) (tuple_bits p.form) a buffer) (length (tuples p a)) ≡ decided (grants p a (at u o))
@@ -51,7 +50,7 @@ pub record Enough (p : Policy) (b : Buffers) : Type 0 where
 
 -- in such buffers: what compiling gives and leaves, and what that labelling is
 pub record Compiled (p : Policy) (b : Buffers) : Type 0 where
-  pub gives-counts : compile (value_of p) b ≡ gives (counts p)
+  pub gives-counts : compile (value_of p) b ≡ Ok (counts p)
   pub users : (compile_buffers (value_of p) b).users ≡ over (user_result p) b.users
   pub objects : (compile_buffers (value_of p) b).objects ≡ over (object_result p) b.objects
   pub table : (compile_buffers (value_of p) b).table ≡ over (table_result p) b.table
@@ -100,7 +99,7 @@ pub record OneRequest (v : PolicyValue) (l : Labels) (b : Board) (s a n : ℕ) :
   pub by_bit : ((k : ℕ) → (answered v l b s a n).reply ≡ refused k → ⊥)
       → ((answered v l b s a n).reply ≡ granted) ↔ (grants_by_labels l a (sets_at v b s n) ≡ true)
   -- where no lower refusal applies, it gets 20 exactly when one of the three places lies past its buffer's end
-  pub past_end : first_broken (check 11 (unfit v l (requests s a n) b) ∷ checks (policy_of v) (requests s a n) (entry_at b s)) ≡ none
+  pub past_end : first_broken (check 11 (unfit v l (requests s a n) b) ∷ checks (policy_of v) (requests s a n) (entry_at b s)) ≡ None
       → ((answered v l b s a n).reply ≡ refused 20) ↔ (reads_past_end l (sets_at v b s n) ≡ true)
   -- and the board stays
   pub kept : (answered v l b s a n).state ≡ b

@@ -1,9 +1,8 @@
 -- The worked examples of document 01 ("One text through the lister", "Edges", "Plausible and false") and examples of
 -- document 02's pairs, conflicts, dominance, forms and isolation as one table: what the definitions say, beside what
 -- the documents say, both as text.
-use Rattle.std.specs.Prelude.{ℕ, ◌/◌, ◌%◌, Bool, List, [], ◌∷◌, ◌++◌, map, eqb}
+use Rattle.std.specs.Prelude.{ℕ, ◌/◌, ◌%◌, Bool, List, [], ◌∷◌, ◌++◌, map, eqb, Some}
 use Prim.Native.String.{String}
-use Rattle.std.proofs.Math.Option.{some}
 use Rattle.basis.specs.Bytes.{byte, bytes}
 use Rattle.basis.specs.Lists.{same}
 use Rattle.basis.specs.Numbers.{up_to}
@@ -213,8 +212,8 @@ abbrev pub conflict_examples : List Example
 conflict_examples =
     example (by_machine constrained constrained_day) "refused,23 done refused,23 done done done done done refused,19 refused,23 done granted"
     ∷ example (on_board constrained constrained_day) "refused,23 done refused,23 done done done done done refused,19 refused,23 done granted"
-    ∷ example (on_board_from (store fresh 3 (some (entry 0 6))) constrained (closes 0 3 ∷ opens 0 0 4 ∷ [])) "refused,11 refused,11"
-    ∷ example (on_board_from (store fresh 3 (some (entry 0 4))) constrained (drops 0 3 4 ∷ closes 0 3 ∷ [])) "done done"
+    ∷ example (on_board_from (store fresh 3 (Some (entry 0 6))) constrained (closes 0 3 ∷ opens 0 0 4 ∷ [])) "refused,11 refused,11"
+    ∷ example (on_board_from (store fresh 3 (Some (entry 0 4))) constrained (drops 0 3 4 ∷ closes 0 3 ∷ [])) "done done"
     ∷ example (outcome (read_text (conflict_text "conflict,0,0\nconflict,3,7\n"))) "accepted"
     ∷ example (outcome (read_text (conflict_text "conflict,4,1\n"))) "refused,6,3"
     ∷ example (outcome (read_text (conflict_text "conflict,3,8\n"))) "refused,6,3"

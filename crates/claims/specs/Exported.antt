@@ -1,7 +1,6 @@
 -- Demands 1 and 3 and request 6 for the exported calls, which a screen makes: on the definitions that their contracts
 -- name, `crossed_reading` to `crossed_step`.
-use Rattle.std.specs.Prelude.{ℕ, ◌≤◌, ◌≡◌, true, false, cond, List, [], ◌∷◌, map, ◌↔◌, ◌⊎◌, eqb, length, take}
-use Rattle.std.proofs.Math.Option.{none}
+use Rattle.std.specs.Prelude.{ℕ, ◌≤◌, ◌≡◌, true, false, cond, List, [], ◌∷◌, map, ◌↔◌, ◌⊎◌, eqb, length, take, None, Option, Result}
 use Rattle.basis.specs.Lists.{any, over}
 use Rattle.policy.specs.Policy.{Policy}
 use Rattle.policy.specs.Read.{Accepted, Refused, read_text}
@@ -11,12 +10,13 @@ use Rattle.policy.specs.Valid.{Yielded, valid}
 use Rattle.policy.specs.Write.{write, write_buffer, write_checks}
 use Rattle.policy.specs.Answers.{Reply, done, granted, denied, refused, decided, reply_number}
 use Rattle.policy.specs.declared.value.PolicyValue.{PolicyValue}
+use Rattle.policy.specs.declared.refusal.Refusal.{Refusal}
 use Rattle.formula.specs.Truth.{Sets, grants}
 use Rattle.formula.specs.Decide as byPolicy
 use Rattle.tuples.specs.Tuples as byTuples
 use Rattle.labels.specs.Compile.{Buffers, NU, NO, like_users, filled, compile, compile_buffers, compile_checks}
 use Rattle.labels.specs.Apart.{Separates, apart_checks, Tells}
-use Rattle.labels.specs.declared.Apartness.{Apartness}
+use Rattle.labels.specs.declared.Witness.{Witness}
 use Rattle.board.specs.Machine.{Call, session_of, machine}
 use Rattle.board.specs.Board.{Labels, labels_of, board_checks, board_reply, board_after, board_step, entry_at, fresh}
 use Rattle.board.specs.declared.Board.{Board}
@@ -80,7 +80,7 @@ pub record Calls (v : PolicyValue) : Type 0 where
       ((crossed_counts (compile v b) ≡ record { refusal = 0; users = NU (policy_of v); objects = NO (policy_of v) })
       × (compile_buffers v b ≡ filled (policy_of v) b))
       (λ n. (crossed_counts (compile v b) ≡ record { refusal = n; users = 0; objects = 0 }) × (compile_buffers v b ≡ b))
-  pub apart : (u w : ℕ) (a : Apartness) → Tells v u w a
+  pub apart : (u w : ℕ) (a : Result (Option Witness) Refusal) → Tells v u w a
       → Answers (11 ∷ 19 ∷ []) (apart_checks v u w) (Separated v u w (separation a))
       (λ n. separation a ≡ record { answer = n; action = 0; object = 0 })
   pub session : (l : Labels) (c : Call) (b : Board)
@@ -92,7 +92,7 @@ pub record Calls (v : PolicyValue) : Type 0 where
 pub record Demand1 : Type 0 where
   pub read : (t : List ℕ) → Read t
   pub calls : (p : PolicyValue) → Calls p
-  pub fresh : (k : ℕ) → entry_at fresh k ≡ none
+  pub fresh : (k : ℕ) → entry_at fresh k ≡ None
 
 -- ---- demand 3: a screen's morning, from the text through reading and compiling to any list of session calls
 

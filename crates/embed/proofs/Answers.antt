@@ -1,22 +1,23 @@
 -- A reading as it crosses, by its outcome.
-use Prim.Native.Nat.{ℕ}
-use mathlib.Core.Path.{◌≡◌, sym, ap, ◌∙◌}
-use mathlib.Core.Option.{Option}
-use Rattle.basis.specs.Choice.{given}
-use Rattle.policy.specs.Read.{Outcome}
-use Rattle.policy.specs.Answers.{refused_by, refusal_in, ReadAs}
+use Rattle.std.specs.Prelude.{Ok, Err}
+use mathlib.Core.Path.{◌≡◌}
+use Rattle.policy.specs.Policy.{blank}
+use Rattle.policy.specs.Read.{Outcome, Accepted, Refused}
+use Rattle.policy.specs.Value.{value_of}
+use Rattle.policy.specs.Answers.{number_of, ReadAs, value_in}
 use Rattle.policy.specs.declared.value.PolicyValue.{PolicyValue}
-use Rattle.policy.specs.declared.value.Reading.{Reading}
-use Rattle.policy.specs.declared.value.Verdict.{Verdict}
+use Rattle.policy.specs.declared.value.Rejection.{Rejection}
 use Rattle.embed.specs.Answers.{crossed_reading}
-use Rattle.embed.specs.declared.crossed.CrossedReading.{CrossedReading}
 
-abbrev with-refusal : Option (ℕ × ℕ) → PolicyValue → CrossedReading
-with-refusal r p = record { refusal = given r 0 (λ x. x.0); line = given r 0 (λ x. x.1); policy = p }
+-- an accepted text's value crosses with no refusal
+pub as_accepted : (v : PolicyValue) (o : Outcome) → ReadAs o (Ok v) → record { refusal = 0; line = 0; policy = v } ≡ crossed_reading o
+unfolding value_in
+as_accepted v (Accepted p) h = cc
+as_accepted v (Refused n l) h = absurd h
 
--- the refusal of a reading's verdict, beside its value
-pub as_read : (x : Reading) (v : Verdict) → x.verdict ≡ v → (o : Outcome) → ReadAs o x → with-refusal (refused_by v) x.policy ≡ crossed_reading o
-as_read x v f o R =
-    ap (λ w. with-refusal (refused_by w) x.policy) (sym f)
-    ∙ ap (λ r. with-refusal r x.policy) R.verdict
-    ∙ ap (with-refusal (refusal_in o)) R.value
+-- a refusal crosses with its line and the blank value
+pub as_refused : (e : Rejection) (o : Outcome) → ReadAs o (Err e)
+    → record { refusal = number_of e.refusal; line = e.line; policy = value_of blank } ≡ crossed_reading o
+unfolding value_in
+as_refused e (Accepted p) h = absurd (cc)
+as_refused e (Refused n l) h = rw (h.0, h.1)

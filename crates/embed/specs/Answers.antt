@@ -1,11 +1,11 @@
 -- The numbers that answers cross as.
-use Rattle.std.specs.Prelude.{ℕ}
-use Rattle.basis.specs.Choice.{given, Result, gives, refuses}
+use Rattle.std.specs.Prelude.{ℕ, Option, Some, None, Result, Ok, Err}
+use Rattle.basis.specs.Choice.{given}
 use Rattle.policy.specs.Read.{Outcome}
 use Rattle.policy.specs.Answers.{number_of, reply_number, refusal_in, value_in}
+use Rattle.policy.specs.declared.refusal.Refusal.{Refusal}
 use Rattle.labels.specs.declared.Counts.{Counts}
-use Rattle.labels.specs.declared.Apartness.{Apartness}
-use Rattle.labels.specs.declared.Apartness.TheVariants.{Alike, Apart, Refused}
+use Rattle.labels.specs.declared.Witness.{Witness}
 use Rattle.board.specs.Machine.{Out}
 use Rattle.board.specs.declared.Board.{Board}
 use Rattle.embed.specs.declared.crossed.CrossedReading.{CrossedReading}
@@ -24,20 +24,20 @@ crossed_reading o =
     }
 
 -- the count and no refusal, or the refusal and 0
-abbrev pub counted : Result ℕ → Counted
-counted (gives n) = record { refusal = 0; count = n }
-counted (refuses n) = record { refusal = n; count = 0 }
+abbrev pub counted : Result ℕ ℕ → Counted
+counted (Ok n) = record { refusal = 0; count = n }
+counted (Err n) = record { refusal = n; count = 0 }
 
 -- NU, NO and no refusal, or the refusal, 0 and 0
-abbrev pub crossed_counts : Result Counts → CrossedCounts
-crossed_counts (gives c) = record { refusal = 0; users = c.users; objects = c.objects }
-crossed_counts (refuses n) = record { refusal = n; users = 0; objects = 0 }
+abbrev pub crossed_counts : Result Counts ℕ → CrossedCounts
+crossed_counts (Ok c) = record { refusal = 0; users = c.users; objects = c.objects }
+crossed_counts (Err n) = record { refusal = n; users = 0; objects = 0 }
 
 -- 0 alike, 1 apart with the action and the object set, or the refusal
-abbrev pub separation : Apartness → Separation
-separation Alike = record { answer = 0; action = 0; object = 0 }
-separation (Apart w) = record { answer = 1; action = w.action; object = w.object }
-separation (Refused r) = record { answer = number_of r; action = 0; object = 0 }
+abbrev pub separation : Result (Option Witness) Refusal → Separation
+separation (Ok None) = record { answer = 0; action = 0; object = 0 }
+separation (Ok (Some w)) = record { answer = 1; action = w.action; object = w.object }
+separation (Err r) = record { answer = number_of r; action = 0; object = 0 }
 
 -- the answer's number and the board
 abbrev pub crossed_step : Out Board → CrossedStep

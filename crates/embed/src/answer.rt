@@ -1,141 +1,117 @@
 // Answers as they cross: 0 denied, 1 granted, 2 done, or the refusal's number.
 ghost use Rattle.std.specs.Prelude.{◌≡◌};
-ghost use Rattle.basis.specs.Choice.{gives, refuses};
 ghost use Rattle.policy.specs.Read.{Outcome};
-ghost use Rattle.policy.specs.Answers.{number_of, reply_number, ReadAs};
-ghost use Rattle.writer.specs.Answer as writer;
+ghost use Rattle.policy.specs.Answers.{reply_number, answer_of, ReadAs};
 ghost use Rattle.formula.specs.Decide as formula;
-ghost use Rattle.tuples.specs.Tuples as tuples;
-ghost use Rattle.labels.specs.Compile as labels;
 ghost use Rattle.board.specs.Board as board;
 ghost use Rattle.embed.specs.Answers as spec;
 
 use crate::crossed::{Counted, CrossedCounts, CrossedReading, CrossedStep, Separation};
 use board::Step;
 use formula::Decision;
-use labels::{Apartness, Compiled};
-use policy::refusal::{Refusal, number_of};
-use policy::value::{Reading, Verdict};
-use tuples::Listing;
-use writer::Written;
+use labels::{Counts, Witness};
+use policy::refusal::Refusal;
+use policy::value::{PolicyValue, Rejection};
 
-// A reading, with its refusal as a number.
-pub fn reading(x: Reading) -> CrossedReading
-    ensures { (o : Outcome) → ReadAs o x → result ≡ spec.crossed_reading o }
-{
-    let policy = x.policy;
-    let verdict = x.verdict;
-    match verdict {
-        Verdict::Accepted => CrossedReading {
-            refusal: 0,
-            line: 0,
-            policy,
-        },
-        Verdict::Refused(why, line) => CrossedReading {
-            refusal: number_of(why),
-            line,
-            policy,
-        },
+// What reading answers: beside a refusal stand its line and the blank value.
+impl From<Result<PolicyValue, Rejection>> for CrossedReading {
+    ghost from_gives = { λ read crossed. (o : Outcome) → ReadAs o read → crossed ≡ spec.crossed_reading o };
+
+    fn from(read: Result<PolicyValue, Rejection>) -> CrossedReading {
+        match read {
+            Ok(policy) => CrossedReading {
+                refusal: 0,
+                line: 0,
+                policy,
+            },
+            Err(why) => CrossedReading {
+                refusal: u32::from(why.refusal),
+                line: why.line,
+                policy: policy::value::blank(),
+            },
+        }
     }
 }
 
-// The number of a decision.
-pub fn decision(d: Decision) -> u32
-    ensures { result ≡ reply_number (formula.reply_of d) }
+// The number of a decision. No `From`, since neither type is of this crate.
+pub fn decision(decided: Result<Decision, Refusal>) -> u32
+    ensures { result ≡ reply_number (formula.reply_of decided) }
 {
-    match d {
-        Decision::Granted => 1,
-        Decision::Denied => 0,
-        Decision::Refused(r) => number_of(r),
+    match decided {
+        Ok(Decision::Granted) => 1,
+        Ok(Decision::Denied) => 0,
+        Err(why) => u32::from(why),
     }
 }
 
-// A step, with its answer as a number.
-pub fn step(s: Step) -> CrossedStep
-    ensures { result ≡ spec.crossed_step (board.out_of s) }
-{
-    let a = s.answer;
-    let board = s.board;
-    CrossedStep {
-        answer: board::number_of(a),
-        board,
+// A step of the board, with its answer as a number.
+impl From<Step> for CrossedStep {
+    ghost from_gives = { λ step crossed. crossed ≡ spec.crossed_step (board.out_of step) };
+
+    fn from(step: Step) -> CrossedStep {
+        CrossedStep {
+            answer: board::number_of(step.answer),
+            board: step.board,
+        }
     }
 }
 
-// So many were stored.
-fn stored(count: usize) -> Counted
-    ensures { result ≡ spec.counted (gives count) }
-{
-    Counted { refusal: 0, count }
-}
+// What writing and listing answer.
+impl From<Result<usize, Refusal>> for Counted {
+    ghost from_gives = { λ stored crossed. crossed ≡ spec.counted (answer_of stored) };
 
-// Nothing was stored.
-fn refused(why: Refusal) -> Counted
-    ensures { result ≡ spec.counted (refuses (number_of why)) }
-{
-    Counted {
-        refusal: number_of(why),
-        count: 0,
-    }
-}
-
-// What writing answers.
-pub fn written(w: Written) -> Counted
-    ensures { result ≡ spec.counted (writer.answer_of w) }
-{
-    match w {
-        Written::Stored(n) => stored(n),
-        Written::Refused(r) => refused(r),
-    }
-}
-
-// What listing answers.
-pub fn listed(l: Listing) -> Counted
-    ensures { result ≡ spec.counted (tuples.listed l) }
-{
-    match l {
-        Listing::Stored(n) => stored(n),
-        Listing::Refused(r) => refused(r),
+    fn from(stored: Result<usize, Refusal>) -> Counted {
+        match stored {
+            Ok(count) => Counted { refusal: 0, count },
+            Err(why) => Counted {
+                refusal: u32::from(why),
+                count: 0,
+            },
+        }
     }
 }
 
 // What compiling answers.
-pub fn counts(c: Compiled) -> CrossedCounts
-    ensures { result ≡ spec.crossed_counts (labels.stored c) }
-{
-    match c {
-        Compiled::Stored(n) => CrossedCounts {
-            refusal: 0,
-            users: n.users,
-            objects: n.objects,
-        },
-        Compiled::Refused(r) => CrossedCounts {
-            refusal: number_of(r),
-            users: 0,
-            objects: 0,
-        },
+impl From<Result<Counts, Refusal>> for CrossedCounts {
+    ghost from_gives = { λ compiled crossed. crossed ≡ spec.crossed_counts (answer_of compiled) };
+
+    fn from(compiled: Result<Counts, Refusal>) -> CrossedCounts {
+        match compiled {
+            Ok(counts) => CrossedCounts {
+                refusal: 0,
+                users: counts.users,
+                objects: counts.objects,
+            },
+            Err(why) => CrossedCounts {
+                refusal: u32::from(why),
+                users: 0,
+                objects: 0,
+            },
+        }
     }
 }
 
 // What Apart answers.
-pub fn separation(a: Apartness) -> Separation
-    ensures { result ≡ spec.separation a }
-{
-    match a {
-        Apartness::Alike => Separation {
-            answer: 0,
-            action: 0,
-            object: 0,
-        },
-        Apartness::Apart(w) => Separation {
-            answer: 1,
-            action: w.action,
-            object: w.object,
-        },
-        Apartness::Refused(r) => Separation {
-            answer: number_of(r),
-            action: 0,
-            object: 0,
-        },
+impl From<Result<Option<Witness>, Refusal>> for Separation {
+    ghost from_gives = { λ told crossed. crossed ≡ spec.separation told };
+
+    fn from(told: Result<Option<Witness>, Refusal>) -> Separation {
+        match told {
+            Ok(None) => Separation {
+                answer: 0,
+                action: 0,
+                object: 0,
+            },
+            Ok(Some(witness)) => Separation {
+                answer: 1,
+                action: witness.action,
+                object: witness.object,
+            },
+            Err(why) => Separation {
+                answer: u32::from(why),
+                action: 0,
+                object: 0,
+            },
+        }
     }
 }

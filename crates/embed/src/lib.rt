@@ -1,7 +1,9 @@
-// The calls for C and Rust. Everything goes by value or in lent buffers.
+// The calls for C and Rust. Everything goes by value or in lent buffers. A function for each width, since C calls each by
+// its own name. Each call takes what document 01 names, in its order: C hands it over so. A listing comes with its count,
+// which document 01 names and refusal 20 tests.
 #![tactic(auto)]
 
-ghost use Rattle.std.specs.Prelude.{◌≡◌};
+ghost use Rattle.std.specs.Prelude.{◌≡◌, Option, Result};
 ghost use Rattle.policy.specs.Answers.{reply_number};
 ghost use Rattle.policy.specs.Limits.{bits};
 ghost use Rattle.policy.specs.Read.{read_text};
@@ -12,7 +14,8 @@ ghost use Rattle.formula.specs.Decide.{decide};
 ghost use Rattle.tuples.specs.Tuples.{list, list_buffer, decide_by_tuples};
 ghost use Rattle.labels.specs.Compile.{lent, compile, compile_buffers};
 ghost use Rattle.labels.specs.Apart.{Tells};
-ghost use Rattle.labels.specs.declared.Apartness.{Apartness};
+ghost use Rattle.labels.specs.declared.Witness.{Witness};
+ghost use Rattle.policy.specs.declared.refusal.Refusal.{Refusal};
 ghost use Rattle.board.specs.Machine.{opens, adds, drops, closes, requests};
 ghost use Rattle.board.specs.Board.{Labels, labels_of, fresh, board_step};
 ghost use Rattle.embed.specs.Answers.{crossed_reading, counted, crossed_counts, separation, crossed_step};
@@ -21,7 +24,7 @@ mod answer;
 pub mod crossed;
 
 use crate::crossed::{Counted, CrossedCounts, CrossedReading, CrossedStep, Separation};
-use board::Board;
+use board::{Board, Lent};
 use labels::Counts;
 use policy::value::PolicyValue;
 
@@ -29,7 +32,7 @@ use policy::value::PolicyValue;
 pub fn helvemoik_read(text: &[u8]) -> CrossedReading
     ensures { result ≡ crossed_reading (read_text text.now) }
 {
-    answer::reading(reader::read(text))
+    CrossedReading::from(reader::read(text))
 }
 
 // The text of a policy, put into the buffer.
@@ -37,7 +40,7 @@ pub fn helvemoik_write(policy: PolicyValue, buffer: &mut [u8]) -> Counted
     ensures answer { result ≡ counted (write policy buffer.old) }
     ensures bytes { buffer.new ≡ write_buffer policy buffer.old }
 {
-    answer::written(writer::write(policy, buffer))
+    Counted::from(writer::write(policy, buffer))
 }
 
 // Check 11.
@@ -59,7 +62,7 @@ pub fn helvemoik_list_16(policy: PolicyValue, action: u32, buffer: &mut [u16]) -
     ensures answer { result ≡ counted (list policy 16 action buffer.old) }
     ensures tuples { buffer.new ≡ list_buffer policy 16 action buffer.old }
 {
-    answer::listed(tuples::list_16(policy, action, buffer))
+    Counted::from(tuples::list::<u16>(policy, action, buffer))
 }
 
 // Stores the tuples of an action, 32 bits each.
@@ -67,7 +70,7 @@ pub fn helvemoik_list_32(policy: PolicyValue, action: u32, buffer: &mut [u32]) -
     ensures answer { result ≡ counted (list policy 32 action buffer.old) }
     ensures tuples { buffer.new ≡ list_buffer policy 32 action buffer.old }
 {
-    answer::listed(tuples::list_32(policy, action, buffer))
+    Counted::from(tuples::list::<u32>(policy, action, buffer))
 }
 
 // Decides by the first `count` tuples of a listing, 16 bits each.
@@ -80,7 +83,7 @@ pub fn helvemoik_decide_by_tuples_16(
 ) -> u32
     ensures { result ≡ reply_number (decide_by_tuples policy 16 (at user object) listing.now count) }
 {
-    answer::decision(tuples::decide_16(policy, user, object, listing, count))
+    answer::decision(tuples::decide::<u16>(policy, user, object, listing, count))
 }
 
 // Decides by the first `count` tuples of a listing, 32 bits each.
@@ -93,7 +96,7 @@ pub fn helvemoik_decide_by_tuples_32(
 ) -> u32
     ensures { result ≡ reply_number (decide_by_tuples policy 32 (at user object) listing.now count) }
 {
-    answer::decision(tuples::decide_32(policy, user, object, listing, count))
+    answer::decision(tuples::decide::<u32>(policy, user, object, listing, count))
 }
 
 // Fills the three buffers with labels and table, both in bytes.
@@ -106,7 +109,7 @@ pub fn helvemoik_compile_8_8(
     ensures answer { result ≡ crossed_counts (compile policy (lent (bits 8 8) users.old objects.old table.old)) }
     ensures buffers { lent (bits 8 8) users.new objects.new table.new ≡ compile_buffers policy (lent (bits 8 8) users.old objects.old table.old) }
 {
-    answer::counts(labels::compile_8_8(policy, users, objects, table))
+    CrossedCounts::from(labels::compile::<u8, u8>(policy, users, objects, table))
 }
 
 // Fills the three buffers with labels in bytes and a table of 16-bit entries.
@@ -119,7 +122,7 @@ pub fn helvemoik_compile_8_16(
     ensures answer { result ≡ crossed_counts (compile policy (lent (bits 8 16) users.old objects.old table.old)) }
     ensures buffers { lent (bits 8 16) users.new objects.new table.new ≡ compile_buffers policy (lent (bits 8 16) users.old objects.old table.old) }
 {
-    answer::counts(labels::compile_8_16(policy, users, objects, table))
+    CrossedCounts::from(labels::compile::<u8, u16>(policy, users, objects, table))
 }
 
 // Fills the three buffers with labels and entries of 16 bits.
@@ -132,14 +135,14 @@ pub fn helvemoik_compile_16_16(
     ensures answer { result ≡ crossed_counts (compile policy (lent (bits 16 16) users.old objects.old table.old)) }
     ensures buffers { lent (bits 16 16) users.new objects.new table.new ≡ compile_buffers policy (lent (bits 16 16) users.old objects.old table.old) }
 {
-    answer::counts(labels::compile_16_16(policy, users, objects, table))
+    CrossedCounts::from(labels::compile::<u16, u16>(policy, users, objects, table))
 }
 
 // Whether something tells two user sets apart.
 pub fn helvemoik_apart(policy: PolicyValue, one: u32, other: u32) -> Separation
-    ensures { (a : Apartness) × Tells policy one other a × (result ≡ separation a) }
+    ensures { (a : Result (Option Witness) Refusal) × Tells policy one other a × (result ≡ separation a) }
 {
-    answer::separation(labels::apart(policy, one, other))
+    Separation::from(labels::apart(policy, one, other))
 }
 
 // A board that holds no session.
@@ -159,7 +162,7 @@ pub fn helvemoik_open(
 ) -> CrossedStep
     ensures { (l : Labels) → result ≡ crossed_step (board_step policy l (opens user session set) board) }
 {
-    answer::step(board::open(board, policy, user, session, set))
+    CrossedStep::from(board::open(board, policy, user, session, set))
 }
 
 // The session's held set gains these values.
@@ -172,7 +175,7 @@ pub fn helvemoik_add(
 ) -> CrossedStep
     ensures { (l : Labels) → result ≡ crossed_step (board_step policy l (adds user session set) board) }
 {
-    answer::step(board::add(board, policy, user, session, set))
+    CrossedStep::from(board::add(board, policy, user, session, set))
 }
 
 // The session's held set loses these values.
@@ -185,14 +188,14 @@ pub fn helvemoik_drop(
 ) -> CrossedStep
     ensures { (l : Labels) → result ≡ crossed_step (board_step policy l (drops user session set) board) }
 {
-    answer::step(board::drop(board, policy, user, session, set))
+    CrossedStep::from(board::drop(board, policy, user, session, set))
 }
 
 // Closes the session.
 pub fn helvemoik_close(board: Board, policy: PolicyValue, user: u32, session: u32) -> CrossedStep
     ensures { (l : Labels) → result ≡ crossed_step (board_step policy l (closes user session) board) }
 {
-    answer::step(board::close(board, policy, user, session))
+    CrossedStep::from(board::close(board, policy, user, session))
 }
 
 // NU and NO as they are handed in.
@@ -220,17 +223,13 @@ pub fn helvemoik_request_8_8(
 ) -> CrossedStep
     ensures { result ≡ crossed_step (board_step policy (labels_of (record { users = nu; objects = «no» }) (lent (bits 8 8) users.now objects.now table.now)) (requests session action object) board) }
 {
-    answer::step(board::request_8_8(
-        board,
-        policy,
-        counts_of(nu, no),
+    let lent = Lent {
+        counts: counts_of(nu, no),
         users,
         objects,
         table,
-        session,
-        action,
-        object,
-    ))
+    };
+    CrossedStep::from(board::request(board, policy, lent, session, action, object))
 }
 
 // Grants or denies an action on an object by labels in bytes and a table of 16-bit entries.
@@ -248,17 +247,13 @@ pub fn helvemoik_request_8_16(
 ) -> CrossedStep
     ensures { result ≡ crossed_step (board_step policy (labels_of (record { users = nu; objects = «no» }) (lent (bits 8 16) users.now objects.now table.now)) (requests session action object) board) }
 {
-    answer::step(board::request_8_16(
-        board,
-        policy,
-        counts_of(nu, no),
+    let lent = Lent {
+        counts: counts_of(nu, no),
         users,
         objects,
         table,
-        session,
-        action,
-        object,
-    ))
+    };
+    CrossedStep::from(board::request(board, policy, lent, session, action, object))
 }
 
 // Grants or denies an action on an object by labels and entries of 16 bits.
@@ -276,15 +271,11 @@ pub fn helvemoik_request_16_16(
 ) -> CrossedStep
     ensures { result ≡ crossed_step (board_step policy (labels_of (record { users = nu; objects = «no» }) (lent (bits 16 16) users.now objects.now table.now)) (requests session action object) board) }
 {
-    answer::step(board::request_16_16(
-        board,
-        policy,
-        counts_of(nu, no),
+    let lent = Lent {
+        counts: counts_of(nu, no),
         users,
         objects,
         table,
-        session,
-        action,
-        object,
-    ))
+    };
+    CrossedStep::from(board::request(board, policy, lent, session, action, object))
 }

@@ -1,7 +1,9 @@
-// The archive for C and Rust: each call of `embed` under its exported name, with the same contract.
+// The archive for C and Rust: each call of `embed` under its exported name, with the same contract. A function for each
+// width, since C calls each by its own name. Each call takes what document 01 names, in its order: C hands it over so. A
+// listing comes with its count, which document 01 names and refusal 20 tests.
 #![tactic(auto)]
 
-ghost use Rattle.std.specs.Prelude.{◌≡◌};
+ghost use Rattle.std.specs.Prelude.{◌≡◌, Option, Result};
 ghost use Rattle.policy.specs.Answers.{reply_number};
 ghost use Rattle.policy.specs.Limits.{bits};
 ghost use Rattle.policy.specs.Read.{read_text};
@@ -12,7 +14,8 @@ ghost use Rattle.formula.specs.Decide.{decide};
 ghost use Rattle.tuples.specs.Tuples.{list, list_buffer, decide_by_tuples};
 ghost use Rattle.labels.specs.Compile.{lent, compile, compile_buffers};
 ghost use Rattle.labels.specs.Apart.{Tells};
-ghost use Rattle.labels.specs.declared.Apartness.{Apartness};
+ghost use Rattle.labels.specs.declared.Witness.{Witness};
+ghost use Rattle.policy.specs.declared.refusal.Refusal.{Refusal};
 ghost use Rattle.board.specs.Machine.{opens, adds, drops, closes, requests};
 ghost use Rattle.board.specs.Board.{Labels, labels_of, fresh, board_step};
 ghost use Rattle.embed.specs.Answers.{crossed_reading, counted, crossed_counts, separation, crossed_step};
@@ -145,7 +148,7 @@ pub extern "C" fn helvemoik_compile_16_16(
 // Whether something tells two user sets apart.
 #[unsafe(no_mangle)]
 pub extern "C" fn helvemoik_apart(policy: PolicyValue, one: u32, other: u32) -> Separation
-    ensures { (a : Apartness) × Tells policy one other a × (result ≡ separation a) }
+    ensures { (a : Result (Option Witness) Refusal) × Tells policy one other a × (result ≡ separation a) }
 {
     embed::helvemoik_apart(policy, one, other)
 }

@@ -43,6 +43,6 @@ module _ (v : PolicyValue) (a : ℕ) (s : Sets) where
     no_set h l = rw (e, lt-leb (actions v.form) a h, l)
 
     pub by_formula : a < actions v.form → lacking (policy_of v) s ≡ false
-        → (r b : Bool) → r ≡ grants (policy_of v) a s → r ≡ b → decided b ≡ decide v a s
+        → (b : Bool) → b ≡ grants (policy_of v) a s → decided b ≡ decide v a s
     unfolding decide first_broken policy_of
-    by_formula h l r b g q = rw (e, lt-leb (actions v.form) a h, l, ← g, q)
+    by_formula h l b g = rw (e, lt-leb (actions v.form) a h, l, ← g)

@@ -1,9 +1,9 @@
 -- What rules say of an action, going from one to the next.
+use Rattle.std.specs.Prelude.{Option, Some}
 use Prim.Native.Nat.{ℕ, ◌+◌, ◌≤◌, ◌<◌}
 use mathlib.Core.Path.{◌≡◌, refl, sym, ◌∙◌, subst}
-use mathlib.Core.Bool.{Bool, true, false, cond}
+use mathlib.Core.Bool.{Bool, true, false, cond, ◌||◌}
 use mathlib.Core.List.{List, [], ◌∷◌, map, Memᴰ}
-use mathlib.Core.Option.{Option, some}
 use native.Mathlib.Nat.{lt_of_lt_of_le}
 use native.Mathlib.Decide.{ℕ_discrete}
 use native.Mathlib.Omega.{arith}
@@ -12,8 +12,9 @@ use lib.ListN.{length, get_or, set, take, drop}
 use lib.Seq.{get_or-set_same, get_or-set_other}
 use borrow.Author.Tests.{eq-eqb, ne_eqb}
 use Rattle.basis.specs.Choice.{given, there}
-use Rattle.basis.proofs.Places.{taken_in}
-use Rattle.basis.proofs.Walk.{part-next}
+use Rattle.basis.proofs.Lists.{get_or-in}
+use Rattle.basis.proofs.Walk.{rest-next}
+use Rattle.std.specs.List.{list_any}
 use Rattle.sets.specs.Set.{has}
 use Rattle.sets.proofs.Laws.{has-zero}
 use Rattle.words.specs.declared.Word.{Word}
@@ -36,16 +37,16 @@ use Rattle.formula.proofs.Placing.{placed_seen}
 abbrev pub no_words : RuleValue
 no_words = record { action = 0; count = 0; words = [] }
 
-pub rule-at : (n : ℕ) (rs : Rules) → RulesFit n rs → rs.count ≤ length rs.entries → (i : ℕ) → i < rs.count
-    → RuleFits n (get_or rs.entries i no_words)
-rule-at n rs x l i h = x.each (get_or rs.entries i no_words) (taken_in no_words rs.entries rs.count i h l)
+pub rule-at : (n : ℕ) (rs : Rules) → RulesFit n rs → let xs = take rs.count rs.entries in
+    (i : ℕ) → i < length xs → RuleFits n (get_or xs i no_words)
+rule-at n rs x i h = x.each _ (get_or-in (take rs.count rs.entries) i no_words h)
 
 -- what the formulas of some rules say of an action
 unfoldable pub outcome : Policy → Sets → List RuleValue → ℕ → Bool
 outcome p s rs a = given (formula_in (map rule_of rs) a) false (truth p s)
 
 either : (b : Bool) (ws : List Word) (x : Option (List Word)) (f : List Word → Bool)
-    → given (cond b (some ws) x) false f ≡ cond b (f ws) (given x false f)
+    → given (cond b (Some ws) x) false f ≡ cond b (f ws) (given x false f)
 either true ws x f = refl
 either false ws x f = refl
 
@@ -57,14 +58,14 @@ module _ (p : Policy) (s : Sets) where
       either (eqb r.action a) (words_in r.count r.words) (formula_in (map rule_of rs) a) (truth p s)
 
   -- the rule at place i is the action's, or is not
-  module _ (rs : List RuleValue) (n i a : ℕ) (h : i < n) (l : n ≤ length rs) where
-    pub outcome-found : (get_or rs i no_words).action ≡ a → rule_true p (get_or rs i no_words) s ≡ outcome p s (drop i (take n rs)) a
+  module _ (rs : List RuleValue) (i a : ℕ) (h : i < length rs) where
+    pub outcome-found : (get_or rs i no_words).action ≡ a → rule_true p (get_or rs i no_words) s ≡ outcome p s (drop i rs) a
     outcome-found e =
-        rw (part-next no_words rs i n h l, outcome-first (get_or rs i no_words) (drop (i + 1) (take n rs)) a, eq-eqb (get_or rs i no_words).action a e)
+        rw (rest-next no_words rs i h, outcome-first (get_or rs i no_words) (drop (i + 1) rs) a, eq-eqb (get_or rs i no_words).action a e)
 
-    pub outcome-passed : ((get_or rs i no_words).action ≡ a → ⊥) → outcome p s (drop (i + 1) (take n rs)) a ≡ outcome p s (drop i (take n rs)) a
+    pub outcome-passed : ((get_or rs i no_words).action ≡ a → ⊥) → outcome p s (drop (i + 1) rs) a ≡ outcome p s (drop i rs) a
     outcome-passed e =
-        rw (part-next no_words rs i n h l, outcome-first (get_or rs i no_words) (drop (i + 1) (take n rs)) a, ne_eqb (get_or rs i no_words).action a e)
+        rw (rest-next no_words rs i h, outcome-first (get_or rs i no_words) (drop (i + 1) rs) a, ne_eqb (get_or rs i no_words).action a e)
 
   -- no words, and so nothing is true
   pub nothing-true : (r : RuleValue) → r.count ≡ 0 → rule_true p r s ≡ false
@@ -90,18 +91,15 @@ module _ (p : Policy) (s : Sets) where
       outcome-first r rs a
       ∙ rw (ne_eqb r.action a (λ e. omega (arith, l.action))) (outcome-past rs n a (λ x m. f x (Memᴰ.tail m)) h)
 
--- the rule at place i is the action's, or is not
-module _ (rs : List RuleValue) (n i a : ℕ) (h : i < n) (l : n ≤ length rs) where
-  abbrev own : List RuleValue → Bool
-  own xs = there (formula_in (map rule_of xs) a)
-
-  pub rule-there : (get_or rs i no_words).action ≡ a → true ≡ own (drop i (take n rs))
-  unfolding formula_in rule_of
-  rule-there e = rw (part-next no_words rs i n h l, eq-eqb (get_or rs i no_words).action a e)
-
-  pub rule-passed : ((get_or rs i no_words).action ≡ a → ⊥) → own (drop (i + 1) (take n rs)) ≡ own (drop i (take n rs))
-  unfolding formula_in rule_of
-  rule-passed e = rw (part-next no_words rs i n h l, ne_eqb (get_or rs i no_words).action a e)
+-- whether one of some rules is the action's
+pub own-rule : (a : ℕ) (rs : List RuleValue) → list_any (λ r. eqb r.action a) rs ≡ there (formula_in (map rule_of rs) a)
+unfolding formula_in rule_of
+own-rule a [] = refl
+own-rule a (r ∷ rs) = first (eqb r.action a) (words_in r.count r.words) (formula_in (map rule_of rs) a) (own-rule a rs)
+  where
+    first : (b : Bool) (ws : List Word) {c : Bool} (x : Option (List Word)) → c ≡ there x → (b || c) ≡ there (cond b (Some ws) x)
+    first true ws x e = refl
+    first false ws x e = e
 
 -- ---- all actions
 
@@ -131,11 +129,11 @@ set-seen P xs i x l new old a =
     ]
 
 -- one rule more, before the others, takes the place of its action
-pub says-next : (p : Policy) (s : Sets) (rs : List RuleValue) (m i : ℕ) → i < m → m ≤ length rs
-    → (k : ℕ) {n b : ℕ} {P : ℕ → ℕ → Type 0} {old new : List ℕ} → let r = get_or rs i no_words in
-    Placed n r.action P old new → b < n → has (in_block new n b r.action) k ≡ rule_true p r s
-    → Says p s (drop (i + 1) (take m rs)) (in_block old n b) k → Says p s (drop i (take m rs)) (in_block new n b) k
-says-next p s rs m i h l k x g e old =
-    placed_seen (λ a y. a < most_actions → has y k ≡ outcome p s (drop i (take m rs)) a) x g
-    (λ b. e ∙ outcome-found p s rs m i (get_or rs i no_words).action h l refl)
-    (λ a q b. old a b ∙ outcome-passed p s rs m i a h l q)
+pub says-next : (p : Policy) (s : Sets) (r : RuleValue) (rs : List RuleValue)
+    → (k : ℕ) {n b : ℕ} {P : ℕ → ℕ → Type 0} {old new : List ℕ}
+    → Placed n r.action P old new → b < n → has (in_block new n b r.action) k ≡ rule_true p r s
+    → Says p s rs (in_block old n b) k → Says p s (r ∷ rs) (in_block new n b) k
+says-next p s r rs k x g e old =
+    placed_seen (λ a y. a < most_actions → has y k ≡ outcome p s (r ∷ rs) a) x g
+    (λ b. rw (outcome-first p s r rs r.action, eq-eqb r.action r.action refl) e)
+    (λ a q b. rw (outcome-first p s r rs a, ne_eqb r.action a q) (old a b))

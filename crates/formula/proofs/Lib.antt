@@ -10,3 +10,4 @@ pub mod Numbering
 pub mod Checked
 pub mod Answers
 pub mod Examples
+pub mod Backwards

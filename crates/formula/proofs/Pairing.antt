@@ -11,16 +11,16 @@ use native.Mathlib.Numerals.{add-one}
 use native.Mathlib.Omega.{arith}
 use lib.Bits.{bit_or}
 use lib.Dec.{eqb}
-use lib.ListN.{length, get_or, set, take, drop, replicate, get_or-replicate}
+use lib.ListN.{length, get_or, set, take, drop, drop_of_length-le, replicate, get_or-replicate}
 use borrow.Author.Tests.{eq-eqb, ne_eqb, eqb-true}
 use Rattle.basis.specs.Choice.{given}
 use Rattle.basis.specs.Lists.{any}
 use Rattle.basis.specs.Numbers.{every}
 use Rattle.basis.proofs.Bools.{and_left, and_right, and_both, or_cases, or_left, or_right, never, fails, both_ways}
-use Rattle.basis.proofs.Lists.{any_at, any_of}
+use Rattle.basis.proofs.Lists.{get_or-in, any_at, any_of}
 use Rattle.basis.proofs.Numbers.{every-at}
-use Rattle.basis.proofs.Walk.{part-next, any-miss, any-end}
-use Rattle.basis.proofs.Places.{taken_in}
+use Rattle.basis.proofs.Walk.{rest-next, any-end}
+use Rattle.std.specs.List.{list_any}
 use Rattle.sets.specs.Set.{has}
 use Rattle.sets.proofs.Laws.{has-union, has-zero, has_one}
 use Rattle.words.specs.declared.Holding.TheVariants.{User, Object}
@@ -40,31 +40,39 @@ use Rattle.formula.proofs.Placing.{placed_seen}
 use Rattle.formula.proofs.Granting.{set-seen, outcome-all, outcome-past}
 
 -- what holds of each pair before the count, at a place
-pub pair-at : (n : ℕ) (xs : Pairs) → PairsFit n xs → xs.count ≤ length xs.entries → (i : ℕ) → i < xs.count
-    → PairFits n (get_or xs.entries i (pair 0 0 0))
-pair-at n xs x l i h = x.each (get_or xs.entries i (pair 0 0 0)) (taken_in (pair 0 0 0) xs.entries xs.count i h l)
+pub pair-at : (n : ℕ) (xs : Pairs) → PairsFit n xs → let ys = take xs.count xs.entries in
+    (i : ℕ) → i < length ys → PairFits n (get_or ys i (pair 0 0 0))
+pair-at n xs x i h = x.each _ (get_or-in (take xs.count xs.entries) i (pair 0 0 0) h)
 
 -- ---- pairs
 
--- bit k of a number, or a test at one of the pairs from place i on
-abbrev pub OrLater : (Pair → Bool) → List Pair → ℕ → ℕ → ℕ → ℕ → Bool
-OrLater f xs n i x k = has x k || any f (drop i (take n xs))
+-- a test at some of the pairs
+pub any-list : (f : Pair → Bool) (xs : List Pair) → list_any f xs ≡ any f xs
+unfolding any
+any-list f [] = refl
+any-list f (x ∷ xs) = ap (λ b. f x || b) (any-list f xs)
 
-module _ (f : Pair → Bool) (xs : List Pair) (n i : ℕ) (h : i < n) (l : n ≤ length xs) where
+-- bit k of a number, or a test at one of the pairs from place i on
+abbrev pub OrLater : (Pair → Bool) → List Pair → ℕ → ℕ → ℕ → Bool
+OrLater f xs i x k = has x k || any f (drop i xs)
+
+module _ (f : Pair → Bool) (xs : List Pair) (i : ℕ) (h : i < length xs) where
   abbrev here : Pair
   here = get_or xs i (pair 0 0 0)
 
   -- the pair at place i is tested in one more number
-  pub later_more : (x y k : ℕ) → has y k ≡ (has x k || f here) → OrLater f xs n (i + 1) y k ≡ OrLater f xs n i x k
+  pub later_more : (x y k : ℕ) → has y k ≡ (has x k || f here) → OrLater f xs (i + 1) y k ≡ OrLater f xs i x k
   unfolding any
-  later_more x y k e = rw (part-next (pair 0 0 0) xs i n h l, e) (or_assoc (has x k) (f here) (any f (drop (i + 1) (take n xs))))
+  later_more x y k e = rw (rest-next (pair 0 0 0) xs i h, e) (or_assoc (has x k) (f here) (any f (drop (i + 1) xs)))
 
   -- or the test does not pass there
-  pub later-passed : (x k : ℕ) → f here ≡ false → OrLater f xs n (i + 1) x k ≡ OrLater f xs n i x k
-  later-passed x k e = rw (any-miss f (pair 0 0 0) xs n i h l e)
+  pub later-passed : (x k : ℕ) → f here ≡ false → OrLater f xs (i + 1) x k ≡ OrLater f xs i x k
+  unfolding any
+  later-passed x k e = rw (rest-next (pair 0 0 0) xs i h, e)
 
-pub later-none : (f : Pair → Bool) (xs : List Pair) (n i x k : ℕ) → n ≤ i → has x k ≡ OrLater f xs n i x k
-later-none f xs n i x k h = rw (any-end f (pair 0 0 0) xs n i h) (sym (or-false (has x k)))
+pub later-none : (f : Pair → Bool) (xs : List Pair) (i x k : ℕ) → length xs ≤ i → has x k ≡ OrLater f xs i x k
+unfolding any
+later-none f xs i x k h = rw (drop_of_length-le xs h) (sym (or-false (has x k)))
 
 -- no pair is stored
 pub none-stored : (b : Bool) (f : Pair → Bool) (xs : Pairs) → xs.count ≡ 0 → b ≡ (b || any f (pairs_of xs))
@@ -78,21 +86,21 @@ unfolding grants formula_true pair_true
 grants-stored p s g a x = rw (x.rules, x.pairs)
 
 -- in lane k the numbers of all actions, with the pairs from place i on, say so
-abbrev pub Leads : Policy → Sets → List Pair → ℕ → ℕ → (ℕ → ℕ) → ℕ → (ℕ → Bool) → Type 0
-Leads p s xs n i granted k so =
-    (a : ℕ) → a < most_actions → OrLater (λ x. eqb x.action a && pair_holds p s x) xs n i (granted a) k ≡ so a
+abbrev pub Leads : Policy → Sets → List Pair → ℕ → (ℕ → ℕ) → ℕ → (ℕ → Bool) → Type 0
+Leads p s xs i granted k so =
+    (a : ℕ) → a < most_actions → OrLater (λ x. eqb x.action a && pair_holds p s x) xs i (granted a) k ≡ so a
 
 -- the action of the pair at place i gains what the pair grants
-pub leads-next : (p : Policy) (s : Sets) (xs : List Pair) (m i : ℕ) → i < m → m ≤ length xs
+pub leads-next : (p : Policy) (s : Sets) (xs : List Pair) (i : ℕ) → i < length xs
     → (k : ℕ) {n b : ℕ} {P : ℕ → ℕ → Type 0} {old new : List ℕ} → let x = get_or xs i (pair 0 0 0) in
     Placed n x.action P old new → b < n → has (in_block new n b x.action) k ≡ (has (in_block old n b x.action) k || pair_holds p s x)
-    → (so : ℕ → Bool) → Leads p s xs m i (in_block old n b) k so → Leads p s xs m (i + 1) (in_block new n b) k so
-leads-next p s xs m i h l k {n} {b} {old = old} {new} z g e so lead =
+    → (so : ℕ → Bool) → Leads p s xs i (in_block old n b) k so → Leads p s xs (i + 1) (in_block new n b) k so
+leads-next p s xs i h k {n} {b} {old = old} {new} z g e so lead =
     let x = get_or xs i (pair 0 0 0) in
     let is : ℕ → Pair → Bool = λ a y. eqb y.action a && pair_holds p s y in
-    placed_seen (λ a y. a < most_actions → OrLater (is a) xs m (i + 1) y k ≡ so a) z g
-    (λ f. later_more (is x.action) xs m i h l (in_block old n b x.action) (in_block new n b x.action) k (e ∙ rw (eq-eqb x.action x.action refl)) ∙ lead x.action f)
-    (λ a q f. later-passed (is a) xs m i h l (in_block old n b a) k (rw (ne_eqb x.action a q)) ∙ lead a f)
+    placed_seen (λ a y. a < most_actions → OrLater (is a) xs (i + 1) y k ≡ so a) z g
+    (λ f. later_more (is x.action) xs i h (in_block old n b x.action) (in_block new n b x.action) k (e ∙ rw (eq-eqb x.action x.action refl)) ∙ lead x.action f)
+    (λ a q f. later-passed (is a) xs i h (in_block old n b a) k (rw (ne_eqb x.action a q)) ∙ lead a f)
 
 -- ---- no other action
 
@@ -200,32 +208,32 @@ abbrev pub is_at : ℕ → ℕ → ℕ → Pair → Bool
 is_at a v w x = eqb x.action a && (eqb x.user v && eqb w x.object)
 
 -- the sets, with the pairs from place i on, say what all pairs say
-abbrev pub PairedTo : ℕ → List Pair → ℕ → ℕ → List ℕ → Type 0
-PairedTo a xs n i paired = (v w : ℕ) → v < most_values → w < most_values → OrLater (is_at a v w) xs n i (get_or paired v 0) w ≡ any (is_at a v w) (take n xs)
+abbrev pub PairedTo : ℕ → List Pair → ℕ → List ℕ → Type 0
+PairedTo a xs i paired = (v w : ℕ) → v < most_values → w < most_values → OrLater (is_at a v w) xs i (get_or paired v 0) w ≡ any (is_at a v w) xs
 
-pub paired_none : (a : ℕ) (xs : List Pair) (n : ℕ) → PairedTo a xs n 0 (replicate most_values 0)
-paired_none a xs n v w h g = rw (get_or-replicate {A = ℕ} most_values v 0 0 h, has-zero w)
+pub paired_none : (a : ℕ) (xs : List Pair) → PairedTo a xs 0 (replicate most_values 0)
+paired_none a xs v w h g = rw (get_or-replicate {A = ℕ} most_values v 0 0 h, has-zero w)
 
 -- no pair is stored, so none is the action's
 pub paired_blank : (a : ℕ) (xs : Pairs) → xs.count ≡ 0 → Paired a (pairs_of xs) (replicate most_values 0)
 paired_blank a xs e v w h g =
     rw (get_or-replicate {A = ℕ} most_values v 0 0 h, has-zero w) (none-stored false (is_at a v w) xs e)
 
-module _ (a : ℕ) (xs : List Pair) (n i : ℕ) (h : i < n) (l : n ≤ length xs) (paired : List ℕ) (b : PairedTo a xs n i paired) where
+module _ (a : ℕ) (xs : List Pair) (i : ℕ) (h : i < length xs) (paired : List ℕ) (b : PairedTo a xs i paired) where
   abbrev next : Pair
   next = get_or xs i (pair 0 0 0)
 
   pub paired_own : next.action ≡ a → next.user < length paired → (y : ℕ) → y ≡ 2 ^ next.object
-      → PairedTo a xs n (i + 1) (set paired next.user (bit_or (get_or paired next.user 0) y))
+      → PairedTo a xs (i + 1) (set paired next.user (bit_or (get_or paired next.user 0) y))
   paired_own e g y q v w j m =
-      set-seen (λ u z. u < most_values → OrLater (is_at a u w) xs n (i + 1) z w ≡ any (is_at a u w) (take n xs)) paired next.user _ g
-      (λ k. later_more (is_at a next.user w) xs n i h l (get_or paired next.user 0) _ w
+      set-seen (λ u z. u < most_values → OrLater (is_at a u w) xs (i + 1) z w ≡ any (is_at a u w) xs) paired next.user _ g
+      (λ k. later_more (is_at a next.user w) xs i h (get_or paired next.user 0) _ w
       (has-union (get_or paired next.user 0) y w ∙ rw (q, has_one next.object w, eq-eqb next.action a e, eq-eqb next.user next.user refl)) ∙ b next.user w k m)
-      (λ u z k. later-passed (is_at a u w) xs n i h l (get_or paired u 0) w (rw (ne_eqb next.user u z, and-false)) ∙ b u w k m)
+      (λ u z k. later-passed (is_at a u w) xs i h (get_or paired u 0) w (rw (ne_eqb next.user u z, and-false)) ∙ b u w k m)
       v j
 
-  pub paired_other : (next.action ≡ a → ⊥) → PairedTo a xs n (i + 1) paired
-  paired_other e v w j m = later-passed (is_at a v w) xs n i h l (get_or paired v 0) w (rw (ne_eqb next.action a e)) ∙ b v w j m
+  pub paired_other : (next.action ≡ a → ⊥) → PairedTo a xs (i + 1) paired
+  paired_other e v w j m = later-passed (is_at a v w) xs i h (get_or paired v 0) w (rw (ne_eqb next.action a e)) ∙ b v w j m
 
 -- where the sets say what the action's pairs say, some value of them is held exactly where a pair holds
 module _ (p : Policy) (s : Sets) (a n : ℕ) (xs : List Pair) (fits : (x : Pair) → Memᴰ x xs → PairFits n x) (paired : List ℕ) (b : Paired a xs paired) where

@@ -96,30 +96,29 @@ set-small x from n h = lt_of_lt_of_le (mod-lt (x / 2 ^ from) (pow_pos n)) (pow_m
 
 -- ---- the vectors of a side
 
--- each half has the vectors of the values below v of the sets in the lanes
-pub record Filled (sets : ℕ → ℕ) (v : ℕ) (r : List ℕ) : Type 0 where
+-- each half has the vectors of the values below v, and P holds of each
+pub record Filled (P : ℕ → ℕ → Type 0) (v : ℕ) (r : List ℕ) : Type 0 where
   pub long : length r ≡ vector_places
-  pub both : (w : ℕ) → w < v → (k : ℕ) → k < lanes
-      → (has (get_or r w 0) k ≡ has (sets k) w) × (has (get_or r (most_values + w) 0) k ≡ has (sets k) w)
+  pub both : (w : ℕ) → w < v → P w (get_or r w 0) × (get_or r (most_values + w) 0 ≡ get_or r w 0)
 
-pub filled_none : (sets : ℕ → ℕ) (r : List ℕ) → length r ≡ vector_places → Filled sets 0 r
-filled_none sets r l = record { long = l; both = λ w h. absurd (omega arith) }
+pub filled_none : (P : ℕ → ℕ → Type 0) (r : List ℕ) → length r ≡ vector_places → Filled P 0 r
+filled_none P r l = record { long = l; both = λ w h. absurd (omega arith) }
 
 -- one vector stored twice
-pub filled_next : (sets : ℕ → ℕ) (v x : ℕ) (r : List ℕ) → v < most_values → Filled sets v r → ((k : ℕ) → k < lanes → has x k ≡ has (sets k) v)
-    → Filled sets (v + 1) (set (set r v x) (most_values + v) x)
-filled_next sets v x r hv old new =
+pub filled_next : (P : ℕ → ℕ → Type 0) (v x : ℕ) (r : List ℕ) → v < most_values → Filled P v r → P v x
+    → Filled P (v + 1) (set (set r v x) (most_values + v) x)
+filled_next P v x r hv old new =
     let l : most_values + v < length (set r v x) = rw length-set (omega (arith, old.long)) in
     record {
       long = rw (length-set, length-set) old.long;
-      both = λ w h k g.
+      both = λ w h.
           let o : w ≡ most_values + v → ⊥ = λ e. omega arith in
           elim (ℕ_discrete w v) [
             | yes e ↦
                 let q : v < length r = omega (arith, old.long) in
                 let n : v ≡ most_values + v → ⊥ = λ f. omega arith in
                 rw (e, get_or-set_other (set r v x) (most_values + v) v x 0 n, get_or-set_same r v x 0 q, get_or-set_same (set r v x) (most_values + v) x 0 l)
-                (new k g, new k g)
+                (new, refl)
             | no e ↦
                 let f : most_values + w ≡ most_values + v → ⊥ = λ q. e (omega arith) in
                 let n : most_values + w ≡ v → ⊥ = λ q. omega arith in
@@ -129,14 +128,9 @@ filled_next sets v x r hv old new =
                   get_or-set_other (set r v x) (most_values + v) (most_values + w) x 0 f,
                   get_or-set_other r v (most_values + w) x 0 n,
                 )
-                (old.both w (omega arith) k g)
+                (old.both w (omega arith))
           ];
     }
-
-pub filled-plain : (sets : ℕ → ℕ) (v : ℕ) (r : List ℕ) → most_values ≤ v → Filled sets v r → (k : ℕ) → k < lanes → sets k < 2 ^ most_values
-    → Plain r k (sets k)
-filled-plain sets v r h x k g b =
-    record { below = b; held = λ w l. (x.both w (omega arith) k g).0; again = λ w l. (x.both w (omega arith) k g).1 }
 
 -- the second half has become f of the set in each lane
 pub record Grown (old new : List ℕ) (f : ℕ → ℕ) : Type 0 where

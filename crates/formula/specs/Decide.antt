@@ -1,5 +1,5 @@
 -- "Decide: by the formula, on two given sets (11, 12, 19)", and by the pairs.
-use Rattle.std.specs.Prelude.{ℕ, Bool, not, ◌||◌, List, [], ◌∷◌, leb}
+use Rattle.std.specs.Prelude.{ℕ, Bool, not, ◌||◌, List, [], ◌∷◌, leb, Result, Ok, Err}
 use Rattle.basis.specs.Choice.{given, Check, check, first_broken}
 use Rattle.policy.specs.Limits.{actions}
 use Rattle.policy.specs.Policy.{Policy, sets}
@@ -7,15 +7,19 @@ use Rattle.policy.specs.Value.{policy_of}
 use Rattle.policy.specs.Valid.{valid}
 use Rattle.policy.specs.Answers.{number_of, Reply, granted, denied, refused, decided}
 use Rattle.policy.specs.declared.value.PolicyValue.{PolicyValue}
+use Rattle.policy.specs.declared.refusal.Refusal.{Refusal}
 use Rattle.formula.specs.Truth.{Sets, grants}
 use Rattle.formula.specs.declared.Decision.{Decision}
-use Rattle.formula.specs.declared.Decision.TheVariants.{Granted, Denied, Refused}
+use Rattle.formula.specs.declared.Decision.TheVariants.{Granted, Denied}
 
 -- what the code's answer stands for
-abbrev pub reply_of : Decision → Reply
-reply_of Granted = granted
-reply_of Denied = denied
-reply_of (Refused r) = refused (number_of r)
+abbrev pub decided_as : Decision → Reply
+decided_as Granted = granted
+decided_as Denied = denied
+
+abbrev pub reply_of : Result Decision Refusal → Reply
+reply_of (Ok d) = decided_as d
+reply_of (Err r) = refused (number_of r)
 
 -- 12: "The action is above 7", and of a `policy,2` text "above 15"
 abbrev pub no_action : Policy → ℕ → Bool

@@ -5,3 +5,4 @@ pub mod Grant
 pub mod Group
 pub mod Source
 pub mod Square
+pub mod Blocks

@@ -29,13 +29,11 @@ fn starts(widths: [u32; WIDTH_PLACES], n: usize) -> [u8; STARTS]
 {
     let mut r = [0u8; STARTS];
     let mut next: u8 = 0;
-    let mut i: usize = 0;
-    while i < MOST_VALUES {
+    for i in 0..MOST_VALUES {
         if i < n {
             next += widths[i] as u8;
         }
-        i += 1;
-        r[i] = next;
+        r[i + 1] = next;
     }
     r
 }
@@ -45,13 +43,9 @@ pub fn of_sides(user: SideValue, object: SideValue) -> Attributes
     requires { SideFits user × SideFits object }
     ensures { (p : Policy) → p.user ≡ side_of user → p.object ≡ side_of object → AttributesOf p result }
 {
-    let user_widths = user.widths;
-    let object_widths = object.widths;
-    let user_starts = starts(user_widths, user.attributes);
-    let object_starts = starts(object_widths, object.attributes);
     Attributes {
-        user: user_starts,
-        object: object_starts,
+        user: starts(user.widths, user.attributes),
+        object: starts(object.widths, object.attributes),
     }
 }
 
@@ -95,10 +89,5 @@ pub fn lacks(sides: Attributes, user: u32, object: u32) -> bool
     requires { (p : Policy) × AttributesOf p sides }
     ensures { (p : Policy) → AttributesOf p sides → result ≡ lacking p (at user object) }
 {
-    let user_starts = sides.user;
-    if sets(user_starts) <= user {
-        return true;
-    }
-    let object_starts = sides.object;
-    sets(object_starts) <= object
+    sets(sides.user) <= user || sets(sides.object) <= object
 }

@@ -94,10 +94,9 @@ pub fn source_of(user: SideValue, object: SideValue) -> Source
     ensures { ((p : Policy) → p.user ≡ side_of user → p.object ≡ side_of object → AttributesOf p result.sides) × (result.user ≡ user) × (result.blocks ≡ blocks_of (total (side_of object))) }
 {
     let sides = attributes::of_sides(user, object);
-    let object_starts = sides.object;
     Source {
         sides,
         user,
-        blocks: blocks_of(attributes::total(object_starts)),
+        blocks: blocks_of(attributes::total(sides.object)),
     }
 }

@@ -8,13 +8,15 @@ ghost use Rattle.policy.specs.Value.{policy_of};
 ghost use Rattle.policy.specs.Valid.{valid};
 ghost use Rattle.formula.specs.Truth.{at, grants};
 ghost use Rattle.formula.specs.Decide as spec;
-ghost use Rattle.formula.specs.Decide.{reply_of};
+ghost use Rattle.policy.specs.Answers.{decided};
+ghost use Rattle.formula.specs.Decide.{decided_as, reply_of};
 ghost use Rattle.formula.specs.Inner.Fits.{ValueFits};
 ghost use Rattle.formula.specs.Inner.Lane.{AttributesOf};
 
 pub mod attributes;
 pub mod blocks;
 mod blockwise;
+pub mod both;
 pub mod entries;
 mod evaluate;
 pub mod grant;
@@ -24,16 +26,28 @@ pub mod turn;
 
 use crate::attributes::Attributes;
 use crate::blocks::ONE_STACK;
+use crate::both::Blocks;
 use policy::limits;
 use policy::refusal::Refusal;
 use policy::value::PolicyValue;
 
-// The answer to whether an action is granted.
-#[derive(Clone, Copy)]
+// Whether an action is granted, where nothing refuses the question.
+#[derive(Clone, Copy, PartialEq, Eq)]
 pub enum Decision {
     Granted,
     Denied,
-    Refused(Refusal),
+}
+
+impl From<bool> for Decision {
+    ghost from_gives = { λ granted decision. decided_as decision ≡ decided granted };
+
+    fn from(granted: bool) -> Decision {
+        if granted {
+            Decision::Granted
+        } else {
+            Decision::Denied
+        }
+    }
 }
 
 // Whether an action is granted at a user set and an object set, which stand in every lane.
@@ -41,45 +55,41 @@ fn allows(v: PolicyValue, sides: Attributes, action: u32, user: u32, object: u32
     requires { ValueFits v × AttributesOf (policy_of v) sides × (user < 2 ^ most_values) × (object < 2 ^ most_values) }
     ensures { result ≡ grants (policy_of v) action (at user object) }
 {
-    let user_side = v.user;
-    let user_lines = user_side.seniority;
-    let users = side::with_juniors(side::spread(user), user_lines, user_side.lines);
-    let object_side = v.object;
-    let object_lines = object_side.seniority;
-    let objects = side::with_seniors(side::spread(object), object_lines, object_side.lines);
+    let users = side::closed(side::spread(user), v.user, true);
+    let objects = side::closed(side::spread(object), v.object, false);
+    let blocks = Blocks {
+        sides,
+        users: &users,
+        objects: &objects,
+        count: 1,
+    };
     let grant = grant::of_action(grant::of_policy(v), action);
     let mut stack = [0u64; ONE_STACK];
-    let d = grant::where_granted(sides, &users, &objects, 1, grant, &mut stack);
+    let d = blocks.where_granted(grant, &mut stack);
     stack[d] % 2 == 1
 }
 
 // The answer where check 11 passes.
-fn answer(v: PolicyValue, action: u32, user: u32, object: u32) -> Decision
+fn answer(v: PolicyValue, action: u32, user: u32, object: u32) -> Result<Decision, Refusal>
     requires { valid v ≡ true }
     ensures { reply_of result ≡ spec.decide v action (at user object) }
 {
     if limits::actions(v.form) <= action {
-        return Decision::Refused(Refusal::UnknownAction);
+        return Err(Refusal::UnknownAction);
     }
-    let user_side = v.user;
-    let object_side = v.object;
-    let sides = attributes::of_sides(user_side, object_side);
+    let sides = attributes::of_sides(v.user, v.object);
     if attributes::lacks(sides, user, object) {
-        return Decision::Refused(Refusal::SetOutOfReach);
+        return Err(Refusal::SetOutOfReach);
     }
-    if allows(v, sides, action, user, object) {
-        Decision::Granted
-    } else {
-        Decision::Denied
-    }
+    Ok(Decision::from(allows(v, sides, action, user, object)))
 }
 
 // Whether an action is granted to a user set on an object set, by the action's formula and its pairs.
-pub fn decide(v: PolicyValue, action: u32, user: u32, object: u32) -> Decision
+pub fn decide(v: PolicyValue, action: u32, user: u32, object: u32) -> Result<Decision, Refusal>
     ensures { reply_of result ≡ spec.decide v action (at user object) }
 {
     if !validity::check(v) {
-        return Decision::Refused(Refusal::InvalidState);
+        return Err(Refusal::InvalidState);
     }
     answer(v, action, user, object)
 }

@@ -9,76 +9,56 @@ ghost use Rattle.policy.specs.Policy.{Policy};
 ghost use Rattle.policy.specs.Value.{pairs_of};
 ghost use Rattle.formula.specs.Truth.{Sets, holds};
 ghost use Rattle.formula.specs.Inner.Fits.{PairsFit};
+ghost use Rattle.formula.specs.Inner.Blocks.{AtLane};
 ghost use Rattle.formula.specs.Inner.Grant.{partner_held, paired_at, Paired};
-ghost use Rattle.formula.specs.Inner.Lane.{vector_places, in_block, Placed, InBlock};
+ghost use Rattle.formula.specs.Inner.Lane.{in_block, Placed};
 
+use crate::both::Blocks;
 use policy::limits::MOST_VALUES;
 use policy::value::Pairs;
 
-// Adds to a place where the user sets with their juniors hold user value v, and the object sets with their seniors object
-// value w.
-pub fn add_held(
-    users: &[u64],
-    objects: &[u64],
-    n: usize,
-    v: usize,
-    w: usize,
-    to: &mut [u64],
-    i: usize,
-)
-    requires { (vector_places * n ≤ length users.now) × (vector_places * n ≤ length objects.now) × (v < most_values) × (w < most_values) × (i * n + n ≤ length to.old) }
-    ensures { Placed n i (λ b y. (p : Policy) (k : ℕ) (s : Sets) → InBlock p users.now objects.now n b k s → has y k ≡ (has (in_block to.old n b i) k || (holds p s (User v) && holds p s (Object w)))) to.old to.new }
-{
-    let user = (MOST_VALUES + v) * n;
-    let object = (MOST_VALUES + w) * n;
-    let start = i * n;
-    for b in 0..n {
-        to[start + b] = to[start + b] | (users[user + b] & objects[object + b]);
-    }
-}
-
-// Adds to a place where user value v and an object value of this set are held so.
-fn add_partners(
-    users: &[u64],
-    objects: &[u64],
-    n: usize,
-    v: usize,
-    set: u32,
-    to: &mut [u64],
-    i: usize,
-)
-    requires { (vector_places * n ≤ length users.now) × (vector_places * n ≤ length objects.now) × (v < most_values) × (i * n + n ≤ length to.old) }
-    ensures { Placed n i (λ b y. (p : Policy) (k : ℕ) (s : Sets) → InBlock p users.now objects.now n b k s → has y k ≡ (has (in_block to.old n b i) k || (holds p s (User v) && partner_held p s set))) to.old to.new }
-{
-    let mut w: usize = 0;
-    while w < MOST_VALUES {
-        if sets::holds(set, w as u32) {
-            add_held(users, objects, n, v, w, to, i);
+impl<'a> Blocks<'a> {
+    // Adds to a place where the user sets with their juniors hold user value v, and the object sets with their seniors
+    // object value w.
+    pub(crate) fn add_held(&self, v: usize, w: usize, to: &mut [u64], i: usize)
+        requires { (v < most_values) × (w < most_values) × (i * self.now.count + self.now.count ≤ length to.old) }
+        ensures { let n = self.now.count in Placed n i (λ b y. (p : Policy) (k : ℕ) (s : Sets) → AtLane p self.now b k s → has y k ≡ (has (in_block to.old n b i) k || (holds p s (User v) && holds p s (Object w)))) to.old to.new }
+    {
+        let n = self.count;
+        let users = self.users;
+        let objects = self.objects;
+        let user = (MOST_VALUES + v) * n;
+        let object = (MOST_VALUES + w) * n;
+        let start = i * n;
+        for b in 0..n {
+            to[start + b] = to[start + b] | (users[user + b] & objects[object + b]);
         }
-        w += 1;
     }
-}
 
-// Adds to a place where a user value and one of the object values that it is paired with are held so.
-pub fn add_paired(
-    users: &[u64],
-    objects: &[u64],
-    n: usize,
-    paired: [u32; MOST_VALUES],
-    to: &mut [u64],
-    i: usize,
-)
-    requires { (vector_places * n ≤ length users.now) × (vector_places * n ≤ length objects.now) × (i * n + n ≤ length to.old) }
-    ensures { Placed n i (λ b y. (p : Policy) (k : ℕ) (s : Sets) → InBlock p users.now objects.now n b k s → has y k ≡ (has (in_block to.old n b i) k || paired_at p paired s)) to.old to.new }
-{
-    let mut v: usize = 0;
-    while v < MOST_VALUES {
-        let set = paired[v];
-        // Most user values have no pair.
-        if set != 0 {
-            add_partners(users, objects, n, v, set, to, i);
+    // Adds to a place where user value v and an object value of this set are held so.
+    fn add_partners(&self, v: usize, set: u32, to: &mut [u64], i: usize)
+        requires { (v < most_values) × (i * self.now.count + self.now.count ≤ length to.old) }
+        ensures { let n = self.now.count in Placed n i (λ b y. (p : Policy) (k : ℕ) (s : Sets) → AtLane p self.now b k s → has y k ≡ (has (in_block to.old n b i) k || (holds p s (User v) && partner_held p s set))) to.old to.new }
+    {
+        for w in 0..MOST_VALUES {
+            if sets::holds(set, w as u32) {
+                self.add_held(v, w, to, i);
+            }
         }
-        v += 1;
+    }
+
+    // Adds to a place where a user value and one of the object values that it is paired with are held so.
+    pub(crate) fn add_paired(&self, paired: [u32; MOST_VALUES], to: &mut [u64], i: usize)
+        requires { i * self.now.count + self.now.count ≤ length to.old }
+        ensures { let n = self.now.count in Placed n i (λ b y. (p : Policy) (k : ℕ) (s : Sets) → AtLane p self.now b k s → has y k ≡ (has (in_block to.old n b i) k || paired_at p paired s)) to.old to.new }
+    {
+        for v in 0..MOST_VALUES {
+            let set = paired[v];
+            // Most user values have no pair.
+            if set != 0 {
+                self.add_partners(v, set, to, i);
+            }
+        }
     }
 }
 
@@ -98,17 +78,12 @@ pub fn of_action(pairs: Pairs, action: u32) -> [u32; MOST_VALUES]
     requires { (n : ℕ) × PairsFit n pairs }
     ensures { Paired action (pairs_of pairs) result }
 {
-    let n = pairs.count;
     let mut r = [0u32; MOST_VALUES];
-    let mut i: usize = 0;
-    let entries = pairs.entries;
-    while i < n {
-        let pair = entries[i];
+    for pair in &pairs.entries[..pairs.count] {
         if pair.action == action {
             let v = pair.user as usize;
             r[v] = r[v] | (1 << pair.object);
         }
-        i += 1;
     }
     r
 }
@@ -118,15 +93,7 @@ pub fn name(pairs: Pairs, action: u32) -> bool
     requires { (n : ℕ) × PairsFit n pairs }
     ensures { result ≡ any (λ x. eqb x.action action) (pairs_of pairs) }
 {
-    let entries = pairs.entries;
-    let n = pairs.count;
-    let mut i: usize = 0;
-    while i < n {
-        let x = entries[i];
-        if x.action == action {
-            return true;
-        }
-        i += 1;
-    }
-    false
+    pairs.entries[..pairs.count]
+        .iter()
+        .any(|x| x.action == action)
 }

@@ -1,5 +1,6 @@
 -- Laws of entries: the entry of a lane, that entries differ at an action, and that user sets whose entries are equal
 -- are alike.
+use native.Mathlib.Nat.{le_refl}
 use Prim.Native.Nat.{ℕ, suc, ◌+◌, ◌/◌, ◌%◌, ◌^◌, ◌≤◌, ◌<◌}
 use mathlib.Core.Path.{◌≡◌, refl, sym, ap, ap₂, ◌∙◌}
 use mathlib.Core.Bool.{Bool, true, false, not}
@@ -11,6 +12,10 @@ use lib.Dec.{eqb, lit<}
 use lib.ListN.{get_or}
 use lib.Pow.{pow_mono}
 use borrow.Author.Tests.{not-true, not-false}
+use Rattle.std.specs.Int.RustNames.{bit_xor}
+use Rattle.std.specs.Int.{bit_at, trailing_zeros}
+use Rattle.std.proofs.Common.{w16}
+use Rattle.std.proofs.lemmas.Nat.Bits.{bit_at-zero, bit_at_xor, bit_at-trailing_zeros, bit_at-lt}
 use Rattle.basis.specs.Numbers.{agree}
 use Rattle.basis.proofs.Bools.{fails, never}
 use Rattle.basis.proofs.Counting.{first-least, first-is}
@@ -83,6 +88,25 @@ module _ (x y : ℕ) where
         hit = λ l. rw (fails (agree (has x a) (has y a)) (λ e.
             h l (digit-eq (x / 2 ^ a % 2) (y / 2 ^ a % 2) (mod-lt _ (lit< tt)) (mod-lt _ (lit< tt)) (agree-eq (has x a) (has y a) e))));
       }))
+
+  -- which is the lowest bit that they do not share
+  shared : (i : ℕ) → (bit_at x i + bit_at y i) % 2 ≡ 0 → x / 2 ^ i % 2 ≡ y / 2 ^ i % 2
+  shared i e = let a = bit_at-lt x i in let b = bit_at-lt y i in omega (arith, a, b, e)
+
+  pub first-xor : bit_xor x y < 2 ^ most_actions → trailing_zeros w16 (bit_xor x y) ≡ first_action x y
+  unfolding lib.Count.count_trailing_zeros
+  first-xor few =
+      elim (dec_lt 0 (bit_xor x y)) [
+        | yes b ↦
+            let t = bit_at-trailing_zeros w16 (bit_xor x y) b few in
+            let l = t.0 in
+            action-is _ (omega (arith, t.0)) (λ i h. shared i (sym (bit_at_xor x y i) ∙ t.2 i h))
+            (λ _ q. let e : bit_at x (trailing_zeros w16 (bit_xor x y)) ≡ bit_at y (trailing_zeros w16 (bit_xor x y)) = q in
+            let z = sym (bit_at_xor x y (trailing_zeros w16 (bit_xor x y))) ∙ t.1 in omega (arith, e, z))
+        | no b ↦
+            let none : bit_xor x y ≡ 0 = omega arith in
+            rw none (action-is most_actions (le_refl most_actions) (λ i h. shared i (sym (bit_at_xor x y i) ∙ rw none (bit_at-zero i))) (λ h. absurd (omega arith)))
+      ]
 
 -- ---- two user sets
 

@@ -1,15 +1,15 @@
 -- Laws of grids: where the entries lie, seen from either side, and a grid that is filled place by place.
-use Prim.Native.Nat.{ℕ, ◌+◌, ◌*◌, ◌/◌, ◌%◌, ◌≤◌, ◌<◌}
-use mathlib.Core.Path.{◌≡◌, sym, ap₂, ◌∙◌}
+use Prim.Native.Nat.{ℕ, min, ◌+◌, ◌*◌, ◌/◌, ◌%◌, ◌≤◌, ◌<◌}
+use mathlib.Core.Path.{◌≡◌, ap₂, ◌∙◌}
 use mathlib.Core.Bool.{Bool, true, false, not}
 use mathlib.Core.List.{List}
 use mathlib.Core.Logic.{⊎_elim}
-use native.Mathlib.Nat.{le_trans, mul-one}
+use native.Mathlib.Nat.{le_refl, le_trans, mul-le-mul, mul-one}
 use native.Mathlib.Omega.{arith}
 use lib.Arith.{digits_lt, digits_div, digits_mod}
-use lib.ListN.{length, get_or, set, length-set}
+use lib.ListN.{length, get_or}
 use lib.Pow.{pow_mono}
-use Rattle.basis.proofs.Places.{stored_next}
+use Rattle.std.proofs.lemmas.Grind.{div_ceil_times}
 use Rattle.policy.specs.Policy.{Policy, total, sets}
 use Rattle.policy.specs.Limits.{most_values, most_sets}
 use Rattle.formula.specs.Inner.Lane.{lanes, AttributesOf, side_at}
@@ -57,29 +57,23 @@ module _ (p : Policy) (from : Rows) (x : RowsOf p from) where
 
 -- ---- filling
 
+-- of rows of n places that cover so many, one that is begun begins before the last place
+pub begun : (q n places : ℕ) → 0 < n → q < places / n + min 1 (places % n) → q * n < places
+begun q n places some h =
+    let next : (q + 1) * n ≤ (places / n + min 1 (places % n)) * n = mul-le-mul (omega (arith, h)) (le_refl n) in
+    omega (arith, next, (div_ceil_times places n some).1)
+
 -- the first k places have the entries of their sets, in rows of n
-pub record Entered (from : Rows) (chosen : List ℕ) (start n k : ℕ) (grid : List ℕ) : Type 0 where
+pub record Entered (from : Rows) (chosen : List ℕ) (n k : ℕ) (grid : List ℕ) : Type 0 where
   pub long : length grid ≡ grid_places
-  pub entries : (p : Policy) → RowsOf p from → n ≤ sets (side_at (not from.user) p) → (i : ℕ) → i < k → get_or grid i 0 ≡ entry_in p from.user chosen (i % n) (start + i / n)
+  pub entries : (p : Policy) → RowsOf p from → n ≤ sets (side_at (not from.user) p) → (i : ℕ) → i < k → get_or grid i 0 ≡ entry_in p from.user chosen (i % n) (i / n)
 
-module _ {from : Rows} {chosen : List ℕ} {start n : ℕ} {grid : List ℕ} where
-  pub entered_more : {x : ℕ} (i o : ℕ) → Entered from chosen start n (i * n + o) grid → o < n → i * n + o < grid_places
-      → ((p : Policy) → RowsOf p from → n ≤ sets (side_at (not from.user) p) → x ≡ entry_in p from.user chosen o (start + i))
-      → Entered from chosen start n (i * n + (o + 1)) (set grid (i * n + o) x)
-  entered_more {x} i o F h l e =
-      let s = F.long in
-      record {
-        long = simp length-set s;
-        entries = λ p rows few j b.
-            stored_next (λ a y. y ≡ entry_in p from.user chosen (a % n) (start + a / n)) 0 grid (i * n + o) x (omega arith) (F.entries p rows few)
-            (e p rows few ∙ sym (ap₂ (λ (a b : ℕ). entry_in p from.user chosen a (start + b)) (digits_mod i h) (digits_div i h))) j (omega arith);
-      }
-
-  pub entered_count : {k m : ℕ} → Entered from chosen start n k grid → k ≡ m → Entered from chosen start n m grid
+module _ {from : Rows} {chosen : List ℕ} {n : ℕ} {grid : List ℕ} where
+  pub entered_count : {k m : ℕ} → Entered from chosen n k grid → k ≡ m → Entered from chosen n m grid
   entered_count F q = rw (← q) F
 
   -- so an entry of a full row is there
-  pub entered_at : {k : ℕ} → Entered from chosen start n k grid → (p : Policy) → RowsOf p from → n ≤ sets (side_at (not from.user) p)
-      → (i o : ℕ) → o < n → i * n + o < k → get_or grid (i * n + o) 0 ≡ entry_in p from.user chosen o (start + i)
+  pub entered_at : {k : ℕ} → Entered from chosen n k grid → (p : Policy) → RowsOf p from → n ≤ sets (side_at (not from.user) p)
+      → (i o : ℕ) → o < n → i * n + o < k → get_or grid (i * n + o) 0 ≡ entry_in p from.user chosen o i
   entered_at F p rows few i o h l =
-      F.entries p rows few (i * n + o) l ∙ ap₂ (λ (a b : ℕ). entry_in p from.user chosen a (start + b)) (digits_mod i h) (digits_div i h)
+      F.entries p rows few (i * n + o) l ∙ ap₂ (entry_in p from.user chosen) (digits_mod i h) (digits_div i h)

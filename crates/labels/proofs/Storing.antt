@@ -1,5 +1,6 @@
 -- Compiling: the labels that the code works out are those of the policy's sets, and what the parts leave in the buffers
 -- is what compiling is to leave there.
+use Rattle.std.specs.Prelude.{Ok, Err}
 use Prim.Native.Nat.{ℕ, ◌+◌, ◌*◌, ◌/◌, ◌%◌, ◌^◌, ◌≤◌, ◌<◌}
 use mathlib.Core.Path.{◌≡◌, refl, sym, ap, ◌∙◌}
 use mathlib.Core.Bool.{Bool, true, false, ◌||◌, and-false}
@@ -9,15 +10,16 @@ use native.Mathlib.Omega.{arith}
 use lib.Dec.{eqb, ltb}
 use lib.ListN.{length, get_or}
 use lib.Pow.{pow_mono}
-use borrow.Author.Tests.{eqb-true, ltb-false, lt-ltb, le-ltb}
+use borrow.Author.Tests.{eqb-true, ltb-false}
 use Rattle.basis.specs.Choice.{first_broken}
 use Rattle.basis.specs.Lists.{over}
 use Rattle.basis.specs.Numbers.{up_to}
-use Rattle.basis.proofs.Bools.{or_right, or_neither, and_left, and_right}
+use Rattle.basis.proofs.Bools.{or_neither, and_left, and_right}
 use Rattle.policy.specs.Limits.{values, actions, stored_widths, own_widths, most_sets}
 use Rattle.policy.specs.Policy.{Side, Policy, sets}
 use Rattle.policy.specs.Value.{policy_of}
 use Rattle.policy.specs.Valid.{valid}
+use Rattle.policy.specs.Answers.{answer_of}
 use Rattle.policy.specs.declared.limits.Widths.{Widths}
 use Rattle.policy.specs.declared.value.PolicyValue.{PolicyValue}
 use Rattle.policy.specs.declared.refusal.Refusal.TheVariants.{InvalidState, BufferTooShort}
@@ -28,7 +30,7 @@ use Rattle.policy.proofs.Parts.{SideParts, parts}
 use Rattle.policy.proofs.Valid.{valid-whole}
 use Rattle.formula.specs.Truth.{Sets, at, grants}
 use Rattle.labels.specs.Compile.{entry_of}
-use Rattle.labels.specs.Compile.{like_users, like_objects, NU, NO, entry, user_label, object_label, user_result, object_result, table_result, Buffers, lent, counts, stored, used, fits_widths, too_short, compile, compile_buffers, Compiles}
+use Rattle.labels.specs.Compile.{like_users, like_objects, NU, NO, entry, user_label, object_label, user_result, object_result, table_result, Buffers, lent, counts, used, fits_widths, too_short, compile, compile_buffers, Compiles}
 use Rattle.labels.specs.Labelling.{users_alike}
 use Rattle.labels.specs.Rows.{rows_alike}
 use Rattle.labels.specs.Inner.Grid.{cell, turned_view, like_still, ViewOf, Kept, Labelled, Puts}
@@ -36,7 +38,9 @@ use Rattle.labels.specs.Inner.Labels.{LabelsOf}
 use Rattle.labels.specs.Inner.Rows.{entry_in}
 use Rattle.labels.specs.declared.grid.View.{View}
 use Rattle.labels.specs.declared.Counts.{Counts}
-use Rattle.labels.specs.declared.Compiled.TheVariants.{Stored, Refused}
+use Rattle.formula.specs.Inner.Lane.{AttributesOf, beside}
+use Rattle.formula.specs.declared.attributes.Attributes.{Attributes}
+use Rattle.labels.specs.declared.classify.Classes.{Classes}
 use Rattle.labels.proofs.Alike.{rows_alike_lem, columns_alike}
 use Rattle.labels.proofs.Refining.{alike_same, joined-alike, leaders_enough}
 use Rattle.labels.proofs.Turn.{labelled-same, labelled-few}
@@ -66,6 +70,15 @@ module _ {p : Policy} (grid : List ℕ) {view : View} (K : Kept p grid view) (v 
       let e : x * view.along + u * view.down ≡ u * view.down + x * view.along = omega arith in
       ap (λ (y : ℕ). get_or grid y 0) e ∙ K u x hu hx) o q ho hq) s)
 
+-- the sets that are looked at may be the first k of a longer list
+pub first-chosen : (p : Policy) (user : Bool) (xs ys : List ℕ) (k : ℕ) → length ys ≡ k → ((i : ℕ) → i < k → get_or ys i 0 ≡ get_or xs i 0)
+    → {m count : ℕ} {labels leaders : List ℕ} → Labelled (rows_alike (entry_in p user ys) (length ys)) m labels leaders count
+    → Labelled (rows_alike (entry_in p user xs) k) m labels leaders count
+first-chosen p user xs ys k size first s =
+    let same : (u o : ℕ) → o < k → entry_in p user ys u o ≡ entry_in p user xs u o = λ u o h.
+    ap (λ (x : ℕ). entry_of p (beside user x u)) (first o h) in
+    labelled-same (λ u w hu hw. alike_same _ _ k u w (same u) (same w)) (rw size at s)
+
 -- by strips: user sets by all object sets, object sets by the lowest user set of each label
 module _ {p : Policy} {view : View} (v : ViewOf p view) where
   entries-tell : (u w : ℕ) → u < view.rows → w < view.rows
@@ -93,19 +106,19 @@ module _ {p : Policy} {view : View} (v : ViewOf p view) where
       leaders_enough (λ u x. entry_of p (at u x)) view.rows view.columns rows o q ho hq
       ∙ columns_alike (λ x u. entry_of p (at u x)) (grants p) (actions p.form) view.rows view.columns (λ x u hx hu. refl) o q ho hq) s)
 
-module _ {p : Policy} {uls ufs ols ofs : List ℕ} {n : Counts} (L : LabelsOf p uls ufs ols ofs n) where
+module _ {p : Policy} {users objects : Classes} (L : LabelsOf p users objects) where
   -- how many there are
-  pub counts-are : (n.users ≡ NU p) × (n.objects ≡ NO p)
+  pub counts-are : (users.count ≡ NU p) × (objects.count ≡ NO p)
   unfolding NU NO
   counts-are = (L.users.counted, L.objects.counted)
 
   -- and that they are few
-  module _ {view : View} (v : ViewOf p view) where
-    pub users-few : n.users ≤ most_sets
-    users-few = omega (arith, labelled-few L.users, v.users, v.few-users)
+  module _ {a : Attributes} (x : AttributesOf p a) where
+    pub users-few : users.count ≤ most_sets
+    users-few = le_trans (labelled-few L.users) (pow_mono x.user.most)
 
-    pub objects-few : n.objects ≤ most_sets
-    objects-few = omega (arith, labelled-few L.objects, v.objects, v.few-objects)
+    pub objects-few : objects.count ≤ most_sets
+    objects-few = le_trans (labelled-few L.objects) (pow_mono x.object.most)
 
 -- ---- the widths
 
@@ -137,23 +150,8 @@ abbrev short : List ℕ → List ℕ → Bool
 short buffer result = ltb (length buffer) (length result)
 
 module _ (p : Policy) (b : Buffers) where
-  pub users-short : length b.users < sets p.user → too_short p b ≡ true
-  users-short h = rw (lt-ltb (length b.users) (length (user_result p)) (rw (length-user_result p) h))
-
-  pub objects-short : length b.objects < sets p.object → too_short p b ≡ true
-  objects-short h =
-      or_right (short b.users (user_result p)) (short b.objects (object_result p) || short b.table (table_result p))
-      (rw (lt-ltb (length b.objects) (length (object_result p)) (rw (length-object_result p) h)))
-
-  -- where the labels have room, the table tells
-  pub table-short : sets p.user ≤ length b.users → sets p.object ≤ length b.objects
-      → ltb (length b.table) (NU p * NO p) ≡ too_short p b
-  table-short hu ho =
-      rw (
-        le-ltb (length b.users) (length (user_result p)) (rw (length-user_result p) hu),
-        le-ltb (length b.objects) (length (object_result p)) (rw (length-object_result p) ho),
-        length-table_result p,
-      )
+  pub too_short-by_length : too_short p b ≡ (ltb (length b.users) (sets p.user) || (ltb (length b.objects) (sets p.object) || ltb (length b.table) (NU p * NO p)))
+  too_short-by_length = rw (length-user_result p, length-object_result p, length-table_result p) refl
 
   pub none-short : too_short p b ≡ false
       → (sets p.user ≤ length b.users) × (sets p.object ≤ length b.objects) × (NU p * NO p ≤ length b.table)
@@ -167,57 +165,58 @@ module _ (p : Policy) (b : Buffers) where
 
 -- a refusal changes nothing
 module _ (v : PolicyValue) (w : Widths) (us os ts : List ℕ) where
-  refused-11 : fits_widths v (lent w us os ts) ≡ false → Compiles v (lent w us os ts) (Refused InvalidState) (lent w us os ts)
+  refused-11 : fits_widths v (lent w us os ts) ≡ false → Compiles v (lent w us os ts) (Err InvalidState) (lent w us os ts)
   unfolding compile compile_buffers first_broken
   refused-11 e = record { answer = rw e; buffers = rw e }
 
-  pub refused-value : valid v ≡ false → Compiles v (lent w us os ts) (Refused InvalidState) (lent w us os ts)
+  pub refused-value : valid v ≡ false → Compiles v (lent w us os ts) (Err InvalidState) (lent w us os ts)
   refused-value e = refused-11 (rw e)
 
   -- whatever the value
-  pub refused-widths : own_widths v.form w ≡ false → Compiles v (lent w us os ts) (Refused InvalidState) (lent w us os ts)
+  pub refused-widths : own_widths v.form w ≡ false → Compiles v (lent w us os ts) (Err InvalidState) (lent w us os ts)
   refused-widths e = refused-11 (rw (e, and-false))
 
 module _ (v : PolicyValue) (w : Widths) (ok : valid v ≡ true) (own : own_widths v.form w ≡ true) (us os ts : List ℕ) where
-  pub refused-short : too_short (policy_of v) (lent w us os ts) ≡ true → Compiles v (lent w us os ts) (Refused BufferTooShort) (lent w us os ts)
+  pub refused-short : too_short (policy_of v) (lent w us os ts) ≡ true → Compiles v (lent w us os ts) (Err BufferTooShort) (lent w us os ts)
   unfolding compile compile_buffers first_broken
   refused-short e = record { answer = rw (ok, own, e); buffers = rw (ok, own, e) }
 
   stored-long : (c : Counts) (us' os' ts' : List ℕ) → too_short (policy_of v) (lent w us os ts) ≡ false
       → c.users ≡ NU (policy_of v) → c.objects ≡ NO (policy_of v)
       → us' ≡ over (user_result (policy_of v)) us → os' ≡ over (object_result (policy_of v)) os → ts' ≡ over (table_result (policy_of v)) ts
-      → Compiles v (lent w us os ts) (Stored c) (lent w us' os' ts')
+      → Compiles v (lent w us os ts) (Ok c) (lent w us' os' ts')
   unfolding compile compile_buffers first_broken
   stored-long c us' os' ts' e a b qu qo qt = record { answer = rw (ok, own, e, ← a, ← b); buffers = rw (ok, own, e, qu, qo, qt) }
 
 -- NU and NO alone
-pub used-refused : (v : PolicyValue) → valid v ≡ false → stored (Refused InvalidState) ≡ used v
+pub used-refused : (v : PolicyValue) → valid v ≡ false → answer_of {A = Counts} (Err InvalidState) ≡ used v
 unfolding used first_broken
 used-refused v e = rw e
 
-pub used-stored : (v : PolicyValue) → valid v ≡ true → (c : Counts) → c ≡ counts (policy_of v) → stored (Stored c) ≡ used v
+pub used-stored : (v : PolicyValue) → valid v ≡ true → (c : Counts) → c ≡ counts (policy_of v) → answer_of (Ok c) ≡ used v
 unfolding used first_broken
 used-stored v e c q = rw (e, q)
 
 -- ---- once both sides are labelled
 
 module _ (v : PolicyValue) (w : Widths) (ok : valid v ≡ true) (own : own_widths v.form w ≡ true) (us os ts : List ℕ) {view : View} (W : ViewOf (policy_of v) view)
-    {uls ufs ols ofs : List ℕ} {n : Counts} (L : LabelsOf (policy_of v) uls ufs ols ofs n) where
+    {users objects : Classes} (L : LabelsOf (policy_of v) users objects) where
   -- the entry of two labels is that of their leaders
-  leaders_entry : (ul ol : ℕ) → ul < n.users → ol < n.objects → entry_of (policy_of v) (at (get_or ufs ul 0) (get_or ofs ol 0)) ≡ entry (policy_of v) ul ol
+  leaders_entry : (ul ol : ℕ) → ul < users.count → ol < objects.count
+      → entry_of (policy_of v) (at (get_or users.leaders ul 0) (get_or objects.leaders ol 0)) ≡ entry (policy_of v) ul ol
   unfolding entry
   leaders_entry ul ol hu ho = rw (L.users.leaders_are ul hu, L.objects.leaders_are ol ho)
 
   -- what three writers leave that put the labels and the table there
-  pub stored-all : (us' os' ts' : List ℕ) → too_short (policy_of v) (lent w us os ts) ≡ false
-      → Puts uls view.rows us us' → Puts ols view.columns os os'
-      → ((f : ℕ → ℕ → ℕ) → ((ul ol : ℕ) → ul < n.users → ol < n.objects → entry_of (policy_of v) (at (get_or ufs ul 0) (get_or ofs ol 0)) ≡ f ul ol)
-      → ts' ≡ over (up_to (λ i. f (i / n.objects) (i % n.objects)) (n.users * n.objects)) ts)
-      → Compiles v (lent w us os ts) (Stored n) (lent w us' os' ts')
+  pub stored-all : (n : Counts) → (n.users ≡ users.count) × (n.objects ≡ objects.count) → (us' os' ts' : List ℕ) → too_short (policy_of v) (lent w us os ts) ≡ false
+      → Puts users.labels view.rows us us' → Puts objects.labels view.columns os os'
+      → ((f : ℕ → ℕ → ℕ) → ((ul ol : ℕ) → ul < users.count → ol < objects.count → entry_of (policy_of v) (at (get_or users.leaders ul 0) (get_or objects.leaders ol 0)) ≡ f ul ol)
+      → ts' ≡ over (up_to (λ i. f (i / objects.count) (i % objects.count)) (users.count * objects.count)) ts)
+      → Compiles v (lent w us os ts) (Ok n) (lent w us' os' ts')
   unfolding user_result object_result table_result
-  stored-all us' os' ts' e wu wo wt =
+  stored-all n q us' os' ts' e wu wo wt =
       let m = counts-are L in
-      stored-long v w ok own us os ts n us' os' ts' e m.0 m.1
+      stored-long v w ok own us os ts n us' os' ts' e (q.0 ∙ m.0) (q.1 ∙ m.1)
       (wu (user_label (policy_of v)) (rw W.users L.users.labels_are) ∙ rw W.users)
       (wo (object_label (policy_of v)) (rw W.objects L.objects.labels_are) ∙ rw W.objects)
       (wt (entry (policy_of v)) leaders_entry ∙ rw (m.0, m.1))

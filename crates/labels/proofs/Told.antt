@@ -1,9 +1,9 @@
 -- Apart, answer by answer: which tests of 11 and 19 come out how, and what two rows tell.
+use Rattle.std.specs.Prelude.{None, Some}
 use Prim.Native.Nat.{ℕ, ◌≤◌, ◌<◌}
 use mathlib.Core.Path.{◌≡◌, sym, ◌∙◌}
 use mathlib.Core.Bool.{true, false}
 use mathlib.Core.List.{List}
-use mathlib.Core.Option.{none, some}
 use native.Mathlib.Omega.{arith}
 use lib.Dec.{leb}
 use lib.ListN.{get_or}
@@ -25,21 +25,21 @@ use Rattle.labels.proofs.Entries.{entries-alike, entries-separate}
 -- ---- refusals
 
 module _ (v : PolicyValue) (u w : ℕ) where
-  pub refused-value : valid v ≡ false → apart_refusal v u w ≡ some 11
+  pub refused-value : valid v ≡ false → apart_refusal v u w ≡ Some 11
   unfolding first_broken
   refused-value e = rw e
 
   module _ (e : valid v ≡ true) where
-    pub refused-first : sets (policy_of v).user ≤ u → apart_refusal v u w ≡ some 19
+    pub refused-first : sets (policy_of v).user ≤ u → apart_refusal v u w ≡ Some 19
     unfolding first_broken
     refused-first h = rw (e, le-leb (sets (policy_of v).user) u h)
 
-    pub refused-second : sets (policy_of v).user ≤ w → apart_refusal v u w ≡ some 19
+    pub refused-second : sets (policy_of v).user ≤ w → apart_refusal v u w ≡ Some 19
     unfolding first_broken
     refused-second h =
         rw (e, or_right (leb (sets (policy_of v).user) u) (leb (sets (policy_of v).user) w) (le-leb (sets (policy_of v).user) w h))
 
-    pub not-refused : u < sets (policy_of v).user → w < sets (policy_of v).user → apart_refusal v u w ≡ none
+    pub not-refused : u < sets (policy_of v).user → w < sets (policy_of v).user → apart_refusal v u w ≡ None
     unfolding first_broken
     not-refused a b = rw (e, lt-leb (sets (policy_of v).user) u a, lt-leb (sets (policy_of v).user) w b)
 

@@ -1,7 +1,6 @@
 -- "Apart (11, 19): for two user sets, either 'alike' or some action and object set that tells them apart; which one is
 -- free."
-use Rattle.std.specs.Prelude.{ℕ, ◌<◌, ◌≡◌, true, false, not, ◌||◌, List, [], ◌∷◌, leb}
-use Rattle.std.proofs.Math.Option.{Option, none, some}
+use Rattle.std.specs.Prelude.{ℕ, ◌<◌, ◌≡◌, true, false, not, ◌||◌, List, [], ◌∷◌, leb, Option, None, Some, Result, Ok, Err}
 use Rattle.basis.specs.Choice.{Check, check, first_broken}
 use Rattle.basis.specs.Numbers.{agree}
 use Rattle.policy.specs.Limits.{actions}
@@ -10,10 +9,10 @@ use Rattle.policy.specs.Value.{policy_of}
 use Rattle.policy.specs.Valid.{valid}
 use Rattle.policy.specs.Answers.{number_of}
 use Rattle.policy.specs.declared.value.PolicyValue.{PolicyValue}
+use Rattle.policy.specs.declared.refusal.Refusal.{Refusal}
 use Rattle.formula.specs.Truth.{at, grants}
 use Rattle.labels.specs.Compile.{like_users}
-use Rattle.labels.specs.declared.Apartness.{Apartness}
-use Rattle.labels.specs.declared.Apartness.TheVariants.{Alike, Apart, Refused}
+use Rattle.labels.specs.declared.Witness.{Witness}
 
 -- the action is granted to one of the two user sets and denied to the other, on the object set
 pub record Separates (p : Policy) (u v a o : ℕ) : Type 0 where
@@ -29,8 +28,9 @@ apart_checks value u v =
 abbrev pub apart_refusal : PolicyValue → ℕ → ℕ → Option ℕ
 apart_refusal value u v = first_broken (apart_checks value u v)
 
--- what each answer says: a refusal is the lowest that applies, 'alike' is true, and a witness truly separates
-abbrev pub Tells : PolicyValue → ℕ → ℕ → Apartness → Type 0
-Tells value u v (Refused r) = apart_refusal value u v ≡ some (number_of r)
-Tells value u v Alike = (apart_refusal value u v ≡ none) × (like_users (policy_of value) u v ≡ true)
-Tells value u v (Apart w) = (apart_refusal value u v ≡ none) × Separates (policy_of value) u v w.action w.object
+-- what each answer says: a refusal is the lowest that applies, no witness is 'alike' and is true, and a witness truly
+-- separates
+abbrev pub Tells : PolicyValue → ℕ → ℕ → Result (Option Witness) Refusal → Type 0
+Tells value u v (Err r) = apart_refusal value u v ≡ Some (number_of r)
+Tells value u v (Ok None) = (apart_refusal value u v ≡ None) × (like_users (policy_of value) u v ≡ true)
+Tells value u v (Ok (Some w)) = (apart_refusal value u v ≡ None) × Separates (policy_of value) u v w.action w.object

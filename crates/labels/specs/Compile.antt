@@ -1,8 +1,8 @@
 -- Compiling: "three byte buffers: 2^U user labels, 2^O object labels, and a table of NU × NO bytes"; in later forms the
 -- buffers have other widths. Over the widths of a label and of an entry, whatever they are, and over the number of
 -- actions of the form.
-use Rattle.std.specs.Prelude.{ℕ, ◌+◌, ◌*◌, ◌/◌, ◌%◌, ◌≡◌, Bool, not, ◌&&◌, ◌||◌, List, [], ◌∷◌, ltb, length, get_or}
-use Rattle.basis.specs.Choice.{given, Result, gives, refuses, Check, check, first_broken, unless_refused}
+use Rattle.std.specs.Prelude.{ℕ, ◌+◌, ◌*◌, ◌/◌, ◌%◌, ◌≡◌, Bool, not, ◌&&◌, ◌||◌, List, [], ◌∷◌, ltb, length, get_or, Result}
+use Rattle.basis.specs.Choice.{given, Check, check, first_broken, unless_refused}
 use Rattle.basis.specs.Lists.{over}
 use Rattle.basis.specs.Numbers.{up_to}
 use Rattle.sets.specs.Set.{has, set_of}
@@ -10,15 +10,14 @@ use Rattle.policy.specs.Limits.{actions, own_widths}
 use Rattle.policy.specs.Policy.{Policy, sets}
 use Rattle.policy.specs.Value.{policy_of}
 use Rattle.policy.specs.Valid.{valid}
-use Rattle.policy.specs.Answers.{number_of}
+use Rattle.policy.specs.Answers.{answer_of}
 use Rattle.policy.specs.declared.limits.Widths.{Widths}
 use Rattle.policy.specs.declared.value.PolicyValue.{PolicyValue}
+use Rattle.policy.specs.declared.refusal.Refusal.{Refusal}
 use Rattle.formula.specs.Truth.{Sets, at, grants}
 use Rattle.labels.specs.Labels.{label, label_count, leader}
 use Rattle.labels.specs.Labelling.{users_alike, objects_alike, Labelling}
 use Rattle.labels.specs.declared.Counts.{Counts}
-use Rattle.labels.specs.declared.Compiled.{Compiled}
-use Rattle.labels.specs.declared.Compiled.TheVariants.{Stored, Refused}
 
 -- the sets of a policy's sides that no formula and no pair parts
 unfoldable pub like_users : Policy → ℕ → ℕ → Bool
@@ -97,16 +96,11 @@ fits_widths v b = valid v && own_widths v.form b.widths
 abbrev pub compile_checks : PolicyValue → Buffers → List Check
 compile_checks v b = check 11 (not (fits_widths v b)) ∷ check 20 (too_short (policy_of v) b) ∷ []
 
--- what the code's answer stands for
-abbrev pub stored : Compiled → Result Counts
-stored (Stored c) = gives c
-stored (Refused r) = refuses (number_of r)
-
-unfoldable pub compile : PolicyValue → Buffers → Result Counts
+unfoldable pub compile : PolicyValue → Buffers → Result Counts ℕ
 compile v b = unless_refused (compile_checks v b) (counts (policy_of v))
 
 -- NU and NO alone, without a buffer (refusal 11)
-unfoldable pub used : PolicyValue → Result Counts
+unfoldable pub used : PolicyValue → Result Counts ℕ
 used v = unless_refused (check 11 (not (valid v)) ∷ []) (counts (policy_of v))
 
 -- "what lies past a result in a longer buffer stays"
@@ -119,6 +113,6 @@ unfoldable pub compile_buffers : PolicyValue → Buffers → Buffers
 compile_buffers v b = given (first_broken (compile_checks v b)) (filled (policy_of v) b) (λ n. b)
 
 -- what a call answers and leaves in the buffers
-pub record Compiles (v : PolicyValue) (before : Buffers) (r : Compiled) (after : Buffers) : Type 0 where
-  pub answer : stored r ≡ compile v before
+pub record Compiles (v : PolicyValue) (before : Buffers) (r : Result Counts Refusal) (after : Buffers) : Type 0 where
+  pub answer : answer_of r ≡ compile v before
   pub buffers : after ≡ compile_buffers v before

@@ -2,4 +2,3 @@
 pub mod Rows
 pub mod Grid
 pub mod Labels
-pub mod Lending

@@ -1,12 +1,11 @@
 // A grid: rows one after the other, as many entries as are kept at once.
-ghost use Rattle.std.specs.Prelude.{ℕ, ◌+◌, ◌*◌, ◌≤◌, ◌<◌, min, ◌≡◌, not, leb, length, get_or};
+ghost use Rattle.std.specs.Prelude.{ℕ, ◌+◌, ◌*◌, ◌≤◌, ◌<◌, ◌≡◌, not, leb, length, get_or};
 ghost use Rattle.policy.specs.Limits.{most_sets};
 ghost use Rattle.policy.specs.Policy.{Policy, sets};
 ghost use Rattle.formula.specs.Inner.Lane.{AttributesOf, side_at};
 ghost use Rattle.labels.specs.Inner.Rows.{RowsOf, entry_in};
 ghost use Rattle.labels.specs.Inner.Grid.{grid_places, cell, turned_view, ViewOf, Inside};
 
-use crate::rows;
 use crate::rows::Rows;
 use formula::attributes;
 use formula::attributes::Attributes;
@@ -25,48 +24,48 @@ pub struct View {
     pub along: usize,
 }
 
-// The view of all entries from the user side, in rows of user sets.
-pub fn view_of(sides: Attributes) -> View
-    requires { (p : Policy) × AttributesOf p sides }
-    ensures { (p : Policy) → AttributesOf p sides → ViewOf p result }
-{
-    let user_starts = sides.user;
-    let object_starts = sides.object;
-    let rows = attributes::sets(user_starts) as usize;
-    let columns = attributes::sets(object_starts) as usize;
-    View {
-        rows,
-        columns,
-        down: columns,
-        along: 1,
+impl View {
+    // The view of all entries from the user side, in rows of user sets.
+    pub fn of(sides: &Attributes) -> View
+        requires { (p : Policy) × AttributesOf p sides.now }
+        ensures { (p : Policy) → AttributesOf p sides.now → ViewOf p result }
+    {
+        let columns = attributes::sets(sides.object) as usize;
+        View {
+            rows: attributes::sets(sides.user) as usize,
+            columns,
+            down: columns,
+            along: 1,
+        }
     }
-}
 
-// The same grid as seen from the other side.
-pub fn turned(view: View) -> View
-    ensures { result ≡ turned_view view }
-{
-    View {
-        rows: view.columns,
-        columns: view.rows,
-        down: view.along,
-        along: view.down,
+    // The same grid as seen from the other side.
+    pub fn turned(self) -> View
+        ensures { result ≡ turned_view self }
+    {
+        View {
+            rows: self.columns,
+            columns: self.rows,
+            down: self.along,
+            along: self.down,
+        }
     }
-}
 
-// Whether a grid has room for so many rows and columns.
-pub fn holds(view: View) -> bool
-    requires { (view.rows ≤ most_sets) × (view.columns ≤ most_sets) }
-    ensures { result ≡ leb (view.rows * view.columns) grid_places }
-{
-    view.rows * view.columns <= PLACES
-}
+    // Whether a grid has room for all rows and columns.
+    pub fn has_room(self) -> bool
+        requires { (self.rows ≤ most_sets) × (self.columns ≤ most_sets) }
+        ensures { result ≡ leb (self.rows * self.columns) grid_places }
+    {
+        self.rows * self.columns <= PLACES
+    }
 
-// The lesser of two numbers.
-pub fn least(a: usize, b: usize) -> usize
-    ensures { result ≡ min a b }
-{
-    if a < b { a } else { b }
+    // The entry in row u and column o.
+    pub fn entry(self, grid: &[u16; PLACES], u: usize, o: usize) -> u16
+        requires { Inside self × (u < self.rows) × (o < self.columns) }
+        ensures { result ≡ cell grid.now self u o }
+    {
+        grid[u * self.down + o * self.along]
+    }
 }
 
 // The first n sets, in order.
@@ -81,40 +80,23 @@ pub fn every(n: usize) -> [u16; MOST_SETS]
     r
 }
 
-// Fills a grid, which the caller owns because it is large, with the rows of `count` of the chosen sets, those from
-// `start` on, at the n sets of the other side.
-pub fn fill(
-    grid: &mut [u16; PLACES],
-    from: Rows,
-    chosen: &[u16; MOST_SETS],
-    start: usize,
-    count: usize,
-    n: usize,
-)
-    requires { ((p : Policy) × RowsOf p from × (n ≤ sets (side_at (not from.user) p))) × (length grid.old ≡ grid_places) × (n ≤ most_sets) × (count * n ≤ grid_places) × (start + count ≤ most_sets) × ((i : ℕ) → i < start + count → get_or chosen.now i 0 < most_sets) }
-    ensures { (length grid.new ≡ grid_places) × ((p : Policy) → RowsOf p from → n ≤ sets (side_at (not from.user) p) → (i o : ℕ) → i < count → o < n → get_or grid.new (i * n + o) 0 ≡ entry_in p from.user chosen.now o (start + i)) }
+// Puts entries one after the other from a place on.
+pub fn put(places: &mut [u16], start: usize, entries: &[u16])
+    requires { start + length entries.now ≤ length places.old }
+    ensures { (length places.new ≡ length places.old) × ((f : ℕ → ℕ) → ((i : ℕ) → i < start → get_or places.old i 0 ≡ f i) → ((k : ℕ) → k < length entries.now → get_or entries.now k 0 ≡ f (start + k)) → (i : ℕ) → i < start + length entries.now → get_or places.new i 0 ≡ f i) }
+{
+    places[start..start + entries.len()].copy_from_slice(entries);
+}
+
+// Fills a grid, which the caller owns because it is large, with the rows of the chosen sets at the n sets of the other
+// side.
+pub fn fill(grid: &mut [u16; PLACES], from: &Rows, chosen: &[u16], n: usize)
+    requires { ((p : Policy) × RowsOf p from.now × (n ≤ sets (side_at (not from.now.user) p))) × (n ≤ most_sets) × (length chosen.now * n ≤ grid_places) × ((i : ℕ) → i < length chosen.now → get_or chosen.now i 0 < most_sets) }
+    ensures { (p : Policy) → RowsOf p from.now → n ≤ sets (side_at (not from.now.user) p) → (i o : ℕ) → i < length chosen.now → o < n → get_or grid.new (i * n + o) 0 ≡ entry_in p from.now.user chosen.now o i }
 {
     let mut row = [0u16; MOST_SETS];
-    for i in 0..count {
-        rows::put(&mut row, from, chosen[start + i] as u32, n);
-        for o in 0..n {
-            grid[i * n + o] = row[o];
-        }
+    for (i, s) in chosen.iter().enumerate() {
+        from.put_row(&mut row, *s as u32, n);
+        put(grid, i * n, &row[..n]);
     }
-}
-
-// A set that is kept in 16 bits.
-pub fn wide(x: u16) -> usize
-    ensures { (result ≡ x) × (result < 65536) }
-{
-    x as usize
-}
-
-// The entry in row u and column o.
-pub fn entry(grid: &[u16; PLACES], view: View, u: usize, o: usize) -> u16
-    requires { Inside view × (u < view.rows) × (o < view.columns) }
-    ensures { result ≡ cell grid.now view u o }
-{
-    let i = u * view.down + o * view.along;
-    grid[i]
 }

@@ -6,43 +6,29 @@ ghost use Rattle.policy.specs.Policy.{Policy, sets};
 ghost use Rattle.formula.specs.Inner.Lane.{side_at};
 ghost use Rattle.labels.specs.Rows.{rows_alike};
 ghost use Rattle.labels.specs.Inner.Rows.{RowsOf, entry_in};
-ghost use Rattle.labels.specs.Inner.Grid.{grid_places, Labelled};
+ghost use Rattle.labels.specs.Inner.Labels.{IsAlike, LabelledIn};
 
-use crate::classify::classify;
+use crate::classify::Classes;
+use crate::grid;
 use crate::grid::{PLACES, View};
 use crate::rows::Rows;
-use crate::{classify, grid};
-use policy::limits::MOST_SETS;
 
-// Puts the labels of n sets and the lowest set of each label, by the rows of the first k of the chosen sets of the other
-// side. Says how many labels there are.
-pub fn classes(
-    grid: &mut [u16; PLACES],
-    from: Rows,
-    chosen: &[u16; MOST_SETS],
-    k: usize,
-    n: usize,
-    labels: &mut [u16; MOST_SETS],
-    leaders: &mut [u16; MOST_SETS],
-) -> usize
-    requires { ((p : Policy) × RowsOf p from × (n ≡ sets (side_at (not from.user) p))) × (length grid.old ≡ grid_places) × (0 < n) × (n ≤ most_sets) × (k ≤ most_sets) × ((i : ℕ) → i < k → get_or chosen.now i 0 < most_sets) }
-    ensures { (length grid.new ≡ grid_places) × ((p : Policy) → RowsOf p from → n ≡ sets (side_at (not from.user) p) → Labelled (rows_alike (entry_in p from.user chosen.now) k) n labels.new leaders.new result) }
+// Parts the labels of n sets, which are one so far, by the rows of the chosen sets of the other side.
+pub fn part(classes: &mut Classes, grid: &mut [u16; PLACES], from: &Rows, chosen: &[u16], n: usize)
+    requires { ((p : Policy) × RowsOf p from.now × (n ≡ sets (side_at (not from.now.user) p))) × (0 < n) × (n ≤ most_sets) × (length chosen.now ≤ most_sets) × ((i : ℕ) → i < length chosen.now → get_or chosen.now i 0 < most_sets) × IsAlike classes.old }
+    ensures { (p : Policy) → RowsOf p from.now → n ≡ sets (side_at (not from.now.user) p) → LabelledIn (rows_alike (entry_in p from.now.user chosen.now) (length chosen.now)) n classes.new }
 {
     let most = PLACES / n;
-    let mut count = classify::alike(labels, leaders);
-    let mut start: usize = 0;
-    while start < k {
-        let columns = grid::least(most, k - start);
-        grid::fill(grid, from, chosen, start, columns, n);
+    for q in 0..chosen.len().div_ceil(most) {
+        let start = q * most;
+        let columns = most.min(chosen.len() - start);
+        grid::fill(grid, from, &chosen[start..start + columns], n);
         let view = View {
             rows: n,
             columns,
             down: 1,
             along: n,
         };
-        let before = *labels;
-        count = classify(grid, view, &before, labels, leaders);
-        start += columns;
+        classes.part(grid, view);
     }
-    count
 }

@@ -1,11 +1,12 @@
 -- A rule line: its fields behind the action as words, one after the other, and one law for each answer about the rule.
+use Rattle.std.specs.Prelude.{Option, Some, None, Result, Ok, Err}
 use Prim.Native.Nat.{ℕ, ◌+◌, ◌≤◌, ◌<◌}
 use mathlib.Core.Path.{◌≡◌, refl, sym, ap, ◌∙◌}
 use mathlib.Core.Bool.{Bool, true, false, cond, not}
 use mathlib.Core.List.{List, [], ◌∷◌, ◌++◌, map, append_assoc}
 use native.Mathlib.Omega.{arith}
 use borrow.Author.Tests.{lt-ltb, le-ltb, lt-leb, le-leb, leb-true, ltb-true}
-use lib.Dec.{leb}
+use lib.Dec.{leb, ltb}
 use lib.ListN.{length, drop, set, length-append, length-map, length-drop}
 use Rattle.basis.specs.Choice.{check, first_broken}
 use Rattle.basis.specs.Lists.{all, padded}
@@ -19,8 +20,6 @@ use Rattle.text.proofs.Split.{split-pos}
 use Rattle.words.specs.Inner.{in_digits}
 use Rattle.words.specs.Word.{parsed, word_in, word_number}
 use Rattle.words.specs.declared.Word.{Word}
-use Rattle.words.specs.declared.Parsed.{Parsed}
-use Rattle.words.specs.declared.Parsed.TheVariants.{Is as IsWord, Malformed}
 use Rattle.words.proofs.RoundTrip.{written-parsed}
 use Rattle.policy.specs.Limits.{actions, most_words}
 use Rattle.policy.specs.Policy.{Rule}
@@ -32,11 +31,8 @@ use Rattle.policy.specs.declared.refusal.Refusal.TheVariants.{MalformedField, Ou
 use Rattle.policy.specs.declared.value.RuleValue.{RuleValue}
 use Rattle.policy.proofs.Values.{rule_value_lem}
 use Rattle.line.specs.Inner.Head.{between}
-use Rattle.line.specs.Inner.Rule.{are_words, rule_from, held_rule, faulty_rule, rule_in, formula_fault, rule_fault, or_else, admitted_rule, number_in}
-use Rattle.line.specs.declared.rule.Fault.{Fault}
-use Rattle.line.specs.declared.rule.Fault.TheVariants.{None, Is}
-use Rattle.line.specs.declared.rule.RuleLine.{RuleLine}
-use Rattle.line.proofs.Fields.{last-field, next_field, some-field, comma-there}
+use Rattle.line.specs.Inner.Rule.{are_words, rule_from, rule_in, formula_tested, rule_tested, tested, admitted_rule, number_in}
+use Rattle.line.proofs.Fields.{last-field, next_field, some-field, ok-err, ok-same, comma-there}
 
 -- ---- the fields behind the action
 
@@ -67,13 +63,13 @@ abbrev words_of : List (List ℕ) → List Word
 words_of fs = map (λ f. word_in (parsed f)) fs
 
 -- what is parsed is in digits
-pub word_digits : (f : List ℕ) (x : Parsed) → x ≡ parsed f → (w : Word) → x ≡ IsWord w → in_digits w ≡ true
+pub word_digits : (f : List ℕ) (x : Option Word) → x ≡ parsed f → (w : Word) → x ≡ Some w → in_digits w ≡ true
 word_digits f x p w h = (written-parsed f w (sym p ∙ h)).digits
 
-field-digits : (f : List ℕ) (x : Parsed) → x ≡ parsed f → in_digits (word_in x) ≡ true
+field-digits : (f : List ℕ) (x : Option Word) → x ≡ parsed f → in_digits (word_in x) ≡ true
 unfolding in_digits
-field-digits f (IsWord w) p = word_digits f (IsWord w) p w refl
-field-digits f Malformed p = refl
+field-digits f (Some w) p = word_digits f (Some w) p w refl
+field-digits f None p = refl
 
 words-digits : (fs : List (List ℕ)) → all in_digits (words_of fs) ≡ true
 unfolding all
@@ -100,13 +96,13 @@ module _ {l : List ℕ} {from : ℕ} {numbers : List ℕ} {n at : ℕ} (s : Sofa
       let e : length (words_of (fields (drop from l))) ≡ length d + length (words_of fs) = ap length s.words ∙ length-append d (words_of fs) in
       omega (arith, length-map (fields (drop from l)) (λ f. word_in (parsed f)), length-map fs (λ f. word_in (parsed f)), split-pos comma (drop at l), s.count)
 
-  module _ (e : ℕ) (f : Found l at comma e) (x : Parsed) (p : x ≡ parsed (between l at e)) where
+  module _ (e : ℕ) (f : Found l at comma e) (x : Option Word) (p : x ≡ parsed (between l at e)) where
     -- the next field is no word
-    pub stops : x ≡ Malformed → (a : ℕ) (r : RuleLine) → r ≡ faulty_rule MalformedField → r ≡ rule_in a (fields (drop from l))
+    pub stops : x ≡ None → (a : ℕ) → Err MalformedField ≡ rule_in a (fields (drop from l))
     unfolding rule_in all
-    stops h a r q = rw (s.are, (some-field l at e f).1, sym p ∙ h) q
+    stops h a = rw (s.are, (some-field l at e f).1, sym p ∙ h)
 
-    module _ (w : Word) (h : x ≡ IsWord w) (v : ℕ) (g : v ≡ word_number w) (k : n < word_places) where
+    module _ (w : Word) (h : x ≡ Some w) (v : ℕ) (g : v ≡ word_number w) (k : n < word_places) where
       stored_more : set numbers n v ≡ padded word_places 0 (map word_number (s.done ++ (w ∷ [])))
       stored_more =
           let m : length s.done < word_places = omega (arith, s.count) in
@@ -128,8 +124,7 @@ module _ {l : List ℕ} {from : ℕ} {numbers : List ℕ} {n at : ℕ} (s : Sofa
 
       -- and the last
       pub ends : e ≡ length l → (a : ℕ)
-          → record { fault = None; rule = record { action = a; count = n + 1; words = set numbers n v } }
-          ≡ rule_in a (fields (drop from l))
+          → Ok (record { action = a; count = n + 1; words = set numbers n v }) ≡ rule_in a (fields (drop from l))
       unfolding rule_in rule_value all
       ends z a =
           let q = last-field l at e f z in
@@ -147,122 +142,137 @@ module _ (y : RuleValue) (form : ℕ) (s : Sizes) where
     unfolding in_range rule_of
     range-words h r f = f ∙ (rw (lt-ltb y.action (actions form) (omega arith)))
 
-    pub range-action : most ≤ y.action → false ≡ in_range RuleKind form s (one_number y.action) (rule_of y).words
+    pub range-action : most ≤ y.action → ltb y.action most ≡ in_range RuleKind form s (one_number y.action) (rule_of y).words
     unfolding in_range
-    range-action h = rw (le-ltb y.action (actions form) (omega arith))
+    range-action h = le-ltb y.action most h ∙ (rw (le-ltb y.action (actions form) (omega arith)))
 
   -- refusals 8 and 9
   module _ (a : Bool) (f : a ≡ all (widths_equal s) (words_in y.count y.words)) where
-    pub formula-unequal : a ≡ false → Is UnequalWidths ≡ formula_fault s (rule_of y)
+    pub formula-unequal : a ≡ false → Err UnequalWidths ≡ formula_tested s (rule_of y)
     unfolding rule_of
     formula-unequal h = rw (sym f ∙ h)
 
     module _ (h : a ≡ true) (b : Bool) (g : b ≡ balanced 0 (words_in y.count y.words)) where
-      pub formula-fine : b ≡ true → None ≡ formula_fault s (rule_of y)
+      pub formula-fine : b ≡ true → Ok tt ≡ formula_tested s (rule_of y)
       unfolding rule_of
       formula-fine k = rw (sym f ∙ h, sym g ∙ k)
 
-      pub formula-unbalanced : b ≡ false → Is UnbalancedFormula ≡ formula_fault s (rule_of y)
+      pub formula-unbalanced : b ≡ false → Err UnbalancedFormula ≡ formula_tested s (rule_of y)
       unfolding rule_of
       formula-unbalanced k = rw (sym f ∙ h, sym g ∙ k)
 
   -- refusals 6 to 9 in their order
   module _ (least : ℕ) (r : Bool) (f : r ≡ in_range RuleKind form s (one_number y.action) (rule_of y).words) where
-    pub rule-range : r ≡ false → Is OutOfRange ≡ rule_fault least form s (rule_of y)
-    unfolding rule_fault rule_of
+    pub rule-range : r ≡ false → Err OutOfRange ≡ rule_tested least form s (rule_of y)
+    unfolding rule_tested rule_of
     rule-range h = rw (sym f ∙ h)
 
     module _ (h : r ≡ true) where
-      pub rule-level : y.action < least → Is NotRising ≡ rule_fault least form s (rule_of y)
-      unfolding rule_fault rule_of
+      pub rule-level : y.action < least → Err NotRising ≡ rule_tested least form s (rule_of y)
+      unfolding rule_tested rule_of
       rule-level k = rw (sym f ∙ h, lt-leb least y.action k)
 
-      pub rule-formula : least ≤ y.action → (z : Fault) → z ≡ formula_fault s (rule_of y) → z ≡ rule_fault least form s (rule_of y)
-      unfolding rule_fault rule_of
+      pub rule-formula : least ≤ y.action → (z : Result (Unit {0}) Refusal) → z ≡ formula_tested s (rule_of y) → z ≡ rule_tested least form s (rule_of y)
+      unfolding rule_tested rule_of
       rule-formula k z q = rw (sym f ∙ h, le-leb least y.action k) q
 
 -- ---- the rule of a line
 
-held-only : (b : Bool) (x : Rule) (z : RuleLine) → z ≡ cond b (held_rule x) (faulty_rule MalformedField) → z.fault ≡ None → z.rule ≡ rule_value x
-held-only true x z e h = ap (λ (y : RuleLine). y.rule) e
-held-only false x z e h = let q : Is MalformedField ≡ None = ap (λ (y : RuleLine). y.fault) (sym e) ∙ h in let c : ◌≡◌ {A = ℕ} 0 1 = cc in absurd (omega arith)
+rule-ok : (b : Bool) (x y : RuleValue) → Ok y ≡ cond b (Ok x) (Err MalformedField) → (b ≡ true) × (y ≡ x)
+rule-ok true x y e = (refl, ok-same y x e)
+rule-ok false x y e = absurd (ok-err y MalformedField e)
 
-module _ (a : ℕ) (fs : List (List ℕ)) (z : RuleLine) (e : z ≡ rule_in a (drop 2 fs)) where
-  pub rule-held : z.fault ≡ None → z.rule ≡ rule_value (rule_from a (drop 2 fs))
-  unfolding rule_in
-  rule-held h = held-only (are_words (drop 2 fs)) (rule_from a (drop 2 fs)) z e h
+rule-err : {A B : Type 0} (b : Bool) (x : A) (y : B) (r : Refusal) → cond b (Ok x) (Err MalformedField) ≡ Err r → (b ≡ false) × (r ≡ MalformedField)
+rule-err true x y r e = absurd (ok-err x r e)
+rule-err false x y r e = (refl, cc)
 
-  -- it has as many words as the line has fields behind the action
-  pub rule-few : z.fault ≡ None → count_fits Formula (length fs) ≡ true → z.rule.count ≤ word_places
-  unfolding rule_value
-  rule-few h k = omega (arith, ap (λ (y : RuleValue). y.count) (rule-held h), length-map (drop 2 fs) (λ f. word_in (parsed f)), length-drop 2 fs, (rule-count (length fs) k).1)
-
-  module _ (least form : ℕ) (s : Sizes) where
-    pub admitted_before : (r : Refusal) → z.fault ≡ Is r → z ≡ admitted_rule least form s a fs
-    unfolding admitted_rule
-    admitted_before r h = let f : (rule_in a (drop 2 fs)).fault ≡ Is r = ap (λ (y : RuleLine). y.fault) (sym e) ∙ h in e ∙ (rw f)
-
-    pub admitted_now : (f : Fault) → z.fault ≡ None → f ≡ rule_fault least form s (rule_of z.rule) → record { fault = f; rule = z.rule } ≡ admitted_rule least form s a fs
-    unfolding admitted_rule
-    admitted_now f h q =
-        let v = rule_value_lem (rule_from a (drop 2 fs)) (words-digits (drop 2 fs)) in
-        let w : rule_of z.rule ≡ rule_from a (drop 2 fs) = ap rule_of (rule-held h) ∙ v in
-        rw (← e, h, q ∙ ap (rule_fault least form s) w)
-
--- the rule of a line in which nothing is broken
-first-none : (f g : Fault) → or_else f g ≡ None → f ≡ None
-first-none None g e = refl
-first-none (Is r) g e = e
-
-pub rule-stored : (least form : ℕ) (s : Sizes) (a : ℕ) (fs : List (List ℕ)) (y : RuleLine) → y ≡ admitted_rule least form s a fs → y.fault ≡ None
-    → y.rule ≡ rule_value (rule_from a (drop 2 fs))
-unfolding admitted_rule
-rule-stored least form s a fs y e h =
-    ap (λ (z : RuleLine). z.rule) e ∙ rule-held a fs (rule_in a (drop 2 fs)) refl (first-none _ _ (sym (ap (λ (z : RuleLine). z.fault) e) ∙ h))
-
--- ---- the first refusal of a rule's line
-
-module _ (x : Rule) where
-  abbrev tested : (w i s e b : Bool) → Fault
-  tested w i s e b =
-      or_else (cond w (held_rule x) (faulty_rule MalformedField)).fault
-      (cond i (cond s (cond e (cond b None (Is UnbalancedFormula)) (Is UnequalWidths)) (Is NotRising)) (Is OutOfRange))
-
-  tested-first-broken : (w i s e b : Bool)
-      → number_in (tested w i s e b) ≡ first_broken (check 5 (not w) ∷ check 6 (not i) ∷ check 7 (not s) ∷ check 8 (not e) ∷ check 9 (not b) ∷ [])
-  unfolding first_broken
-  tested-first-broken false i s e b = refl
-  tested-first-broken true false s e b = refl
-  tested-first-broken true true false e b = refl
-  tested-first-broken true true true false b = refl
-  tested-first-broken true true true true false = refl
-  tested-first-broken true true true true true = refl
-
-  faulty : (r : Refusal) (A : Type 0) → Is r ≡ None → A
-  faulty r A e = let c : ◌≡◌ {A = ℕ} 0 1 = cc in absurd (omega arith)
-
-  tested-none : (w i s e b : Bool) → tested w i s e b ≡ None → (i ≡ true) × (s ≡ true)
-  tested-none false i s e b h = faulty _ _ h
-  tested-none true false s e b h = faulty _ _ h
-  tested-none true true false e b h = faulty _ _ h
-  tested-none true true true e b h = (refl, refl)
-
-module _ (least form : ℕ) (s : Sizes) (a : ℕ) (fs : List (List ℕ)) (y : RuleLine) (q : y ≡ admitted_rule least form s a fs) where
+module _ (a : ℕ) (fs : List (List ℕ)) (z : Result RuleValue Refusal) (e : z ≡ rule_in a (drop 2 fs)) where
   abbrev from : Rule
   from = rule_from a (drop 2 fs)
 
-  pub rule-first-broken : number_in y.fault
-      ≡ first_broken (check 5 (not (are_words (drop 2 fs))) ∷ check 6 (not (in_range RuleKind form s (one_number a) from.words)) ∷ check 7 (not (leb least a))
-      ∷ check 8 (not (all (widths_equal s) from.words)) ∷ check 9 (not (balanced 0 from.words)) ∷ [])
-  unfolding admitted_rule rule_in rule_fault
-  rule-first-broken =
-      ap (λ (z : RuleLine). number_in z.fault) q
-      ∙ tested-first-broken from (are_words (drop 2 fs)) (in_range RuleKind form s (one_number a) from.words) (leb least a) (all (widths_equal s) from.words) (balanced 0 from.words)
+  pub rule-malformed : (r : Refusal) → z ≡ Err r → (least form : ℕ) (s : Sizes) → Err r ≡ admitted_rule least form s a fs
+  unfolding rule_in admitted_rule
+  rule-malformed r q least form s =
+      let h = rule-err (are_words (drop 2 fs)) (rule_value from) from r (sym e ∙ q) in
+      rw (h.0, h.1)
 
-  -- a rule in which nothing is broken rises, to an action that the form has
-  pub rule-taken : y.fault ≡ None → (least ≤ a) × (a < actions form)
-  unfolding admitted_rule rule_in rule_fault in_range
-  rule-taken h =
-      let z = tested-none from (are_words (drop 2 fs)) (in_range RuleKind form s (one_number a) from.words) (leb least a) (all (widths_equal s) from.words) (balanced 0 from.words)
-      (sym (ap (λ (z : RuleLine). z.fault) q) ∙ h) in
-      (leb-true least a z.1, ltb-true a (actions form) (and_left _ _ z.0))
+  module _ (y : RuleValue) (q : z ≡ Ok y) where
+    rule-held : (are_words (drop 2 fs) ≡ true) × (y ≡ rule_value from)
+    unfolding rule_in
+    rule-held = rule-ok (are_words (drop 2 fs)) (rule_value from) y (sym q ∙ e)
+
+    -- it has as many words as the line has fields behind the action
+    pub rule-few : count_fits Formula (length fs) ≡ true → y.count ≤ word_places
+    unfolding rule_value
+    rule-few k = omega (arith, ap (λ (x : RuleValue). x.count) rule-held.1, length-map (drop 2 fs) (λ f. word_in (parsed f)), length-drop 2 fs, (rule-count (length fs) k).1)
+
+    module _ (least form : ℕ) (s : Sizes) (x : Result (Unit {0}) Refusal) (d : x ≡ rule_tested least form s (rule_of y)) where
+      rule-tested : tested x y ≡ admitted_rule least form s a fs
+      unfolding admitted_rule
+      rule-tested =
+          let w : rule_of y ≡ from = ap rule_of rule-held.1 ∙ rule_value_lem from (words-digits (drop 2 fs)) in
+          rw (rule-held.0, d, w, rule-held.1)
+
+      pub rule-refused : (r : Refusal) → x ≡ Err r → Err r ≡ admitted_rule least form s a fs
+      rule-refused r h = ap (λ (o : Result (Unit {0}) Refusal). tested o y) (sym h) ∙ rule-tested
+
+      pub rule-admitted : (u : Unit {0}) → x ≡ Ok u → Ok y ≡ admitted_rule least form s a fs
+      rule-admitted u h = ap (λ (o : Result (Unit {0}) Refusal). tested o y) (sym h) ∙ rule-tested
+
+-- ---- the first refusal of a rule's line
+
+module _ (x : RuleValue) where
+  abbrev admitted : (w i s e b : Bool) → Result RuleValue Refusal
+  admitted w i s e b =
+      cond w
+      (tested (cond i (cond s (cond e (cond b (Ok tt) (Err UnbalancedFormula)) (Err UnequalWidths)) (Err NotRising)) (Err OutOfRange)) x)
+      (Err MalformedField)
+
+  admitted-first-broken : (w i s e b : Bool)
+      → number_in (admitted w i s e b) ≡ first_broken (check 5 (not w) ∷ check 6 (not i) ∷ check 7 (not s) ∷ check 8 (not e) ∷ check 9 (not b) ∷ [])
+  unfolding first_broken
+  admitted-first-broken false i s e b = refl
+  admitted-first-broken true false s e b = refl
+  admitted-first-broken true true false e b = refl
+  admitted-first-broken true true true false b = refl
+  admitted-first-broken true true true true false = refl
+  admitted-first-broken true true true true true = refl
+
+  record Taken (i s : Bool) (y : RuleValue) : Type 0 where
+    range : i ≡ true
+    rise : s ≡ true
+    value : y ≡ x
+
+  admitted-ok : (w i s e b : Bool) (y : RuleValue) → admitted w i s e b ≡ Ok y → Taken i s y
+  admitted-ok false i s e b y h = absurd (ok-err y MalformedField (sym h))
+  admitted-ok true false s e b y h = absurd (ok-err y OutOfRange (sym h))
+  admitted-ok true true false e b y h = absurd (ok-err y NotRising (sym h))
+  admitted-ok true true true false b y h = absurd (ok-err y UnequalWidths (sym h))
+  admitted-ok true true true true false y h = absurd (ok-err y UnbalancedFormula (sym h))
+  admitted-ok true true true true true y h = record { range = refl; rise = refl; value = ok-same y x (sym h) }
+
+-- a rule in which nothing is broken rises, to an action that the form has
+pub record RuleTaken (least form a : ℕ) (fs : List (List ℕ)) (x : RuleValue) : Type 0 where
+  pub rises : least ≤ a
+  pub action : a < actions form
+  pub value : x ≡ rule_value (rule_from a (drop 2 fs))
+
+module _ (least form : ℕ) (s : Sizes) (a : ℕ) (fs : List (List ℕ)) (y : Result RuleValue Refusal) (q : y ≡ admitted_rule least form s a fs) where
+  abbrev said : Rule
+  said = rule_from a (drop 2 fs)
+
+  pub rule-first-broken : number_in y
+      ≡ first_broken (check 5 (not (are_words (drop 2 fs))) ∷ check 6 (not (in_range RuleKind form s (one_number a) said.words)) ∷ check 7 (not (leb least a))
+      ∷ check 8 (not (all (widths_equal s) said.words)) ∷ check 9 (not (balanced 0 said.words)) ∷ [])
+  unfolding admitted_rule rule_tested
+  rule-first-broken =
+      ap number_in q
+      ∙ admitted-first-broken (rule_value said) (are_words (drop 2 fs)) (in_range RuleKind form s (one_number a) said.words) (leb least a) (all (widths_equal s) said.words)
+      (balanced 0 said.words)
+
+  pub rule-taken : (x : RuleValue) → y ≡ Ok x → RuleTaken least form a fs x
+  unfolding admitted_rule rule_tested in_range
+  rule-taken x h =
+      let z = admitted-ok (rule_value said) (are_words (drop 2 fs)) (in_range RuleKind form s (one_number a) said.words) (leb least a) (all (widths_equal s) said.words)
+      (balanced 0 said.words) x (sym q ∙ h) in
+      record { rises = leb-true least a z.rise; action = ltb-true a (actions form) (and_left _ _ z.range); value = z.value }

@@ -1,197 +1,113 @@
 // A line's kind and its numbers: refusals 3 to 5, but for the words of a formula.
-ghost use Rattle.std.specs.Prelude.{◌≡◌, ◌≤◌, length};
+ghost use Rattle.std.specs.Prelude.{◌≡◌, ◌≤◌};
 ghost use Rattle.text.specs.Kind.{layout_of};
 ghost use Rattle.text.specs.Inner.{Found};
 ghost use Rattle.text.specs.Parts.{fields, comma};
 ghost use Rattle.text.specs.declared.kind.Layout.TheVariants as layout;
 ghost use Rattle.policy.specs.Line.{allowed};
 ghost use Rattle.policy.specs.Read.{kind_of};
-ghost use Rattle.line.specs.Inner.Head.{before_of, PieceAt, said_by, head_as, parsed_as};
+ghost use Rattle.line.specs.Inner.Head.{numbers_as, layout_with, said_by, parsed_as};
 
 use policy::refusal::Refusal;
 use policy::value::WORD_PLACES;
-use text::kind::{Kind, Layout, Named};
-use text::number::{Numbers, Numeral};
+use text::kind::{Kind, Layout};
+use text::number::Numbers;
 
-// The kind of the line before.
+// A line's kind and numbers.
 #[derive(Clone, Copy)]
-pub enum Before {
-    Start,
-    After(Kind),
+pub struct Head {
+    pub kind: Kind,
+    pub numbers: Numbers,
 }
 
-// A line's kind and numbers, or what it breaks.
-#[derive(Clone, Copy)]
-pub enum Head {
-    Line(Kind, Numbers),
-    Fault(Refusal),
-}
-
-// A field as a number, and where it ends.
-#[derive(Clone, Copy)]
-struct Piece {
-    pub end: usize,
-    pub value: Numeral,
-}
-
-fn number_from(line: &[u8], at: usize) -> Piece
-    requires { at ≤ length line.now }
-    ensures { PieceAt line.now at result }
+// The numbers of three fields, if each is one.
+fn said(values: [Option<u32>; 3]) -> Option<Numbers>
+    ensures { result ≡ said_by values }
 {
-    let end = text::parts::find(line, at, b',');
-    let value = text::number::parse(&line[at..end]);
-    Piece { end, value }
+    Some(Numbers {
+        first: values[0]?,
+        second: values[1]?,
+        third: values[2]?,
+    })
 }
 
-// A line of kind k with these numbers.
-fn said(k: Kind, x: Numeral, y: Numeral, z: Numeral) -> Head
-    ensures { result ≡ said_by k x y z }
+// The numbers of a line with n number fields, whose first comma is at c: their count before their form.
+fn plain(line: &[u8], c: usize, n: usize) -> Result<Numbers, Refusal>
+    requires { Found line.now 0 comma c × (n ≤ 3) }
+    ensures { result ≡ numbers_as (layout_with n) (fields line.now) }
 {
-    let Numeral::Value(first) = x else {
-        return Head::Fault(Refusal::MalformedField);
-    };
-    let Numeral::Value(second) = y else {
-        return Head::Fault(Refusal::MalformedField);
-    };
-    let Numeral::Value(third) = z else {
-        return Head::Fault(Refusal::MalformedField);
-    };
-    Head::Line(
-        k,
-        Numbers {
-            first,
-            second,
-            third,
-        },
-    )
-}
-
-// A line of kind k with no number, whose first comma is at c.
-fn bare(k: Kind, line: &[u8], c: usize) -> Head
-    requires { Found line.now 0 comma c }
-    ensures { result ≡ head_as k layout.Bare (fields line.now) }
-{
-    if c == line.len() {
-        return said(k, Numeral::Value(0), Numeral::Value(0), Numeral::Value(0));
+    let mut values = [Some(0); 3];
+    // The comma before the next field, or the line's end.
+    let mut at = c;
+    for value in &mut values[..n] {
+        if at == line.len() {
+            return Err(Refusal::WrongFieldCount);
+        }
+        let end = text::parts::find(line, at + 1, b',');
+        *value = text::number::parse(&line[at + 1..end]);
+        at = end;
     }
-    Head::Fault(Refusal::WrongFieldCount)
-}
-
-fn one(k: Kind, line: &[u8], c: usize) -> Head
-    requires { Found line.now 0 comma c }
-    ensures { result ≡ head_as k layout.One (fields line.now) }
-{
-    if c == line.len() {
-        return Head::Fault(Refusal::WrongFieldCount);
+    if at < line.len() {
+        return Err(Refusal::WrongFieldCount);
     }
-    let x = number_from(line, c + 1);
-    if x.end != line.len() {
-        return Head::Fault(Refusal::WrongFieldCount);
-    }
-    let m = x.value;
-    said(k, m, Numeral::Value(0), Numeral::Value(0))
-}
-
-fn two(k: Kind, line: &[u8], c: usize) -> Head
-    requires { Found line.now 0 comma c }
-    ensures { result ≡ head_as k layout.Two (fields line.now) }
-{
-    if c == line.len() {
-        return Head::Fault(Refusal::WrongFieldCount);
-    }
-    let x = number_from(line, c + 1);
-    if x.end == line.len() {
-        return Head::Fault(Refusal::WrongFieldCount);
-    }
-    let y = number_from(line, x.end + 1);
-    if y.end != line.len() {
-        return Head::Fault(Refusal::WrongFieldCount);
-    }
-    let m = x.value;
-    let n = y.value;
-    said(k, m, n, Numeral::Value(0))
-}
-
-fn three(k: Kind, line: &[u8], c: usize) -> Head
-    requires { Found line.now 0 comma c }
-    ensures { result ≡ head_as k layout.Three (fields line.now) }
-{
-    if c == line.len() {
-        return Head::Fault(Refusal::WrongFieldCount);
-    }
-    let x = number_from(line, c + 1);
-    if x.end == line.len() {
-        return Head::Fault(Refusal::WrongFieldCount);
-    }
-    let y = number_from(line, x.end + 1);
-    if y.end == line.len() {
-        return Head::Fault(Refusal::WrongFieldCount);
-    }
-    let z = number_from(line, y.end + 1);
-    if z.end != line.len() {
-        return Head::Fault(Refusal::WrongFieldCount);
-    }
-    let l = x.value;
-    let m = y.value;
-    let n = z.value;
-    said(k, l, m, n)
+    said(values).ok_or(Refusal::MalformedField)
 }
 
 // The most fields of a formula: its kind's word, its action and its words.
 const MOST_FIELDS: usize = 2 + WORD_PLACES;
 
-// A line of kind k with an action and words; the action is its number.
-fn formula(k: Kind, line: &[u8], c: usize) -> Head
+// The numbers of a line with an action and words: the action.
+fn formula(line: &[u8], c: usize) -> Result<Numbers, Refusal>
     requires { Found line.now 0 comma c }
-    ensures { result ≡ head_as k layout.Formula (fields line.now) }
+    ensures { result ≡ numbers_as layout.Formula (fields line.now) }
 {
     let n = text::parts::count(line);
-    if n < 3 {
-        return Head::Fault(Refusal::WrongFieldCount);
+    if n < 3 || MOST_FIELDS < n {
+        return Err(Refusal::WrongFieldCount);
     }
-    if MOST_FIELDS < n {
-        return Head::Fault(Refusal::WrongFieldCount);
-    }
-    let x = number_from(line, c + 1);
-    let m = x.value;
-    said(k, m, Numeral::Value(0), Numeral::Value(0))
+    let end = text::parts::find(line, c + 1, b',');
+    let first = text::number::parse(&line[c + 1..end]).ok_or(Refusal::MalformedField)?;
+    Ok(Numbers {
+        first,
+        second: 0,
+        third: 0,
+    })
 }
 
-// The line of kind k that these bytes are.
-fn by_layout(k: Kind, line: &[u8], c: usize) -> Head
+// The numbers of a line of kind k whose first comma is at c.
+fn numbers(k: Kind, line: &[u8], c: usize) -> Result<Numbers, Refusal>
     requires { Found line.now 0 comma c }
-    ensures { result ≡ head_as k (layout_of k) (fields line.now) }
+    ensures { result ≡ numbers_as (layout_of k) (fields line.now) }
 {
-    let x = text::kind::layout_of(k);
-    match x {
-        Layout::Bare => bare(k, line, c),
-        Layout::One => one(k, line, c),
-        Layout::Two => two(k, line, c),
-        Layout::Three => three(k, line, c),
-        Layout::Formula => formula(k, line, c),
+    match text::kind::layout_of(k) {
+        Layout::Bare => plain(line, c, 0),
+        Layout::One => plain(line, c, 1),
+        Layout::Two => plain(line, c, 2),
+        Layout::Three => plain(line, c, 3),
+        Layout::Formula => formula(line, c),
     }
 }
 
-fn may_stand(before: Before, k: Kind) -> bool
-    ensures { result ≡ allowed (before_of before) k }
+fn may_stand(before: Option<Kind>, k: Kind) -> bool
+    ensures { result ≡ allowed before k }
 {
     match before {
-        Before::Start => text::kind::same(Kind::Policy, k),
-        Before::After(j) => text::kind::may_follow(j, k),
+        None => Kind::Policy == k,
+        Some(j) => text::kind::may_follow(j, k),
     }
 }
 
 // The line that these bytes are after the line before.
-pub fn parse(before: Before, line: &[u8]) -> Head
-    ensures { result ≡ parsed_as (before_of before) (kind_of line.now) (fields line.now) }
+pub fn parse(before: Option<Kind>, line: &[u8]) -> Result<Head, Refusal>
+    ensures { result ≡ parsed_as before (kind_of line.now) (fields line.now) }
 {
     let c = text::parts::find(line, 0, b',');
-    let x = text::kind::parse(&line[0..c]);
-    let Named::Is(k) = x else {
-        return Head::Fault(Refusal::KindNotAllowed);
+    let Some(kind) = text::kind::parse(&line[..c]) else {
+        return Err(Refusal::KindNotAllowed);
     };
-    if may_stand(before, k) {
-        return by_layout(k, line, c);
+    if !may_stand(before, kind) {
+        return Err(Refusal::KindNotAllowed);
     }
-    Head::Fault(Refusal::KindNotAllowed)
+    let numbers = numbers(kind, line, c)?;
+    Ok(Head { kind, numbers })
 }

@@ -5,74 +5,40 @@ ghost use Rattle.text.specs.declared.kind.Kind.TheVariants as kind;
 ghost use Rattle.text.specs.declared.kind.Layout.TheVariants as layout;
 ghost use Rattle.policy.specs.Line.{one_number, count_fits};
 ghost use Rattle.policy.specs.Checks.{in_range};
-ghost use Rattle.policy.specs.Value.{width_places, word_places, rule_of};
+ghost use Rattle.policy.specs.Value.{word_places, rule_of};
 ghost use Rattle.checks.specs.Inner.{both_in};
-ghost use Rattle.line.specs.Inner.Rule.{faulty_rule, rule_in, formula_fault, rule_fault, admitted_rule};
+ghost use Rattle.line.specs.Inner.Rule.{rule_in, formula_tested, rule_tested, admitted_rule};
 
-use checks::side::Shape;
+use checks::shape::Shapes;
 use policy::refusal::Refusal;
 use policy::value::{RuleValue, WORD_PLACES};
-use words::Parsed;
 
-// What a rule's line breaks.
-#[derive(Clone, Copy)]
-pub enum Fault {
-    None,
-    Is(Refusal),
-}
-
-// A rule, or what its line breaks.
-#[derive(Clone, Copy)]
-pub struct RuleLine {
-    pub fault: Fault,
-    pub rule: RuleValue,
-}
-
-fn refused(r: Refusal) -> RuleLine
-    ensures { result ≡ faulty_rule r }
-{
-    let words = [0u8; WORD_PLACES];
-    RuleLine {
-        fault: Fault::Is(r),
-        rule: RuleValue {
-            action: 0,
-            count: 0,
-            words,
-        },
-    }
-}
-
-// The words from `from` to the line's end.
-fn words(action: u32, line: &[u8], from: usize) -> RuleLine
+// The rule of the words from `from` to the line's end.
+fn words(action: u32, line: &[u8], from: usize) -> Result<RuleValue, Refusal>
     requires { (from ≤ length line.now) × (length (fields (drop from line.now)) ≤ word_places) }
     ensures { result ≡ rule_in action (fields (drop from line.now)) }
 {
-    let mut words = [0u8; WORD_PLACES];
-    let mut n: usize = 0;
+    let mut words = [0; WORD_PLACES];
+    let mut count = 0;
     let mut at = from;
+    // No `for`: a word ends where the next comma is found, and what follows the last one decides.
     loop {
-        let e = text::parts::find(line, at, b',');
-        let x = words::parse(&line[at..e]);
-        let Parsed::Is(w) = x else {
-            return refused(Refusal::MalformedField);
-        };
-        words[n] = words::number_of(w);
-        n += 1;
-        if e == line.len() {
-            return RuleLine {
-                fault: Fault::None,
-                rule: RuleValue {
-                    action,
-                    count: n,
-                    words,
-                },
-            };
+        let end = text::parts::find(line, at, b',');
+        let word = words::parse(&line[at..end]).ok_or(Refusal::MalformedField)?;
+        words[count] = word.number();
+        count += 1;
+        if end == line.len() {
+            return Ok(RuleValue {
+                action,
+                count,
+                words,
+            });
         }
-        at = e + 1;
+        at = end + 1;
     }
 }
 
-fn parse(action: u32, line: &[u8]) -> RuleLine
+fn parse(action: u32, line: &[u8]) -> Result<RuleValue, Refusal>
     requires { count_fits layout.Formula (length (fields line.now)) ≡ true }
     ensures { result ≡ rule_in action (drop 2 (fields line.now)) }
 {
@@ -81,44 +47,38 @@ fn parse(action: u32, line: &[u8]) -> RuleLine
     words(action, line, b + 1)
 }
 
-fn in_range(form: u32, user: Shape, object: Shape, rule: RuleValue) -> bool
-    requires { rule.count ≤ word_places }
-    ensures { result ≡ in_range kind.Rule form (both_in user object) (one_number rule.action) (rule_of rule).words }
+fn in_range(form: u32, shapes: &Shapes, rule: &RuleValue) -> bool
+    requires { rule.now.count ≤ word_places }
+    ensures { result ≡ in_range kind.Rule form (both_in shapes.now) (one_number rule.now.action) (rule_of rule.now).words }
 {
-    let n = rule.count;
-    let numbers = rule.words;
-    if rule.action < policy::limits::actions(form) {
-        return checks::formula::all_fit(user, object, numbers, n);
-    }
-    false
+    rule.action < policy::limits::actions(form) && shapes.words_fit(&rule.words[..rule.count])
 }
 
-fn formula(user: Shape, object: Shape, rule: RuleValue) -> Fault
-    requires { (rule.count ≤ word_places) × (user.attributes ≤ width_places) × (object.attributes ≤ width_places) }
-    ensures { result ≡ formula_fault (both_in user object) (rule_of rule) }
+fn formula(shapes: &Shapes, rule: &RuleValue) -> Result<(), Refusal>
+    requires { rule.now.count ≤ word_places }
+    ensures { result ≡ formula_tested (both_in shapes.now) (rule_of rule.now) }
 {
-    let n = rule.count;
-    let numbers = rule.words;
-    if checks::formula::all_equal(user, object, numbers, n) {
-        if checks::formula::balanced(numbers, n) {
-            return Fault::None;
-        }
-        return Fault::Is(Refusal::UnbalancedFormula);
+    let words = &rule.words[..rule.count];
+    if !shapes.all_widths_equal(words) {
+        return Err(Refusal::UnequalWidths);
     }
-    Fault::Is(Refusal::UnequalWidths)
+    if !checks::formula::balanced(words) {
+        return Err(Refusal::UnbalancedFormula);
+    }
+    Ok(())
 }
 
-fn check(least: u32, form: u32, user: Shape, object: Shape, rule: RuleValue) -> Fault
-    requires { (rule.count ≤ word_places) × (user.attributes ≤ width_places) × (object.attributes ≤ width_places) }
-    ensures { result ≡ rule_fault least form (both_in user object) (rule_of rule) }
+fn check(least: u32, form: u32, shapes: &Shapes, rule: &RuleValue) -> Result<(), Refusal>
+    requires { rule.now.count ≤ word_places }
+    ensures { result ≡ rule_tested least form (both_in shapes.now) (rule_of rule.now) }
 {
-    if in_range(form, user, object, rule) {
-        if least <= rule.action {
-            return formula(user, object, rule);
-        }
-        return Fault::Is(Refusal::NotRising);
+    if !in_range(form, shapes, rule) {
+        return Err(Refusal::OutOfRange);
     }
-    Fault::Is(Refusal::OutOfRange)
+    if rule.action < least {
+        return Err(Refusal::NotRising);
+    }
+    formula(shapes, rule)
 }
 
 // The rule of a line, or what the line breaks; `least` is the least action that rises above the rule before.
@@ -127,18 +87,12 @@ pub fn admit(
     line: &[u8],
     least: u32,
     form: u32,
-    user: Shape,
-    object: Shape,
-) -> RuleLine
-    requires { (count_fits layout.Formula (length (fields line.now)) ≡ true) × (user.attributes ≤ width_places) × (object.attributes ≤ width_places) }
-    ensures { result ≡ admitted_rule least form (both_in user object) action (fields line.now) }
+    shapes: &Shapes,
+) -> Result<RuleValue, Refusal>
+    requires { count_fits layout.Formula (length (fields line.now)) ≡ true }
+    ensures { result ≡ admitted_rule least form (both_in shapes.now) action (fields line.now) }
 {
-    let x = parse(action, line);
-    let f = x.fault;
-    let Fault::None = f else {
-        return x;
-    };
-    let rule = x.rule;
-    let fault = check(least, form, user, object, rule);
-    RuleLine { fault, rule }
+    let rule = parse(action, line)?;
+    check(least, form, shapes, &rule)?;
+    Ok(rule)
 }

@@ -2,9 +2,7 @@
 // rule's action, or the refusal.
 #![tactic(auto)]
 
-ghost use Rattle.std.specs.Prelude.{◌+◌, ◌≡◌, length};
-ghost use Rattle.policy.specs.Limits.{text_bytes};
-ghost use Rattle.lister.specs.Input.{Within};
+ghost use Rattle.std.specs.Io.{ReadsAtMost};
 
 use policy::limits::TEXT_BYTES;
 use std::io;
@@ -16,34 +14,21 @@ const INPUT: usize = TEXT_BYTES + 1;
 // The most bytes of a chunk.
 const CHUNK: usize = 65536;
 
-fn blank() -> [u8; INPUT]
-    ensures { text_bytes + 1 ≡ length result }
+// Reads up to the end of the input or of the buffer: how many bytes there are. The program that plays cases has the
+// same: the engine's crates do no input and output, so there is none for both.
+fn read(from: &mut impl Read, buffer: &mut [u8]) -> io::Result<usize>
+    ensures { ReadsAtMost result buffer.new }
 {
-    [0; INPUT]
-}
-
-// What reading standard input gives: how many bytes there are up to its end or the buffer's; or it cannot be read.
-#[derive(Clone, Copy)]
-enum Input {
-    Bytes(usize),
-    Unreadable,
-}
-
-// Reads up to the end of the input or of the buffer.
-fn read(from: &mut impl Read, buffer: &mut [u8]) -> Input
-    ensures { Within result (length buffer.old) }
-{
-    let mut at: usize = 0;
+    let mut at = 0;
+    // No `for`: reads come in any lengths.
     while at < buffer.len() {
-        let Ok(n) = from.read(&mut buffer[at..]) else {
-            return Input::Unreadable;
-        };
+        let n = from.read(&mut buffer[at..])?;
         if n == 0 {
-            return Input::Bytes(at);
+            break;
         }
         at += n;
     }
-    Input::Bytes(at)
+    Ok(at)
 }
 
 // Writes the report of a text chunk by chunk, up to the first empty one.
@@ -63,9 +48,8 @@ fn list(rt: &impl Print, text: &[u8]) -> io::Result<()> {
 
 // Where the reader of a pipe goes away, nothing is said.
 fn main(rt: HostRuntime) {
-    let mut text = blank();
-    let input = read(&mut rt.stdin(), &mut text);
-    let Input::Bytes(n) = input else {
+    let mut text = [0u8; INPUT];
+    let Ok(n) = read(&mut rt.stdin(), &mut text) else {
         let _ = eprintln!(rt; "lister: standard input cannot be read");
         return;
     };

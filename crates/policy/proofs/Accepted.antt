@@ -1,10 +1,10 @@
 -- An accepted text is the text of the policy that it yields, and that policy is sound: its lines are those of the
 -- policy so far, and the next.
+use Rattle.std.specs.Prelude.{Option, None, Some}
 use Prim.Native.Nat.{ℕ, suc, ◌≤◌}
 use mathlib.Core.Path.{◌≡◌, refl, sym, ap, ap₂, ◌∙◌, subst}
 use mathlib.Core.Bool.{Bool, true, false}
 use mathlib.Core.List.{List, [], ◌∷◌, ◌++◌, map, append-nil, map-append}
-use mathlib.Core.Option.{Option, none, some}
 use native.Mathlib.Omega.{arith}
 use lib.Dec.{ltb}
 use lib.Seq.{append_snoc}
@@ -15,7 +15,6 @@ use Rattle.text.specs.Parts.{TextLine, comma, fields, join, lines}
 use Rattle.text.specs.Kind.{layout_of, place_of, is_kind, named}
 use Rattle.text.specs.declared.kind.Kind.{Kind}
 use Rattle.text.specs.declared.kind.Kind.TheVariants.{End}
-use Rattle.text.specs.declared.kind.Named.TheVariants.{Is}
 use Rattle.text.proofs.Split.{split-pos}
 use Rattle.text.proofs.RoundTrip.{join-split, word_named}
 use Rattle.policy.specs.Limits.{text_bytes}
@@ -36,12 +35,12 @@ head-fields [] h = absurd (omega arith)
 head-fields (f ∷ fs) h = refl
 
 -- an accepted line is written as its fields, and so as its bytes
-fields-line : (k : Kind) (fs : List (List ℕ)) → 1 ≤ length fs → named (field_at fs 0) ≡ Is k
+fields-line : (k : Kind) (fs : List (List ℕ)) → 1 ≤ length fs → named (field_at fs 0) ≡ Some k
     → count_fits (layout_of k) (length fs) ≡ true → form_fits (layout_of k) fs ≡ true → fields_of (line_of k fs) ≡ fs
 fields-line k fs h n c f =
     sym (head-fields fs h ∙ ap₂ (λ (w : List ℕ) (ws : List (List ℕ)). w ∷ ws) (word_named (field_at fs 0) k n) (later-fields (layout_of k) fs c f))
 
-line-text : (k : Kind) (e : Bool) (l : List ℕ) (b : Option Kind) (p : Policy) → kind_of l ≡ Is k → Passed b p e k (fields l)
+line-text : (k : Kind) (e : Bool) (l : List ℕ) (b : Option Kind) (p : Policy) → kind_of l ≡ Some k → Passed b p e k (fields l)
     → line_text (line_of k (fields l)) ≡ l
 unfolding line_text
 line-text k e l b p n c = ap (join comma) (fields-line k (fields l) (split-pos comma l) n c.count c.form) ∙ join-split comma l
@@ -49,7 +48,7 @@ line-text k e l b p n c = ap (join comma) (fields-line k (fields l) (split-pos c
 unfoldable pub texts : List Line → List (List ℕ)
 texts ls = map line_text ls
 
-next-texts : (s : State) (l : TextLine) → Reading s → line_refusal s l ≡ none
+next-texts : (s : State) (l : TextLine) → Reading s → line_refusal s l ≡ None
     → texts (so_far (line_after s l).before (line_after s l).policy) ≡ texts (so_far s.before s.policy) ++ (l.bytes ∷ [])
 unfolding texts after
 next-texts s l r e =
@@ -77,18 +76,18 @@ never n m q e = let z : ◌≡◌ {A = ℕ} 0 1 = cc in absurd (omega arith)
 ended : (b : Option Kind) (p : Policy) (n : ℕ) (q : Policy) → Reading (record { before = b; policy = p })
     → ending (record { before = b; policy = p }) n ≡ Accepted q → Reads (record { before = b; policy = p }) [] q
 unfolding ending all
-ended none p n q r e = never 10 n q e
-ended (some k) p n q r e = go (is_kind End k) refl
+ended None p n q r e = never 10 n q e
+ended (Some k) p n q r e = go (is_kind End k) refl
   where
-    go : (t : Bool) → is_kind End k ≡ t → Reads (record { before = some k; policy = p }) [] q
+    go : (t : Bool) → is_kind End k ≡ t → Reads (record { before = Some k; policy = p }) [] q
     go false h = never 10 n q (rw h at e)
     go true h =
         let f : p ≡ q = cc (rw h at e) in
-        subst (λ (x : Policy). Reads (record { before = some k; policy = p }) [] x) f
+        subst (λ (x : Policy). Reads (record { before = Some k; policy = p }) [] x) f
         (record {
-          lines_are = append-nil (texts (so_far (some k) p)) ∙ ap texts (so_far-all k p h);
+          lines_are = append-nil (texts (so_far (Some k) p)) ∙ ap texts (so_far-all k p h);
           ended-all = refl;
-          sound-is = reading-sound (record { before = some k; policy = p }) r (omega (arith, eqb-true (place_of End) (place_of k) h));
+          sound-is = reading-sound (record { before = Some k; policy = p }) r (omega (arith, eqb-true (place_of End) (place_of k) h));
         })
 
 reads : (ls : List TextLine) (n : ℕ) (s : State) (q : Policy) → Reading s → read_lines s n ls ≡ Accepted q → Reads s ls q
@@ -98,8 +97,8 @@ reads (l ∷ ls) n s q r e = go (line_refusal s l) refl (reads ls (suc n) (line_
   where
     go : (x : Option ℕ) → line_refusal s l ≡ x → (Reading (line_after s l) → read_lines (line_after s l) (suc n) ls ≡ Accepted q → Reads (line_after s l) ls q)
         → Reads s (l ∷ ls) q
-    go (some m) h ih = never m n q (rw h at e)
-    go none h ih =
+    go (Some m) h ih = never m n q (rw h at e)
+    go None h ih =
         let t = ih (reading-next s l r h) (rw h at e) in
         record {
           lines_are =

@@ -1,8 +1,8 @@
 -- An attribute has the values from its first on, as many as it is wide, and a chain of seniority stays in one attribute.
+use Rattle.std.specs.Prelude.{None}
 use Prim.Native.Nat.{ℕ, zero, suc, ◌+◌, ◌-◌, ◌<◌}
 use mathlib.Core.Path.{◌≡◌, ap, ◌∙◌}
 use mathlib.Core.List.{List, [], ◌∷◌, Memᴰ}
-use mathlib.Core.Option.{none}
 use native.Mathlib.Decide.{dec_lt}
 use native.Mathlib.Omega.{arith}
 use borrow.Author.Tests.{lt-ltb, le-ltb}
@@ -39,7 +39,7 @@ place-of_value (w ∷ ws) v h =
 
 module _ (most : ℕ) (s : Side) (h : SideParts most s) where
   line-in_one : (v j : ℕ) → Memᴰ (direct v j) s.lines → attribute_of s.widths v ≡ attribute_of s.widths j
-  line-in_one v j m = (direct-fits (side_sizes s) v j (rising-at (line_fits s) line_above none s.lines h.lines (direct v j) m)).same
+  line-in_one v j m = (direct-fits (side_sizes s) v j (rising-at (line_fits s) line_above None s.lines h.lines (direct v j) m)).same
 
   chain-in_one : {v j : ℕ} → Senior s.lines v j → attribute_of s.widths v ≡ attribute_of s.widths j
   chain-in_one {v} {j} (one m) = line-in_one v j m

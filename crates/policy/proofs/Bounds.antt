@@ -1,12 +1,12 @@
 -- What the tests of a sound policy bound: widths and their sum, seniorities, numbers and sets, words; and so that its
 -- lists fit their arrays.
+use Rattle.std.specs.Prelude.{Option, None, Some}
 use Prim.Native.Nat.{ℕ, zero, suc, ◌+◌, ◌≤◌, ◌^◌, ◌<◌}
 use mathlib.Core.Path.{◌≡◌, ap}
 use mathlib.Core.Bool.{Bool, true}
 use mathlib.Core.List.Memᴰ
 use mathlib.Core.List.{List, [], ◌∷◌, ◌++◌, Memᴰ}
 use mathlib.Core.Logic.{⊎_elim}
-use mathlib.Core.Option.{Option, none, some}
 use native.Mathlib.Nat.{add_assoc, add-zero, zero-add, le_trans}
 use native.Mathlib.Omega.{arith}
 use native.Mathlib.Decide.{dec_lt}
@@ -139,7 +139,7 @@ module _ (s : SideSizes) where
       (or_cases (ltb m.senior l.senior) _ a)
 
   -- pairs that rise: one for each two values at most
-  pub directs-few : s.values ≤ most_values → (ls : List Direct) → rising fits line_above none ls ≡ true → length ls ≤ most_lines
+  pub directs-few : s.values ≤ most_values → (ls : List Direct) → rising fits line_above None ls ≡ true → length ls ≤ most_lines
   directs-few h ls e =
       le_trans (rising-few fits line_above rank (triangle s.values) rank-low rank_up ls e) (le_trans (triangle-up s.values most_values h) triangle-most)
 
@@ -156,10 +156,10 @@ above_from m l a =
     (or_cases (ltb m.senior l.senior) _ a)
 
 module _ (s : Side) where
-  lines-from : (m : Direct) (ls : List Direct) → rising (line_fits s) line_above (some m) ls ≡ true → From m.senior ls
+  lines-from : (m : Direct) (ls : List Direct) → rising (line_fits s) line_above (Some m) ls ≡ true → From m.senior ls
   lines-from m [] e = tt
   lines-from m (l ∷ ls) e =
-      let h = head (line_fits s) line_above (some m) l ls e in
+      let h = head (line_fits s) line_above (Some m) l ls e in
       let a = above_from m l h.above-it in
       (a, from-lower m.senior l.senior ls a (lines-from l ls h.rest))
 
@@ -168,7 +168,7 @@ module _ (s : Side) where
   ordered b (l ∷ ls) e =
       let h = head (line_fits s) line_above b l ls e in
       let f = direct-fits (side_sizes s) l.senior l.junior h.fits-it in
-      (f.above, f.value, lines-from l ls h.rest, ordered (some l) ls h.rest)
+      (f.above, f.value, lines-from l ls h.rest, ordered (Some l) ls h.rest)
 
 -- ---- a side
 
@@ -185,7 +185,7 @@ module _ (most : ℕ) (s : Side) (h : SideParts most s) where
   width-bounds = widths-at most 0 s.widths h.widths
 
   pub lines-ordered : Ordered (total s) s.lines
-  lines-ordered = ordered s none s.lines h.lines
+  lines-ordered = ordered s None s.lines h.lines
 
 -- a side of any form
 pub total-few : (form : ℕ) (s : Side) → SideParts (values form) s → total s ≤ most_values
@@ -198,9 +198,9 @@ module _ (most : ℕ) (s : Side) where
   unfolding entry_fits
   entry-fits e h = (ltb-true e.number most (and_left _ _ h), ltb-true e.set (sets s) (and_right (ltb e.number most) _ h))
 
-  module _ (es : List Entry) (h : rising (number_fits most s) number_above none es ≡ true) where
+  module _ (es : List Entry) (h : rising (number_fits most s) number_above None es ≡ true) where
     pub entry-bounds : (e : Entry) → Memᴰ e es → (e.number < most) × (e.set < sets s)
-    entry-bounds e m = entry-fits e (rising-at (number_fits most s) number_above none es h e m)
+    entry-bounds e m = entry-fits e (rising-at (number_fits most s) number_above None es h e m)
 
     pub entries-few : length es ≤ most
     entries-few =
@@ -208,9 +208,9 @@ module _ (most : ℕ) (s : Side) where
 
 -- ---- rules
 
-module _ (p : Policy) (rs : List Rule) (h : rising (rule_fits p) action_above none rs ≡ true) where
+module _ (p : Policy) (rs : List Rule) (h : rising (rule_fits p) action_above None rs ≡ true) where
   pub rule-bounds : (r : Rule) → Memᴰ r rs → RuleParts p r
-  rule-bounds r m = rule-parts p r (rising-at (rule_fits p) action_above none rs h r m)
+  rule-bounds r m = rule-parts p r (rising-at (rule_fits p) action_above None rs h r m)
 
   pub rules-few : length rs ≤ actions p.form
   rules-few =
@@ -233,7 +233,7 @@ module _ (p : Policy) (t : Parts p) where
   pub rules-digits : all rule_digits p.rules ≡ true
   rules-digits =
       all_of rule_digits p.rules
-      (λ r m. rule-digits r (rule-parts p r (rising-at (rule_fits p) action_above none p.rules t.rules r m)))
+      (λ r m. rule-digits r (rule-parts p r (rising-at (rule_fits p) action_above None p.rules t.rules r m)))
 
 -- ---- conflicts
 
@@ -261,7 +261,7 @@ pair_fits_lem n u o x e =
     }
 
 pub pair-bounds : (p : Policy) → Parts p → (x : Pair) → Memᴰ x p.pairs → PairFit (actions p.form) (total p.user) (total p.object) x
-pair-bounds p t x m = pair_fits_lem (actions p.form) (total p.user) (total p.object) x (rising-at (pair_within p) pair_higher none p.pairs t.pairs x m)
+pair-bounds p t x m = pair_fits_lem (actions p.form) (total p.user) (total p.object) x (rising-at (pair_within p) pair_higher None p.pairs t.pairs x m)
 
 -- ---- the lists fit their arrays
 

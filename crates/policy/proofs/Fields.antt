@@ -1,5 +1,6 @@
 -- A line and its fields, both ways: accepted fields are those that their line is written as, and a line is read back
 -- from its own.
+use Rattle.std.specs.Prelude.{Option, Some, None}
 use Prim.Native.Nat.{ℕ, zero, suc, ◌+◌, ◌≤◌}
 use mathlib.Core.Path.{◌≡◌, refl, ◌∙◌}
 use mathlib.Core.Bool.{true}
@@ -20,8 +21,6 @@ use Rattle.text.proofs.RoundTrip.{decimal-number, decimal-value, value-decimal}
 use Rattle.words.specs.Word.{parsed, is_word, word_in, written}
 use Rattle.words.specs.Inner.{in_digits}
 use Rattle.words.specs.declared.Word.{Word}
-use Rattle.words.specs.declared.Parsed.{Parsed}
-use Rattle.words.specs.declared.Parsed.TheVariants.{Is, Malformed}
 use Rattle.words.proofs.RoundTrip.{parsed-written, written-parsed}
 use Rattle.policy.specs.Limits.{most_words}
 use Rattle.policy.specs.Line.{Line, no_numbers, one_number, two_numbers, three_numbers, plain, field_at, number_at, count_fits, form_fits, numbers_of, words_of}
@@ -44,9 +43,9 @@ numbers-later (suc n) i fs e h =
     let r = numbers-later n (suc i) fs (omega (arith, e)) (and_right (is_number (field_at fs i)) _ g) in
     d ∙ rw (r, value-decimal (field_at fs i) (and_left _ _ g))
 
-is_word_lem : (f : List ℕ) (x : Parsed) → parsed f ≡ x → is_word x ≡ true → written (word_in x) ≡ f
-is_word_lem f (Is w) q e = (written-parsed f w q).writes
-is_word_lem f Malformed q e = let z : ◌≡◌ {A = ℕ} 0 1 = cc in absurd (omega arith)
+is_word_lem : (f : List ℕ) (x : Option Word) → parsed f ≡ x → is_word x ≡ true → written (word_in x) ≡ f
+is_word_lem f (Some w) q e = (written-parsed f w q).writes
+is_word_lem f None q e = let z : ◌≡◌ {A = ℕ} 0 1 = cc in absurd (omega arith)
 
 words-later : (fs : List (List ℕ)) → all (λ f. is_word (parsed f)) fs ≡ true → map written (map (λ f. word_in (parsed f)) fs) ≡ fs
 unfolding all

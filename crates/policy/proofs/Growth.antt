@@ -1,9 +1,9 @@
 -- A line that passes checks 6 to 9, 21 and 22 keeps the lists sound, where no line of a later kind was read.
+use Rattle.std.specs.Prelude.{None}
 use Prim.Native.Nat.{ℕ, suc, ◌≤◌}
 use mathlib.Core.Path.{◌≡◌, refl}
 use mathlib.Core.Bool.{true}
 use mathlib.Core.List.{List, [], ◌∷◌, ◌++◌}
-use mathlib.Core.Option.{none}
 use native.Mathlib.Omega.{arith}
 use lib.Dec.{ltb}
 use lib.ListN.{length}
@@ -39,8 +39,8 @@ module _ (most : ℕ) where
   unfolding direct_fits total direct_rises
   more-lines s v j h f a = record { widths = h.widths; lines = rising-more (line_fits s) line_above s.lines (direct v j) h.lines f a }
 
-pub more-entries : (most : ℕ) (s : Side) (es : List Entry) (n x : ℕ) → rising (number_fits most s) number_above none es ≡ true
-    → entry_fits most (total s) n x ≡ true → entry_rises es n ≡ true → rising (number_fits most s) number_above none (with_entry n x es) ≡ true
+pub more-entries : (most : ℕ) (s : Side) (es : List Entry) (n x : ℕ) → rising (number_fits most s) number_above None es ≡ true
+    → entry_fits most (total s) n x ≡ true → entry_rises es n ≡ true → rising (number_fits most s) number_above None (with_entry n x es) ≡ true
 unfolding entry_rises
 more-entries most s es n x h f a = rising-more (number_fits most s) number_above es (record { number = n; set = x }) h f a
 
@@ -65,7 +65,7 @@ plain_fits k p n f a c r b = record { range = f; rise = a; conflict-room = c; pa
 -- ---- rules: a rule's tests look at the form and the sides alone
 
 more-rules : (p : Policy) (n : Numbers) (ws : List Word) → let r : Rule = record { action = n.first; words = ws } in
-    rising (rule_fits p) action_above none p.rules ≡ true → Fits RuleKind p n ws → rising (rule_fits p) action_above none (p.rules ++ (r ∷ [])) ≡ true
+    rising (rule_fits p) action_above None p.rules ≡ true → Fits RuleKind p n ws → rising (rule_fits p) action_above None (p.rules ++ (r ∷ [])) ≡ true
 unfolding rule_sound in_range rises rule_rises balances
 more-rules p n ws h f =
     let a = n.first in
@@ -82,15 +82,15 @@ few-more most xs x e = rw (length-snoc xs x) (omega (arith, ltb-true (length xs)
 -- ---- conflicts: a conflict's test looks at the user side alone
 
 module _ (p : Policy) (n : Numbers) (ws : List Word) (f : Fits ConflictKind p n ws) where
-  more-conflicts : rising (conflict_within p.user) set_above none p.conflicts ≡ true
-      → rising (conflict_within p.user) set_above none (p.conflicts ++ (conflict_in n ∷ [])) ≡ true
+  more-conflicts : rising (conflict_within p.user) set_above None p.conflicts ≡ true
+      → rising (conflict_within p.user) set_above None (p.conflicts ++ (conflict_in n ∷ [])) ≡ true
   unfolding in_range rises conflict_rises
   more-conflicts h = rising-more (conflict_within p.user) set_above p.conflicts (conflict_in n) h f.range f.rise
 
 -- ---- pairs: a pair's test looks at the form and the sides alone
 
 module _ (p : Policy) (n : Numbers) (ws : List Word) (f : Fits PairKind p n ws) where
-  more-pairs : rising (pair_within p) pair_higher none p.pairs ≡ true → rising (pair_within p) pair_higher none (p.pairs ++ (pair_in n ∷ [])) ≡ true
+  more-pairs : rising (pair_within p) pair_higher None p.pairs ≡ true → rising (pair_within p) pair_higher None (p.pairs ++ (pair_in n ∷ [])) ≡ true
   unfolding in_range rises pair_rises
   more-pairs h = rising-more (pair_within p) pair_higher p.pairs (pair_in n) h f.range f.rise
 

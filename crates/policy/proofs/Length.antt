@@ -1,10 +1,10 @@
 -- The text of a sound policy fits the limit of a text: so many lines of each kind at most, each of so many bytes at
 -- most.
+use Rattle.std.specs.Prelude.{None}
 use Prim.Native.Nat.{ℕ, suc, ◌+◌, ◌*◌, ◌≤◌, ◌<◌}
 use mathlib.Core.Path.{◌≡◌, ◌∙◌}
 use mathlib.Core.Bool.{Bool, true}
 use mathlib.Core.List.{List, [], ◌∷◌, ◌++◌, map, Memᴰ}
-use mathlib.Core.Option.{none}
 use native.Mathlib.Nat.{le_trans, mul-le-mul_right}
 use native.Mathlib.Omega.{arith}
 use lib.Dec.{ltb, lit≤}
@@ -178,19 +178,19 @@ module _ (p : Policy) (t : Parts p) (form : is_form p.form ≡ true) where
   directs-group : (k : Kind) (s : Side) → SideParts (values p.form) s → length s.lines ≤ most_of k → Group k (direct_lines k s)
   directs-group k s h l =
       group k (λ (d : Direct). plain k (two_numbers d.senior d.junior)) s.lines l
-      (λ d m. line-bytes (plain k (two_numbers d.senior d.junior)) (direct-short p.form s h d (rising-at (line_fits s) line_above none s.lines h.lines d m)) (omega arith))
+      (λ d m. line-bytes (plain k (two_numbers d.senior d.junior)) (direct-short p.form s h d (rising-at (line_fits s) line_above None s.lines h.lines d m)) (omega arith))
 
   entries-group : (k : Kind) (most : ℕ) → most ≤ object_numbers → most ≤ most_of k → (s : Side) → SideParts (values p.form) s
-      → (es : List Entry) → rising (number_fits most s) number_above none es ≡ true → Group k (entry_lines k es)
+      → (es : List Entry) → rising (number_fits most s) number_above None es ≡ true → Group k (entry_lines k es)
   entries-group k most g l s h es e =
       group k (λ (x : Entry). plain k (two_numbers x.number x.set)) es (le_trans (entries-few most s es e) l)
-      (λ x m. line-bytes (plain k (two_numbers x.number x.set)) (entry-short p.form s h most g x (rising-at (number_fits most s) number_above none es e x m)) (omega arith))
+      (λ x m. line-bytes (plain k (two_numbers x.number x.set)) (entry-short p.form s h most g x (rising-at (number_fits most s) number_above None es e x m)) (omega arith))
 
   conflicts-group : Group ConflictKind (conflict_lines p.conflicts)
   unfolding most_of
   conflicts-group =
       group ConflictKind (λ (x : Conflict). plain ConflictKind (two_numbers x.set x.most)) p.conflicts t.few-conflicts
-      (λ x m. line-bytes (plain ConflictKind (two_numbers x.set x.most)) (conflict-short p.form p.user t.user x (rising-at (conflict_within p.user) set_above none p.conflicts t.conflicts x m)) (omega arith))
+      (λ x m. line-bytes (plain ConflictKind (two_numbers x.set x.most)) (conflict-short p.form p.user t.user x (rising-at (conflict_within p.user) set_above None p.conflicts t.conflicts x m)) (omega arith))
 
   rules-group : Group RuleKind (rule_lines p.rules)
   unfolding most_of
@@ -202,7 +202,7 @@ module _ (p : Policy) (t : Parts p) (form : is_form p.form ≡ true) where
   unfolding most_of
   pairs-group =
       group PairKind (λ (x : Pair). plain PairKind (three_numbers x.action x.user x.object)) p.pairs t.few-pairs
-      (λ x m. line-bytes (plain PairKind (three_numbers x.action x.user x.object)) (pair-short p t x (rising-at (pair_within p) pair_higher none p.pairs t.pairs x m)) (omega arith))
+      (λ x m. line-bytes (plain PairKind (three_numbers x.action x.user x.object)) (pair-short p t x (rising-at (pair_within p) pair_higher None p.pairs t.pairs x m)) (omega arith))
 
   one-group : (k : Kind) (n : Numbers) → 1 ≤ most_of k → Shorts n → Group k (plain k n ∷ [])
   unfolding all

@@ -1,10 +1,10 @@
 -- The order of the kinds: which kind may follow, as inequalities of places, and a policy without the lines of later
 -- kinds.
+use Rattle.std.specs.Prelude.{Option, None, Some}
 use Prim.Native.Nat.{ℕ, zero, suc, ◌≤◌, min}
 use mathlib.Core.Path.{◌≡◌, refl, sym, ap, ◌∙◌}
 use mathlib.Core.Bool.{Bool, true, false, cond, ◌&&◌}
 use mathlib.Core.List.{List, []}
-use mathlib.Core.Option.{Option, none, some}
 use native.Mathlib.Omega.{arith}
 use native.Mathlib.Decide.{dec_lt}
 use lib.Dec.{eqb, leb, ltb}
@@ -24,8 +24,8 @@ use Rattle.policy.specs.Line.{allowed}
 
 -- the place after the last line's kind
 abbrev pub reached : Option Kind → ℕ
-reached none = 0
-reached (some k) = suc (place_of k)
+reached None = 0
+reached (Some k) = suc (place_of k)
 
 -- every text reaches at least this place before its end: behind the last of the kinds that it must have
 abbrev pub required : ℕ
@@ -42,14 +42,14 @@ follows-may j k =
     (each-kind (λ k. agree (follows j k) (may (suc (place_of j)) (place_of k)))
     (each-kind (λ j. every_entry (λ _ k. agree (follows j k) (may (suc (place_of j)) (place_of k))) 0 kinds) refl j) k)
 
-first-may : (k : Kind) → allowed none k ≡ may 0 (place_of k)
+first-may : (k : Kind) → allowed None k ≡ may 0 (place_of k)
 unfolding allowed
-first-may k = agree-eq (allowed none k) (may 0 (place_of k)) (each-kind (λ k. agree (allowed none k) (may 0 (place_of k))) refl k)
+first-may k = agree-eq (allowed None k) (may 0 (place_of k)) (each-kind (λ k. agree (allowed None k) (may 0 (place_of k))) refl k)
 
 allowed-may : (b : Option Kind) (k : Kind) → allowed b k ≡ may (reached b) (place_of k)
 unfolding allowed
-allowed-may none k = first-may k
-allowed-may (some j) k = follows-may j k
+allowed-may None k = first-may k
+allowed-may (Some j) k = follows-may j k
 
 pub record May (i j : ℕ) : Type 0 where
   pub low : min j required ≤ i

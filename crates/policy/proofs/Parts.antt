@@ -1,8 +1,8 @@
 -- The tests of a sound policy taken apart, list by list, and put together again.
+use Rattle.std.specs.Prelude.{None}
 use Prim.Native.Nat.{ℕ, ◌≤◌, ◌<◌}
 use mathlib.Core.Path.{◌≡◌}
 use mathlib.Core.Bool.{Bool, true, ◌&&◌}
-use mathlib.Core.Option.{none}
 use lib.Dec.{leb, ltb}
 use lib.ListN.{length}
 use borrow.Author.Tests.{leb-true, ltb-true, le-leb}
@@ -38,7 +38,7 @@ pair_within p = pair_fits (actions p.form) (total p.user) (total p.object)
 
 pub record SideParts (most : ℕ) (s : Side) : Type 0 where
   pub widths : widths_sound most 0 s.widths ≡ true
-  pub lines : rising (line_fits s) line_above none s.lines ≡ true
+  pub lines : rising (line_fits s) line_above None s.lines ≡ true
 
 pub side-parts : (most : ℕ) (s : Side) → side_sound most s ≡ true → SideParts most s
 unfolding side_sound
@@ -72,25 +72,25 @@ rule-parts p r e =
 pub record Parts (p : Policy) : Type 0 where
   pub user : SideParts (values p.form) p.user
   pub object : SideParts (values p.form) p.object
-  pub users : rising (number_fits user_numbers p.user) number_above none p.users ≡ true
-  pub objects : rising (number_fits object_numbers p.object) number_above none p.objects ≡ true
+  pub users : rising (number_fits user_numbers p.user) number_above None p.users ≡ true
+  pub objects : rising (number_fits object_numbers p.object) number_above None p.objects ≡ true
   pub few-conflicts : length p.conflicts ≤ most_conflicts
-  pub conflicts : rising (conflict_within p.user) set_above none p.conflicts ≡ true
-  pub rules : rising (rule_fits p) action_above none p.rules ≡ true
+  pub conflicts : rising (conflict_within p.user) set_above None p.conflicts ≡ true
+  pub rules : rising (rule_fits p) action_above None p.rules ≡ true
   pub few-pairs : length p.pairs ≤ most_pairs
-  pub pairs : rising (pair_within p) pair_higher none p.pairs ≡ true
+  pub pairs : rising (pair_within p) pair_higher None p.pairs ≡ true
 
 pub parts : (p : Policy) → lists_sound p ≡ true → Parts p
 unfolding lists_sound
 parts p e =
     let e₁ = and_right (side_sound (values p.form) p.user) _ e in
     let e₂ = and_right (side_sound (values p.form) p.object) _ e₁ in
-    let e₃ = and_right (rising (number_fits user_numbers p.user) number_above none p.users) _ e₂ in
-    let e₄ = and_right (rising (number_fits object_numbers p.object) number_above none p.objects) _ e₃ in
+    let e₃ = and_right (rising (number_fits user_numbers p.user) number_above None p.users) _ e₂ in
+    let e₄ = and_right (rising (number_fits object_numbers p.object) number_above None p.objects) _ e₃ in
     let c = leb (length p.conflicts) most_conflicts in
-    let f = and_left (c && rising (conflict_within p.user) set_above none p.conflicts) _ e₄ in
-    let e₅ = and_right (c && rising (conflict_within p.user) set_above none p.conflicts) _ e₄ in
-    let e₆ = and_right (rising (rule_fits p) action_above none p.rules) _ e₅ in
+    let f = and_left (c && rising (conflict_within p.user) set_above None p.conflicts) _ e₄ in
+    let e₅ = and_right (c && rising (conflict_within p.user) set_above None p.conflicts) _ e₄ in
+    let e₆ = and_right (rising (rule_fits p) action_above None p.rules) _ e₅ in
     record {
       user = side-parts (values p.form) p.user (and_left _ _ e);
       object = side-parts (values p.form) p.object (and_left _ _ e₁);

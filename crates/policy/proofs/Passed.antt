@@ -1,24 +1,22 @@
 -- A line is not refused exactly where each of its checks passes.
+use Rattle.std.specs.Prelude.{Option, None, Some}
 use Prim.Native.Nat.{ℕ}
 use mathlib.Core.Path.{◌≡◌, refl}
 use mathlib.Core.Bool.{Bool, true, false, not}
 use mathlib.Core.List.{List, [], ◌∷◌}
-use mathlib.Core.Option.{Option, none}
 use native.Mathlib.Omega.{arith}
 use lib.ListN.{length}
 use Rattle.basis.specs.Choice.{Check, check, first_broken}
 use Rattle.text.specs.Parts.{TextLine, fields}
 use Rattle.text.specs.Kind.{layout_of}
 use Rattle.text.specs.declared.kind.Kind.{Kind}
-use Rattle.text.specs.declared.kind.Named.{Named}
-use Rattle.text.specs.declared.kind.Named.TheVariants.{Is, Unknown}
 use Rattle.policy.specs.Policy.{Policy}
 use Rattle.policy.specs.Line.{allowed, count_fits, form_fits, line_of}
 use Rattle.policy.specs.Checks.{line_in_range, line_rises, line_conflict_room, line_pair_room, line_widths_equal, line_balances}
 use Rattle.policy.specs.Read.{checks_of, checks_for, refusal_of, State, kind_of, line_refusal}
 
 -- the first of some checks passes, and no other is broken
-pub unbroken-next : (n : ℕ) (b : Bool) (cs : List Check) → first_broken (check n (not b) ∷ cs) ≡ none → (b ≡ true) × (first_broken cs ≡ none)
+pub unbroken-next : (n : ℕ) (b : Bool) (cs : List Check) → first_broken (check n (not b) ∷ cs) ≡ None → (b ≡ true) × (first_broken cs ≡ None)
 unfolding first_broken
 unbroken-next n true cs e = (refl, e)
 unbroken-next n false cs e = let z : ◌≡◌ {A = ℕ} 0 1 = cc in absurd (omega arith)
@@ -37,7 +35,7 @@ pub record Passed (before : Option Kind) (p : Policy) (ended : Bool) (k : Kind) 
   pub balance : line_balances (line_of k fs) ≡ true
 
 module _ (before : Option Kind) (p : Policy) (ended : Bool) where
-  pub passed : (k : Kind) (fs : List (List ℕ)) → refusal_of before p ended (Is k) fs ≡ none → Passed before p ended k fs
+  pub passed : (k : Kind) (fs : List (List ℕ)) → refusal_of before p ended (Some k) fs ≡ None → Passed before p ended k fs
   unfolding refusal_of checks_for checks_of
   passed k fs e =
       let l = line_of k fs in
@@ -53,24 +51,24 @@ module _ (before : Option Kind) (p : Policy) (ended : Bool) where
       let e₉ = unbroken-next 9 (line_balances l) _ e₈.1 in
       record { ends = e₂.0; order = e₃.0; count = e₄.0; form = e₅.0; range = e₆.0; rise = e₇.0; conflict-room = e₂₂.0; pair-room = e₂₁.0; equal = e₈.0; balance = e₉.0 }
 
-  pub not-refused : (k : Kind) (fs : List (List ℕ)) → Passed before p ended k fs → refusal_of before p ended (Is k) fs ≡ none
+  pub not-refused : (k : Kind) (fs : List (List ℕ)) → Passed before p ended k fs → refusal_of before p ended (Some k) fs ≡ None
   unfolding refusal_of checks_for checks_of first_broken
   not-refused k fs c = rw (c.ends, c.order, c.count, c.form, c.range, c.rise, c.conflict-room, c.pair-room, c.equal, c.balance)
 
   -- a line of no known kind is refused
-  pub unknown_refused : (fs : List (List ℕ)) → refusal_of before p ended Unknown fs ≡ none → ⊥
+  pub unknown_refused : (fs : List (List ℕ)) → refusal_of before p ended None fs ≡ None → ⊥
   unfolding refusal_of checks_for first_broken
   unknown_refused fs e = let r = (unbroken-next 2 ended (check 3 true ∷ []) e).1 in let z : ◌≡◌ {A = ℕ} 0 1 = cc r in omega arith
 
 -- the kind of a line that is not refused, and its checks
 pub record Taken (s : State) (l : TextLine) : Type 0 where
   pub kind : Kind
-  pub named : kind_of l.bytes ≡ Is kind
+  pub named : kind_of l.bytes ≡ Some kind
   pub checks : Passed s.before s.policy l.ended kind (fields l.bytes)
 
-pub taken : (s : State) (l : TextLine) → line_refusal s l ≡ none → Taken s l
+pub taken : (s : State) (l : TextLine) → line_refusal s l ≡ None → Taken s l
 taken s l e = go (kind_of l.bytes) refl
   where
-    go : (n : Named) → kind_of l.bytes ≡ n → Taken s l
-    go Unknown q = absurd (unknown_refused s.before s.policy l.ended (fields l.bytes) (rw q at e))
-    go (Is k) q = record { kind = k; named = q; checks = passed s.before s.policy l.ended k (fields l.bytes) (rw q at e) }
+    go : (n : Option Kind) → kind_of l.bytes ≡ n → Taken s l
+    go None q = absurd (unknown_refused s.before s.policy l.ended (fields l.bytes) (rw q at e))
+    go (Some k) q = record { kind = k; named = q; checks = passed s.before s.policy l.ended k (fields l.bytes) (rw q at e) }

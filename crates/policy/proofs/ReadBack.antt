@@ -1,9 +1,9 @@
 -- Lines that are read back: one line that passes its checks, the lines of a kind, and a list that rises.
+use Rattle.std.specs.Prelude.{Option, None, Some}
 use Prim.Native.Nat.{ℕ, suc, ◌+◌, ◌≤◌, ◌<◌, min}
 use mathlib.Core.Path.{◌≡◌, refl, sym, ◌∙◌}
 use mathlib.Core.Bool.{Bool, true}
 use mathlib.Core.List.{List, [], ◌∷◌, ◌++◌, map, append-nil}
-use mathlib.Core.Option.{Option, none, some}
 use native.Mathlib.Omega.{arith}
 use lib.ListN.{length}
 use lib.Seq.{append_snoc}
@@ -65,7 +65,7 @@ good_passed b p l a g =
     }
 
 pub leads-line : (b : Option Kind) (p : Policy) (l : Line) (ls : List Line) (q : Policy) → allowed b l.kind ≡ true → Good p l
-    → Leads (state (some l.kind) (with_line_of l p)) ls q → Leads (state b p) (l ∷ ls) q
+    → Leads (state (Some l.kind) (with_line_of l p)) ls q → Leads (state b p) (l ∷ ls) q
 unfolding read_lines after
 leads-line b p l ls q a g h n =
     rw (fields-text l, named-word l.kind, not-refused b p true l.kind (fields_of l) (good_passed b p l a g), g.back.numbers, g.back.words) (h (suc n))
@@ -88,7 +88,7 @@ module _ {A : Type 0} (k : Kind) (no_policy : place_of PolicyKind < place_of k) 
   kind-from (x ∷ rest) done b e m d o =
       leads-line b (put done) (line x) (map line rest ++ more) q (rw (kinds x) (order-allowed b k m)) (good done x rest o)
       (rw (grow done x, kinds x)
-      (kind-from rest (done ++ (x ∷ [])) (some k) (append_snoc done x rest ∙ e)
+      (kind-from rest (done ++ (x ∷ [])) (Some k) (append_snoc done x rest ∙ e)
       (record { low = omega arith; high = omega arith; first = λ h. omega arith }) (λ h. omega arith) (next done x rest o)))
 
   pub kind-lines : (b : Option Kind) → May (reached b) (place_of k) → (length xs ≡ 0 → min (suc (place_of k)) required ≤ reached b) → Ok [] xs
@@ -110,7 +110,7 @@ module _ {A : Type 0} (most : ℕ) (k : Kind) (free : required ≤ place_of k) (
   rises_next done x rest e =
       (rw (last_snoc done x) (head fits above (last done) x rest e.0).rest, omega (arith, e.1, length-snoc done x))
 
-  pub rising-lines : (xs : List A) → rising fits above none xs ≡ true → length xs ≤ most → (more : List Line) (q : Policy)
+  pub rising-lines : (xs : List A) → rising fits above None xs ≡ true → length xs ≤ most → (more : List Line) (q : Policy)
       → ((b : Option Kind) → May (reached b) (suc (place_of k)) → Leads (state b (put xs)) more q)
       → (b : Option Kind) → May (reached b) (place_of k) → Leads (state b (put [])) (map line xs ++ more) q
   unfolding last

@@ -1,10 +1,10 @@
 -- What holds of a state while a text is read: the lists are sound, no line of a later kind was read, and what is due
 -- was; each line keeps it.
+use Rattle.std.specs.Prelude.{None, Some}
 use Prim.Native.Nat.{ℕ, suc, ◌+◌, ◌≤◌, ◌<◌}
 use mathlib.Core.Path.{◌≡◌, refl, ap, ◌∙◌, subst}
 use mathlib.Core.Bool.{Bool, true}
 use mathlib.Core.List.{List, [], ◌∷◌, ◌++◌}
-use mathlib.Core.Option.{none, some}
 use native.Mathlib.Omega.{arith}
 use lib.Dec.{leb}
 use lib.ListN.{length, drop, length-append, length-drop, length-map}
@@ -13,7 +13,6 @@ use Rattle.basis.proofs.Bools.{and_right}
 use Rattle.text.specs.Parts.{TextLine, fields}
 use Rattle.text.specs.Kind.{layout_of, place_of}
 use Rattle.text.specs.declared.kind.Kind.{Kind}
-use Rattle.text.specs.declared.kind.Named.TheVariants.{Is}
 use Rattle.text.specs.declared.kind.Kind.TheVariants.{Policy as PolicyKind, Uattr, Oattr, Usen, Osen, User, Object, Conflict as ConflictKind, Rule as RuleKind, Pair as PairKind, End}
 use Rattle.text.specs.declared.kind.Layout.{Layout}
 use Rattle.text.specs.declared.kind.Layout.TheVariants.{Bare, One, Two, Three, Formula}
@@ -99,7 +98,7 @@ module _ (k : Kind) (s : State) (r : Reading s) (a : allowed s.before k ≡ true
   pub none-later : cut (suc (place_of k)) s.policy ≡ s.policy
   none-later = cut-more (reached s.before) (suc (place_of k)) s.policy (omega (arith, (allowed-order s.before k a).high)) r.later
 
-  pub reading-more : (n : Numbers) (ws : List Word) → Fits k s.policy n ws → Reading (record { before = some k; policy = extended k n ws s.policy })
+  pub reading-more : (n : Numbers) (ws : List Word) → Fits k s.policy n ws → Reading (record { before = Some k; policy = extended k n ws s.policy })
   reading-more n ws f =
       record {
         lists = lists-sound (extended k n ws s.policy)
@@ -126,13 +125,13 @@ pub line-fits : (s : State) (e : Bool) (k : Kind) (fs : List (List ℕ)) → Pas
 line-fits s e k fs c = record { range = c.range; rise = c.rise; conflict-room = c.conflict-room; pair-room = c.pair-room; equal = c.equal; balance = c.balance; few = few_words (layout_of k) fs c.count }
 
 pub reading-kind : (s : State) (e : Bool) (k : Kind) (fs : List (List ℕ)) → Reading s → Passed s.before s.policy e k fs
-    → Reading (after (Is k) fs s)
+    → Reading (after (Some k) fs s)
 unfolding after
 reading-kind s e k fs r c =
     let l = line_of k fs in
     reading-more k s r c.order l.numbers l.words (line-fits s e k fs c)
 
-pub reading-next : (s : State) (l : TextLine) → Reading s → line_refusal s l ≡ none → Reading (line_after s l)
+pub reading-next : (s : State) (l : TextLine) → Reading s → line_refusal s l ≡ None → Reading (line_after s l)
 reading-next s l r e =
     let t = taken s l e in
     rw t.named (reading-kind s l.ended t.kind (fields l.bytes) r t.checks)

@@ -1,9 +1,9 @@
 -- The lines of the policy so far, while a text is read: each line that is taken adds itself at their end.
+use Rattle.std.specs.Prelude.{Option, None, Some}
 use Prim.Native.Nat.{ℕ, suc, ◌≤◌, ◌<◌}
 use mathlib.Core.Path.{◌≡◌, refl, sym, ap, ◌∙◌, subst}
 use mathlib.Core.Bool.{true, cond}
 use mathlib.Core.List.{List, [], ◌∷◌, ◌++◌, map, append-nil}
-use mathlib.Core.Option.{Option, none, some}
 use native.Mathlib.Omega.{arith}
 use lib.Dec.{lit<}
 use lib.ListN.{take, drop}
@@ -24,15 +24,15 @@ use Rattle.policy.proofs.Order.{reached, allowed-order, cut}
 use Rattle.policy.proofs.Groups.{flat-more, groups, open_lines, lines_from, lines-open}
 
 unfoldable pub so_far : Option Kind → Policy → List Line
-so_far none p = []
-so_far (some k) p = open_lines p ++ cond (is_kind End k) (lines_from End p) []
+so_far None p = []
+so_far (Some k) p = open_lines p ++ cond (is_kind End k) (lines_from End p) []
 
 so_far-open : (b : Option Kind) (p : Policy) → place_of PolicyKind < reached b → reached b ≤ place_of End → so_far b p ≡ open_lines p
 unfolding so_far
-so_far-open none p h g = absurd (omega arith)
-so_far-open (some k) p h g = rw (ne_eqb (place_of End) (place_of k) (λ e. omega (arith, e)), append-nil)
+so_far-open None p h g = absurd (omega arith)
+so_far-open (Some k) p h g = rw (ne_eqb (place_of End) (place_of k) (λ e. omega (arith, e)), append-nil)
 
-pub so_far-all : (k : Kind) (p : Policy) → is_kind End k ≡ true → so_far (some k) p ≡ lines_of p
+pub so_far-all : (k : Kind) (p : Policy) → is_kind End k ≡ true → so_far (Some k) p ≡ lines_of p
 unfolding so_far
 so_far-all k p h = rw h (sym (lines-open p))
 
@@ -69,14 +69,14 @@ open_more End fs p h g = absurd (omega arith)
 
 module _ (fs : List (List ℕ)) (b : Option Kind) (p : Policy) where
   mid_more : (k : Kind) → place_of PolicyKind < place_of k → place_of k < place_of End → cut (suc (place_of k)) p ≡ p → allowed b k ≡ true
-      → so_far (some k) (with_line_of (line_of k fs) p) ≡ so_far b p ++ (line_of k fs ∷ [])
+      → so_far (Some k) (with_line_of (line_of k fs) p) ≡ so_far b p ++ (line_of k fs ∷ [])
   mid_more k h g e a =
       let m = allowed-order b k a in
-      so_far-open (some k) (with_line_of (line_of k fs) p) (omega arith) (omega arith)
+      so_far-open (Some k) (with_line_of (line_of k fs) p) (omega arith) (omega arith)
       ∙ subst (λ (q : Policy). open_lines (with_line_of (line_of k fs) q) ≡ open_lines q ++ (line_of k fs ∷ [])) e (open_more k fs p h g)
       ∙ ap (λ (ls : List Line). ls ++ (line_of k fs ∷ [])) (sym (so_far-open b p (omega (arith, m.low)) (omega (arith, m.high))))
 
-  end_more : cut (suc (place_of End)) p ≡ p → allowed b End ≡ true → so_far (some End) (with_line_of (line_of End fs) p) ≡ so_far b p ++ (line_of End fs ∷ [])
+  end_more : cut (suc (place_of End)) p ≡ p → allowed b End ≡ true → so_far (Some End) (with_line_of (line_of End fs) p) ≡ so_far b p ++ (line_of End fs ∷ [])
   unfolding so_far lines_from groups numbers_of words_of extended
   end_more e a =
       let m = allowed-order b End a in
@@ -84,21 +84,21 @@ module _ (fs : List (List ℕ)) (b : Option Kind) (p : Policy) where
 
 nothing_read : (b : Option Kind) (p : Policy) → reached b ≡ 0 → so_far b p ≡ []
 unfolding so_far
-nothing_read none p e = refl
-nothing_read (some k) p e = absurd (omega arith)
+nothing_read None p e = refl
+nothing_read (Some k) p e = absurd (omega arith)
 
 first-open : (fs : List (List ℕ)) (p : Policy) → cut (suc (place_of PolicyKind)) p ≡ p → open_lines (with_line_of (line_of PolicyKind fs) p) ≡ line_of PolicyKind fs ∷ []
 unfolding open_lines groups numbers_of words_of extended cut
 first-open fs p e = subst (λ (q : Policy). open_lines (with_line_of (line_of PolicyKind fs) q) ≡ line_of PolicyKind fs ∷ []) e refl
 
 first_more : (fs : List (List ℕ)) (b : Option Kind) (p : Policy) → cut (suc (place_of PolicyKind)) p ≡ p → allowed b PolicyKind ≡ true
-    → so_far (some PolicyKind) (with_line_of (line_of PolicyKind fs) p) ≡ so_far b p ++ (line_of PolicyKind fs ∷ [])
+    → so_far (Some PolicyKind) (with_line_of (line_of PolicyKind fs) p) ≡ so_far b p ++ (line_of PolicyKind fs ∷ [])
 first_more fs b p e a =
-    so_far-open (some PolicyKind) (with_line_of (line_of PolicyKind fs) p) (omega arith) (omega arith)
+    so_far-open (Some PolicyKind) (with_line_of (line_of PolicyKind fs) p) (omega arith) (omega arith)
     ∙ first-open fs p e ∙ rw (nothing_read b p ((allowed-order b PolicyKind a).first refl))
 
 pub so_far_more : (k : Kind) (fs : List (List ℕ)) (b : Option Kind) (p : Policy) → cut (suc (place_of k)) p ≡ p → allowed b k ≡ true
-    → so_far (some k) (with_line_of (line_of k fs) p) ≡ so_far b p ++ (line_of k fs ∷ [])
+    → so_far (Some k) (with_line_of (line_of k fs) p) ≡ so_far b p ++ (line_of k fs ∷ [])
 so_far_more PolicyKind fs b p = first_more fs b p
 so_far_more Uattr fs b p = mid_more fs b p Uattr (lit< tt) (lit< tt)
 so_far_more Oattr fs b p = mid_more fs b p Oattr (lit< tt) (lit< tt)

@@ -1,9 +1,9 @@
 -- The lines of a sound policy are read back as the policy: list by list, from the end line to the first.
+use Rattle.std.specs.Prelude.{Option, None, Some}
 use Prim.Native.Nat.{ℕ, suc, ◌≤◌, ◌<◌}
 use mathlib.Core.Path.{◌≡◌, refl}
 use mathlib.Core.Bool.{true, false≢true}
 use mathlib.Core.List.{List, [], ◌∷◌, ◌++◌, map}
-use mathlib.Core.Option.{Option, none, some}
 use native.Mathlib.Omega.{arith}
 use lib.Dec.{lit≤, lit<}
 use lib.ListN.{length}
@@ -186,12 +186,12 @@ module _ (p : Policy) (t : Parts p) where
   first-line : is_form p.form ≡ true → From Uattr → Leads start (lines_from PolicyKind p) p
   unfolding lines_from groups blank cut extended in_range rises balances
   first-line f then =
-      leads-line none blank (plain PolicyKind (one_number p.form)) (lines_from Uattr p) p (order-allowed none PolicyKind (record { low = omega arith; high = omega arith; first = λ h. refl }))
+      leads-line None blank (plain PolicyKind (one_number p.form)) (lines_from Uattr p) p (order-allowed None PolicyKind (record { low = omega arith; high = omega arith; first = λ h. refl }))
       (record {
         back = one-back PolicyKind refl p.form (one-short p.form (form-few p.form f));
         fits = plain_fits PolicyKind blank _ f refl refl refl refl;
       })
-      (then (some PolicyKind) (record { low = omega arith; high = omega arith; first = λ h. omega arith }))
+      (then (Some PolicyKind) (record { low = omega arith; high = omega arith; first = λ h. omega arith }))
 
 pub leads-all : (p : Policy) → Whole p → Leads start (lines_of p) p
 leads-all p w =

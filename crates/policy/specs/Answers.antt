@@ -1,14 +1,11 @@
 -- What the answers of the code stand for: the document's number of each refusal, and its values.
-use Rattle.std.specs.Prelude.{ℕ, ◌≡◌, Bool, cond}
-use Rattle.std.proofs.Math.Option.{Option, none, some}
+use Rattle.std.specs.Prelude.{ℕ, ◌≡◌, Bool, cond, Option, None, Some, Result, Ok, Err, IsErrAnd}
 use Rattle.policy.specs.Policy.{blank}
 use Rattle.policy.specs.Read.{Outcome, Accepted, Refused}
 use Rattle.policy.specs.Value.{value_of}
 use Rattle.policy.specs.declared.value.PolicyValue.{PolicyValue}
-use Rattle.policy.specs.declared.value.Reading.{Reading}
-use Rattle.policy.specs.declared.value.Verdict.{Verdict}
-use Rattle.policy.specs.declared.value.Verdict.TheVariants.{Accepted as AcceptedText, Refused as RefusedText}
 use Rattle.policy.specs.declared.refusal.Refusal.{Refusal}
+use Rattle.policy.specs.declared.value.Rejection.{Rejection}
 use Rattle.policy.specs.declared.refusal.Refusal.TheVariants.{TextTooLong, LineFeedMissing, KindNotAllowed, WrongFieldCount, MalformedField, OutOfRange, NotRising, UnequalWidths, UnbalancedFormula, EndMissing, InvalidState, UnknownAction, UnknownSession, UnregisteredUser, UnregisteredObject, SessionOpen, SessionNotOpen, SessionOfAnother, SetOutOfReach, BufferTooShort, TooManyPairs, TooManyConflicts, TooManyHeld}
 
 abbrev pub number_of : Refusal → ℕ
@@ -36,6 +33,11 @@ number_of TooManyPairs = 21
 number_of TooManyConflicts = 22
 number_of TooManyHeld = 23
 
+-- what a call's answer stands for: what it gives, or the number of its refusal
+abbrev pub answer_of : {A : Type 0} → Result A Refusal → Result A ℕ
+answer_of (Ok a) = Ok a
+answer_of (Err r) = Err (number_of r)
+
 -- granted, denied or refused, and done for a session call that is no request
 pub data Reply : Type 0 where
   done : Reply
@@ -55,21 +57,17 @@ reply_number (refused n) = n
 
 -- ---- reading
 
--- the refusal of a reading, with its line: what the code's verdict says, and what an outcome is
-abbrev pub refused_by : Verdict → Option (ℕ × ℕ)
-refused_by AcceptedText = none
-refused_by (RefusedText r l) = some (number_of r, l)
-
+-- the refusal that an outcome is, with its line
 abbrev pub refusal_in : Outcome → Option (ℕ × ℕ)
-refusal_in (Accepted p) = none
-refusal_in (Refused n l) = some (n, l)
+refusal_in (Accepted p) = None
+refusal_in (Refused n l) = Some (n, l)
 
--- "A refused read yields no policy": the blank value stands beside a refusal
+-- "A refused read yields no policy": the blank value crosses to C beside a refusal
 unfoldable pub value_in : Outcome → PolicyValue
 value_in (Accepted p) = value_of p
 value_in (Refused n l) = value_of blank
 
--- the answer to a text is its outcome
-pub record ReadAs (o : Outcome) (r : Reading) : Type 0 where
-  pub verdict : refused_by r.verdict ≡ refusal_in o
-  pub value : r.policy ≡ value_in o
+-- the answer to a text is its outcome: the value of its policy, or the refusal's number and its line
+abbrev pub ReadAs : Outcome → Result PolicyValue Rejection → Type 0
+ReadAs (Accepted p) r = r ≡ Ok (value_of p)
+ReadAs (Refused n l) r = IsErrAnd r (λ e. (number_of e.refusal ≡ n) × (e.line ≡ l))

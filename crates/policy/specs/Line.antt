@@ -1,6 +1,5 @@
 -- A line of a text taken apart: refusals 3, 4 and 5.
-use Rattle.std.specs.Prelude.{ℕ, ◌+◌, Bool, ◌&&◌, List, [], map, eqb, leb, get_or, drop}
-use Rattle.std.proofs.Math.Option.{Option, none, some}
+use Rattle.std.specs.Prelude.{ℕ, ◌+◌, Bool, ◌&&◌, List, [], map, eqb, leb, get_or, drop, Option, None, Some}
 use Rattle.basis.specs.Lists.{all}
 use Rattle.text.specs.Number.{is_number, value_of}
 use Rattle.text.specs.Kind.{layout_of, is_kind, follows}
@@ -40,8 +39,8 @@ rule_line a ws = record { kind = Rule; numbers = one_number a; words = ws }
 
 -- the kind may stand after the line before it: "line 0 is policy"
 unfoldable pub allowed : Option Kind → Kind → Bool
-allowed none k = is_kind Policy k
-allowed (some j) k = follows j k
+allowed None k = is_kind Policy k
+allowed (Some j) k = follows j k
 
 -- ---- by layout, from the fields of a line, of which the first is its word
 

@@ -1,6 +1,5 @@
 -- What a policy text says: its lines by kind, in text order. Every definition of a policy's meaning speaks of this.
-use Rattle.std.specs.Prelude.{ℕ, zero, suc, ◌-◌, ◌^◌, Bool, cond, ◌||◌, List, [], ◌∷◌, eqb, ltb, get_or, take}
-use Rattle.std.proofs.Math.Option.{Option, none, some}
+use Rattle.std.specs.Prelude.{ℕ, zero, suc, ◌-◌, ◌^◌, Bool, cond, ◌||◌, List, [], ◌∷◌, eqb, ltb, get_or, take, Option, None, Some}
 use Rattle.basis.specs.Choice.{there}
 use Rattle.basis.specs.Lists.{any, sum}
 use Rattle.seniority.specs.declared.Direct.{Direct}
@@ -63,13 +62,13 @@ attribute_of (w ∷ ws) v = cond (ltb v w) zero (suc (attribute_of ws (v - w)))
 
 -- the set of a registered user or object
 unfoldable pub set_of_number : List Entry → ℕ → Option ℕ
-set_of_number [] n = none
-set_of_number (e ∷ es) n = cond (eqb e.number n) (some e.set) (set_of_number es n)
+set_of_number [] n = None
+set_of_number (e ∷ es) n = cond (eqb e.number n) (Some e.set) (set_of_number es n)
 
 -- the formula of an action, where it has a rule
 unfoldable pub formula_in : List Rule → ℕ → Option (List Word)
-formula_in [] a = none
-formula_in (r ∷ rs) a = cond (eqb r.action a) (some r.words) (formula_in rs a)
+formula_in [] a = None
+formula_in (r ∷ rs) a = cond (eqb r.action a) (Some r.words) (formula_in rs a)
 
 -- an action "with a rule or a pair"
 unfoldable pub named : Policy → ℕ → Bool

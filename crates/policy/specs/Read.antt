@@ -1,13 +1,10 @@
 -- Reading a text: "The first faulty line decides", and in it the first number in the order of testing.
-use Rattle.std.specs.Prelude.{ℕ, suc, Bool, true, false, cond, not, List, [], ◌∷◌, ltb, length}
-use Rattle.std.proofs.Math.Option.{Option, none, some}
+use Rattle.std.specs.Prelude.{ℕ, suc, Bool, true, false, cond, not, List, [], ◌∷◌, ltb, length, Option, None, Some}
 use Rattle.basis.specs.Choice.{given, Check, check, first_broken}
 use Rattle.text.specs.Parts.{TextLine, fields, lines}
 use Rattle.text.specs.Kind.{named, layout_of, is_kind}
 use Rattle.text.specs.declared.kind.Kind.{Kind}
 use Rattle.text.specs.declared.kind.Kind.TheVariants.{End}
-use Rattle.text.specs.declared.kind.Named.{Named}
-use Rattle.text.specs.declared.kind.Named.TheVariants.{Is, Unknown}
 use Rattle.policy.specs.Limits.{text_bytes}
 use Rattle.policy.specs.Policy.{Policy, blank}
 use Rattle.policy.specs.Line.{allowed, count_fits, form_fits, field_at, line_of}
@@ -19,7 +16,7 @@ pub data Outcome : Type 0 where
   Refused : (number line : ℕ) → Outcome
 
 -- the kind that a line's first field names
-abbrev pub kind_of : List ℕ → Named
+abbrev pub kind_of : List ℕ → Option Kind
 kind_of l = named (field_at (fields l) 0)
 
 -- the checks of a line of a known kind, after the line before it and the policy of all lines before it, in the order of
@@ -39,12 +36,12 @@ checks_of before p ended k fs =
     ∷ []
 
 -- those of a line whose first field names this kind, or none
-unfoldable pub checks_for : Option Kind → Policy → Bool → Named → List (List ℕ) → List Check
-checks_for before p ended Unknown fs = check 2 (not ended) ∷ check 3 true ∷ []
-checks_for before p ended (Is k) fs = checks_of before p ended k fs
+unfoldable pub checks_for : Option Kind → Policy → Bool → Option Kind → List (List ℕ) → List Check
+checks_for before p ended None fs = check 2 (not ended) ∷ check 3 true ∷ []
+checks_for before p ended (Some k) fs = checks_of before p ended k fs
 
 -- its refusal, or none
-unfoldable pub refusal_of : Option Kind → Policy → Bool → Named → List (List ℕ) → Option ℕ
+unfoldable pub refusal_of : Option Kind → Policy → Bool → Option Kind → List (List ℕ) → Option ℕ
 refusal_of before p ended k fs = first_broken (checks_for before p ended k fs)
 
 -- what the lines before a line leave: the kind of the last one, and the policy of them all
@@ -53,12 +50,12 @@ pub record State : Type 0 where
   pub policy : Policy
 
 abbrev pub start : State
-start = record { before = none; policy = blank }
+start = record { before = None; policy = blank }
 
 -- after an accepted line
-unfoldable pub after : Named → List (List ℕ) → State → State
-after Unknown fs s = s
-after (Is k) fs s = record { before = some k; policy = with_line_of (line_of k fs) s.policy }
+unfoldable pub after : Option Kind → List (List ℕ) → State → State
+after None fs s = s
+after (Some k) fs s = record { before = Some k; policy = with_line_of (line_of k fs) s.policy }
 
 abbrev pub line_checks : State → TextLine → List Check
 line_checks s l = checks_for s.before s.policy l.ended (kind_of l.bytes) (fields l.bytes)

@@ -3,4 +3,5 @@
 
 pub mod limits;
 pub mod refusal;
+pub mod stored;
 pub mod value;

@@ -6,7 +6,8 @@ ghost use Rattle.policy.specs.Limits as limits;
 // The most bytes of a text.
 pub const TEXT_BYTES: usize = 8192;
 
-// The forms. The second has more actions than the first, the third more values than both.
+// The forms. The second has more actions than the first, the third more values than both. A form stays a number in
+// the policy value, which crosses to C and may hold any.
 const FORM_1: u32 = 1;
 
 const FORM_2: u32 = 2;
@@ -52,46 +53,38 @@ pub const MOST_TUPLES: usize = MOST_SETS * MOST_SETS;
 pub const MOST_LINES: usize = MOST_VALUES * (MOST_VALUES - 1) / 2;
 
 // In how many bits a label is stored, and a table's entry.
-#[derive(Clone, Copy)]
+#[derive(Clone, Copy, PartialEq, Eq)]
 pub struct Widths {
     pub label: u32,
     pub entry: u32,
 }
 
 // The stored widths that calls are made for.
-pub const WIDTHS_8_8: Widths = Widths { label: 8, entry: 8 };
+const WIDTHS_8_8: Widths = Widths { label: 8, entry: 8 };
 
-pub const WIDTHS_8_16: Widths = Widths {
+const WIDTHS_8_16: Widths = Widths {
     label: 8,
     entry: 16,
 };
 
-pub const WIDTHS_16_16: Widths = Widths {
+const WIDTHS_16_16: Widths = Widths {
     label: 16,
     entry: 16,
 };
 
-// The width of what is stored in a byte.
-pub const BYTE: u32 = 8;
-
 // The stored widths of tuples.
-pub const TUPLE_16: u32 = 16;
+const TUPLE_16: u32 = 16;
 
-pub const TUPLE_32: u32 = 32;
+const TUPLE_32: u32 = 32;
 
 pub fn is_form(form: u32) -> bool
     ensures { result ≡ limits.is_form form }
 {
-    if form == FORM_1 {
-        return true;
-    }
-    if form == FORM_2 {
-        return true;
-    }
-    form == FORM_3
+    matches!(form, FORM_1 | FORM_2 | FORM_3)
 }
 
 // The greatest width and sum of a side.
+#[tactic(auto, unfolding(crate::specs::Limits::values))]
 pub fn values(form: u32) -> u32
     ensures { result ≡ limits.values form }
 {
@@ -102,6 +95,7 @@ pub fn values(form: u32) -> u32
     }
 }
 
+#[tactic(auto, unfolding(crate::specs::Limits::actions))]
 pub fn actions(form: u32) -> u32
     ensures { result ≡ limits.actions form }
 {
@@ -113,19 +107,19 @@ pub fn actions(form: u32) -> u32
 }
 
 // The stored widths of a form.
+#[tactic(auto, unfolding(crate::specs::Limits::stored_widths))]
 fn stored_widths(form: u32) -> Widths
     ensures { result ≡ limits.stored_widths form }
 {
-    if form == FORM_1 {
-        return WIDTHS_8_8;
+    match form {
+        FORM_1 => WIDTHS_8_8,
+        FORM_3 => WIDTHS_16_16,
+        _ => WIDTHS_8_16,
     }
-    if form == FORM_3 {
-        return WIDTHS_16_16;
-    }
-    WIDTHS_8_16
 }
 
 // In how many bits a form stores a tuple.
+#[tactic(auto, unfolding(crate::specs::Limits::tuple_bits))]
 pub fn tuple_bits(form: u32) -> u32
     ensures { result ≡ limits.tuple_bits form }
 {
@@ -133,12 +127,9 @@ pub fn tuple_bits(form: u32) -> u32
 }
 
 // Whether a call that is made for these widths is made for the form's own.
+#[tactic(auto, unfolding(crate::specs::Limits::own_widths))]
 pub fn own_widths(form: u32, asked: Widths) -> bool
     ensures { result ≡ limits.own_widths form asked }
 {
-    let own = stored_widths(form);
-    if asked.label == own.label {
-        return asked.entry == own.entry;
-    }
-    false
+    asked == stored_widths(form)
 }

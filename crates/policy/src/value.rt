@@ -1,9 +1,11 @@
-// The policy value: what the text says, line by line and in text order; every place past a count is blank.
+// The policy value: what the text says, line by line and in text order; every place past a count is blank. It crosses to
+// C as it is: a count beside each array, numbers for forms and words, and any bytes may come in, so no invariants.
 ghost use Rattle.std.specs.Prelude.{◌≡◌, []};
 ghost use Rattle.policy.specs.Policy.{blank_side, blank};
 ghost use Rattle.policy.specs.Value.{side_value, register, value_of};
 
 use crate::limits;
+use crate::refusal::Refusal;
 use seniority::Direct;
 
 // The places of each array of a policy value.
@@ -33,7 +35,7 @@ pub struct SideValue {
 
 // A registered user or object: its number and its set.
 #[repr(C)]
-#[derive(Clone, Copy)]
+#[derive(Clone, Copy, Default)]
 pub struct Entry {
     pub number: u32,
     pub set: u32,
@@ -49,7 +51,7 @@ pub struct Register {
 
 // A conflict line: a set of user values, and how many of them a session may hold at most.
 #[repr(C)]
-#[derive(Clone, Copy)]
+#[derive(Clone, Copy, Default)]
 pub struct Conflict {
     pub set: u32,
     pub most: u32,
@@ -64,7 +66,7 @@ pub struct Conflicts {
 
 // A rule: its action and the words of its formula, each by its number.
 #[repr(C)]
-#[derive(Clone, Copy)]
+#[derive(Clone, Copy, Default)]
 pub struct RuleValue {
     pub action: u32,
     pub count: usize,
@@ -80,7 +82,7 @@ pub struct Rules {
 
 // A pair line: its action, a user value and an object value.
 #[repr(C)]
-#[derive(Clone, Copy)]
+#[derive(Clone, Copy, Default)]
 pub struct Pair {
     pub action: u32,
     pub user: u32,
@@ -111,15 +113,11 @@ pub struct PolicyValue {
 fn blank_side() -> SideValue
     ensures { result ≡ side_value blank_side }
 {
-    let direct = Direct {
-        senior: 0,
-        junior: 0,
-    };
     SideValue {
         attributes: 0,
         widths: [0; WIDTH_PLACES],
         lines: 0,
-        seniority: [direct; LINE_PLACES],
+        seniority: [Direct::default(); LINE_PLACES],
     }
 }
 
@@ -129,36 +127,15 @@ fn blank_register() -> Register
 {
     Register {
         count: 0,
-        entries: [Entry { number: 0, set: 0 }; ENTRY_PLACES],
+        entries: [Entry::default(); ENTRY_PLACES],
     }
 }
 
-// The blank value, which stands beside a refusal: no line of any kind.
+// The blank value, which crosses to C beside a refusal: no line of any kind. Check 11 refuses it.
 pub fn blank() -> PolicyValue
     ensures { result ≡ value_of blank }
 {
-    let conflicts = Conflicts {
-        count: 0,
-        entries: [Conflict { set: 0, most: 0 }; CONFLICT_PLACES],
-    };
-    let rule = RuleValue {
-        action: 0,
-        count: 0,
-        words: [0; WORD_PLACES],
-    };
-    let rules = Rules {
-        count: 0,
-        entries: [rule; RULE_PLACES],
-    };
-    let pair = Pair {
-        action: 0,
-        user: 0,
-        object: 0,
-    };
-    let pairs = Pairs {
-        count: 0,
-        entries: [pair; PAIR_PLACES],
-    };
+    // No derived `Default`: arrays have it up to 32 places, and a side's lines, a register and the pairs have more.
     // Each side and each register is made in its place, so that it is not copied there.
     PolicyValue {
         form: 0,
@@ -166,22 +143,24 @@ pub fn blank() -> PolicyValue
         object: blank_side(),
         users: blank_register(),
         objects: blank_register(),
-        conflicts,
-        rules,
-        pairs,
+        conflicts: Conflicts {
+            count: 0,
+            entries: [Conflict::default(); CONFLICT_PLACES],
+        },
+        rules: Rules {
+            count: 0,
+            entries: [RuleValue::default(); RULE_PLACES],
+        },
+        pairs: Pairs {
+            count: 0,
+            entries: [Pair::default(); PAIR_PLACES],
+        },
     }
 }
 
-// What reading a text finds: the refusal and its line, or that the text is accepted.
-#[derive(Clone, Copy)]
-pub enum Verdict {
-    Accepted,
-    Refused(crate::refusal::Refusal, usize),
-}
-
-// The answer of reading: beside a refusal stands the blank value, which check 11 refuses.
-#[derive(Clone, Copy)]
-pub struct Reading {
-    pub verdict: Verdict,
-    pub policy: PolicyValue,
+// Why reading refuses a text: the refusal, and the line that breaks it.
+#[derive(Clone, Copy, PartialEq, Eq)]
+pub struct Rejection {
+    pub refusal: Refusal,
+    pub line: usize,
 }

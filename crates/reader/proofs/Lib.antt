@@ -4,10 +4,7 @@ pub mod Rising
 pub mod Runs
 pub mod FormLine
 pub mod WidthLines
-pub mod DirectLines
-pub mod EntryLines
 pub mod RuleLines
-pub mod LimitedLines
+pub mod RisingLines
 pub mod Sections
-pub mod Answers
 pub mod Whole

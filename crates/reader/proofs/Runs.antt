@@ -1,9 +1,9 @@
 -- The lines of one kind, read one after the other: none yet, one more, one that is refused, and the end of them.
-use Prim.Native.Nat.{ℕ, suc}
+use Rattle.std.specs.Prelude.{None, Some, Result, Ok, Err}
+use Prim.Native.Nat.{ℕ, suc, ◌+◌}
 use mathlib.Core.Path.{◌≡◌, refl, sym, ap, ◌∙◌}
 use mathlib.Core.Bool.{Bool, true, false, not}
 use mathlib.Core.List.{List, [], ◌∷◌, ◌++◌}
-use mathlib.Core.Option.{none, some}
 use Rattle.basis.specs.Choice.{Check, check, first_broken}
 use Rattle.basis.specs.Lists.{all}
 use Rattle.text.specs.Kind.{layout_of, place_of}
@@ -12,17 +12,18 @@ use Rattle.text.specs.declared.kind.Layout.TheVariants.{One, Two, Three}
 use Rattle.policy.specs.Answers.{number_of}
 use Rattle.policy.specs.Checks.{sizes, in_range, rises, balances, with_line_of}
 use Rattle.policy.specs.Line.{numbers_of, words_of, line_of}
-use Rattle.policy.specs.Policy.{Policy}
+use Rattle.policy.specs.Policy.{Policy, blank}
+use Rattle.policy.specs.Read.{read_lines}
+use Rattle.policy.specs.declared.value.Rejection.{Rejection}
+use Rattle.text.specs.Parts.{lines}
+use lib.ListN.{drop}
 use Rattle.policy.specs.declared.refusal.Refusal.{Refusal}
 use Rattle.line.specs.Inner.Head.{numbers_fit}
 use Rattle.line.specs.Inner.Rule.{number_in}
-use Rattle.line.specs.declared.rule.Fault.{Fault as LineFault}
-use Rattle.line.specs.declared.rule.Fault.TheVariants.{None, Is}
-use Rattle.reader.specs.Inner.Cursor.{fields_at, refusal_at, left, bare_at, LineAt, Stands, Reads, NextOf, ahead_is}
-use Rattle.reader.specs.Inner.Lists.{Listed, ReadBy, Wordless, Test, room_checks, TestedBy, TestedLines, fault_by}
-use Rattle.reader.specs.declared.cursor.Ahead.TheVariants.{Line, Fault}
+use Rattle.reader.specs.Inner.Cursor.{fields_at, refusal_at, left, refused_as, LineAt, Stands, Reads, NextOf, ahead_is}
+use Rattle.reader.specs.Inner.Lists.{Listed, ReadBy, RefusedBy, Wordless, Test, room_checks, TestedBy, TestedLines, TestedRefused, tested_by}
 use Rattle.reader.specs.declared.cursor.Cursor.{Cursor}
-use Rattle.reader.proofs.Cursors.{fault-bare, ahead_not, next_past, left-taken, left-refused}
+use Rattle.reader.proofs.Cursors.{ahead_not, next_past, left-behind, left-taken, left-refused}
 
 -- ---- a line without words
 
@@ -46,8 +47,8 @@ unfolding refusal_at first_broken all
 plain-refusal t c k l p i r w e f = rw (w.form (fields_at t c), l.form, w.words (fields_at t c), w.balance, ← l.numbers, e, f) refl
 
 -- the first of them, where f is that of room
-faults_first : (i r : Bool) (cs : List Check) (f : LineFault) → first_broken cs ≡ number_in f
-    → first_broken (check 6 (not i) ∷ check 7 (not r) ∷ cs) ≡ number_in (fault_by i r f)
+faults_first : (i r : Bool) (cs : List Check) (f : Result (Unit {0}) Refusal) → first_broken cs ≡ number_in f
+    → first_broken (check 6 (not i) ∷ check 7 (not r) ∷ cs) ≡ number_in (tested_by i r f)
 unfolding first_broken
 faults_first false r cs f e = refl
 faults_first true false cs f e = refl
@@ -68,34 +69,35 @@ module _ (t : List ℕ) (k : Kind) {A : Type 0} (Fits : Listed k A → Policy �
     pub all_read : ahead_is d.ahead k ≡ false → ReadBy t k Fits (suc (place_of k)) c d xs
     all_read e = record { stands = i.stands; past = λ h j q. ahead_not d.ahead k j e q (i.past h j q); left = i.left }
 
-    module _ (e : d.ahead ≡ Line k) (b : Cursor) where
+    module _ (e : d.ahead ≡ Some k) where
       -- the line at d is taken, and says a
-      pub one-read : NextOf t d k b → (a : A)
-          → ((x : Listed k A) (p : Policy) → Fits x p → x.items p ≡ []
-          → (refusal_at (x.with xs p) k (fields_at t d) ≡ none) × (x.said (numbers_of (layout_of k) (fields_at t d)) (words_of (layout_of k) (fields_at t d)) ≡ a))
-          → ReadBy t k Fits (place_of k) c b (xs ++ (a ∷ []))
-      one-read n a f =
-          record {
-            stands = n.stands;
-            past = λ h. next_past t d k b n;
-            left = λ x p g z.
-                let r = f x p g z in
-                let l = line_of k (fields_at t d) in
-                let q : with_line_of l (x.with xs p) ≡ x.with (xs ++ (a ∷ [])) p =
-                x.extends (x.with xs p) l.numbers l.words ∙ rw (x.got xs p, r.1) (x.again xs (xs ++ (a ∷ [])) p) in
-                i.left x p g z ∙ left-taken t d k b e n (x.with xs p) r.0 ∙ ap (left t b) q;
-          }
+      module _ (a : A)
+          (f : (x : Listed k A) (p : Policy) → Fits x p → x.items p ≡ []
+          → (refusal_at (x.with xs p) k (fields_at t d) ≡ None) × (x.said (numbers_of (layout_of k) (fields_at t d)) (words_of (layout_of k) (fields_at t d)) ≡ a)) where
+        with-it : (x : Listed k A) (p : Policy) → Fits x p → x.items p ≡ [] → with_line_of (line_of k (fields_at t d)) (x.with xs p) ≡ x.with (xs ++ (a ∷ [])) p
+        with-it x p g z =
+            let l = line_of k (fields_at t d) in
+            x.extends (x.with xs p) l.numbers l.words ∙ rw (x.got xs p, (f x p g z).1) (x.again xs (xs ++ (a ∷ [])) p)
+
+        pub one-read : (b : Cursor) → NextOf t d k b → ReadBy t k Fits (place_of k) c b (xs ++ (a ∷ []))
+        one-read b n =
+            record {
+              stands = n.stands;
+              past = λ h. next_past t d k b n;
+              left = λ x p g z.
+                  i.left x p g z ∙ left-taken t d k b e n (x.with xs p) (f x p g z).0 ∙ ap (left t b) (with-it x p g z);
+            }
+
+        -- and what stands behind it is refused
+        pub next-refused : (r : Rejection)
+            → ((p : Policy) → read_lines (record { before = Some k; policy = p }) (d.line + 1) (lines (drop (d.end + 1) t)) ≡ refused_as r) → RefusedBy t k Fits c r
+        next-refused r n x p g z = i.left x p g z ∙ left-behind t d k e (x.with xs p) (f x p g z).0 ∙ n (with_line_of (line_of k (fields_at t d)) (x.with xs p))
 
       -- or it is refused
-      pub refused-read : (r : Refusal) → b ≡ bare_at d.at d.line (Fault r)
-          → ((x : Listed k A) (p : Policy) → Fits x p → x.items p ≡ [] → refusal_at (x.with xs p) k (fields_at t d) ≡ some (number_of r))
-          → ReadBy t k Fits (place_of k) c b xs
-      refused-read r q f =
-          record {
-            stands = rw q (λ j z. absurd (fault-bare r j z));
-            past = rw q (λ h j z. absurd (fault-bare r j z));
-            left = λ x p g z. i.left x p g z ∙ left-refused t d k r b e q (x.with xs p) (f x p g z);
-          }
+      pub refused-read : (r : Refusal)
+          → ((x : Listed k A) (p : Policy) → Fits x p → x.items p ≡ [] → refusal_at (x.with xs p) k (fields_at t d) ≡ Some (number_of r))
+          → RefusedBy t k Fits c (record { refusal = r; line = d.line })
+      refused-read r f x p g z = i.left x p g z ∙ left-refused t d k r e (x.with xs p) (f x p g z)
 
 -- ---- lines that are tested
 
@@ -104,28 +106,38 @@ module _ {t : List ℕ} {k : Kind} {A : Type 0} {z : Test A} {c d : Cursor} {xs 
   abbrev next : A
   next = z.says d.numbers
 
-  abbrev fault : LineFault
-  fault = fault_by (z.fits xs next) (z.rises xs next) (z.room xs)
+  abbrev tested : Result (Unit {0}) Refusal
+  tested = tested_by (z.fits xs next) (z.rises xs next) (z.room xs)
 
-  module _ (q : d.ahead ≡ Line k) where
-    tested-refusal : (x : Listed k A) (p : Policy) → TestedBy k z x p → refusal_at (x.with xs p) k (fields_at t d) ≡ number_in fault
+  module _ (q : d.ahead ≡ Some k) where
+    tested-refusal : (x : Listed k A) (p : Policy) → TestedBy k z x p → refusal_at (x.with xs p) k (fields_at t d) ≡ number_in tested
     tested-refusal x p f =
         plain-refusal t d k (l.stands k q) (x.with xs p) (z.fits xs next) (z.rises xs next) f.layout (f.range xs d.numbers) (f.rise xs d.numbers)
         ∙ faults_first (z.fits xs next) (z.rises xs next) (room_checks k (x.with xs p)) (z.room xs) (f.space xs)
 
     -- a line that breaks nothing is taken
-    pub tested-more : fault ≡ None → (b : Cursor) → NextOf t d k b → TestedLines t k z (place_of k) c b (xs ++ (next ∷ []))
-    tested-more e b i =
-        one-read t k (TestedBy k z) l q b i next
-        (λ x p f v. (tested-refusal x p f ∙ ap number_in e, f.said _ _ ∙ ap z.says (sym (l.stands k q).numbers)))
+    module _ (u : Unit {0}) (e : tested ≡ Ok u) where
+      said-it : (x : Listed k A) (p : Policy) → TestedBy k z x p → x.items p ≡ []
+          → (refusal_at (x.with xs p) k (fields_at t d) ≡ None) × (x.said (numbers_of (layout_of k) (fields_at t d)) (words_of (layout_of k) (fields_at t d)) ≡ next)
+      said-it x p f v = (tested-refusal x p f ∙ ap number_in e, f.said _ _ ∙ ap z.says (sym (l.stands k q).numbers))
+
+      pub tested-more : (b : Cursor) → NextOf t d k b → TestedLines t k z (place_of k) c b (xs ++ (next ∷ []))
+      tested-more b i = one-read t k (TestedBy k z) l q next said-it b i
+
+      pub tested-next : (r : Rejection)
+          → ((p : Policy) → read_lines (record { before = Some k; policy = p }) (d.line + 1) (lines (drop (d.end + 1) t)) ≡ refused_as r) → TestedRefused t k z c r
+      tested-next r n = next-refused t k (TestedBy k z) l q next said-it r n
 
     -- and another refused
-    pub tested-out : (r : Refusal) → fault ≡ Is r → (b : Cursor) → b ≡ bare_at d.at d.line (Fault r) → TestedLines t k z (place_of k) c b xs
-    tested-out r e b i = refused-read t k (TestedBy k z) l q b r i (λ x p f v. tested-refusal x p f ∙ ap number_in e)
+    pub tested-out : (r : Refusal) → tested ≡ Err r → TestedRefused t k z c (record { refusal = r; line = d.line })
+    tested-out r e = refused-read t k (TestedBy k z) l q r (λ x p f v. tested-refusal x p f ∙ ap number_in e)
 
 -- ---- one list behind others
 
-module _ {t : List ℕ} {c d e : Cursor} {k : Kind} {A : Type 0} {Fits : Listed k A → Policy → Type 0} {xs : List A} {p : Policy} where
-  pub then : Reads t c (place_of k) d p → ReadBy t k Fits (suc (place_of k)) d e xs → (x : Listed k A) → Fits x p → x.items p ≡ []
+module _ {t : List ℕ} {c d : Cursor} {k : Kind} {A : Type 0} {Fits : Listed k A → Policy → Type 0} {p : Policy} (r : Reads t c (place_of k) d p) where
+  pub then : {e : Cursor} {xs : List A} → ReadBy t k Fits (suc (place_of k)) d e xs → (x : Listed k A) → Fits x p → x.items p ≡ []
       → Reads t c (suc (place_of k)) e (x.with xs p)
-  then r l x f z = record { stands = l.stands; past = l.past r.past; left = r.left ∙ l.left x p f z }
+  then l x f z = record { stands = l.stands; past = l.past r.past; left = r.left ∙ l.left x p f z }
+
+  pub then-refused : (e : Rejection) → RefusedBy t k Fits d e → (x : Listed k A) → Fits x p → x.items p ≡ [] → left t c blank ≡ refused_as e
+  then-refused e l x f z = r.left ∙ l x p f z

@@ -1,7 +1,7 @@
 -- Where the lines of each kind stand in a policy, and what is asked of them.
+use Rattle.std.specs.Prelude.{None, Some}
 use mathlib.Core.Path.{◌≡◌, refl, ap}
 use mathlib.Core.Bool.{Bool, true, false, cond, not}
-use mathlib.Core.Option.{none, some}
 use Prim.Native.Nat.{ℕ}
 use lib.Dec.{ltb}
 use lib.ListN.{length}
@@ -10,7 +10,7 @@ use Rattle.seniority.specs.Seniority.{direct}
 use Rattle.seniority.specs.declared.Direct.{Direct}
 use Rattle.text.specs.declared.kind.Kind.TheVariants.{Uattr, Oattr, Usen, Osen, User, Object, Conflict as ConflictKind, Rule as RuleKind, Pair as PairKind}
 use Rattle.policy.specs.Answers.{number_of}
-use Rattle.policy.specs.Checks.{SideSizes, side_sizes, direct_fits, conflict_in, pair_in, in_range, direct_rises, conflict_rises, rule_rises, pair_rises, rises, with_user, with_object, with_users, with_objects, with_conflicts, with_rules, with_pairs, extended}
+use Rattle.policy.specs.Checks.{SideSizes, side_sizes, direct_fits, conflict_in, pair_in, in_range, direct_rises, entry_rises, conflict_rises, rule_rises, pair_rises, rises, with_user, with_object, with_users, with_objects, with_conflicts, with_rules, with_pairs, extended}
 use Rattle.policy.specs.Limits.{values, actions, user_numbers, object_numbers, most_conflicts, most_pairs}
 use Rattle.policy.specs.Policy.{Rule, Policy, total}
 use Rattle.policy.specs.declared.refusal.Refusal.{Refusal}
@@ -19,7 +19,7 @@ use Rattle.policy.specs.declared.value.Entry.{Entry}
 use Rattle.policy.specs.declared.value.Conflict.{Conflict}
 use Rattle.policy.specs.declared.value.Pair.{Pair}
 use Rattle.line.specs.Inner.Rule.{number_in}
-use Rattle.reader.specs.Inner.Lists.{Listed, TestedBy, room_by, width_test, direct_test, entry_test, limited_test, conflicts_by, pairs_by, RuleKindOf}
+use Rattle.reader.specs.Inner.Lists.{Listed, TestedBy, room_by, width_test, direct_test, entry_test, conflict_test, pair_test, RuleKindOf}
 use Rattle.reader.proofs.Runs.{one-wordless, two-wordless, three-wordless}
 
 -- ---- widths
@@ -140,16 +140,16 @@ objects =
     }
 
 pub user : {p : Policy} {n : ℕ} → total p.user ≡ n → TestedBy User (entry_test user_numbers n) users p
-unfolding users in_range rises first_broken
+unfolding users in_range rises entry_rises first_broken
 user e = record { layout = two-wordless; said = λ n ws. refl; range = λ xs n. rw e; rise = λ xs n. refl; space = λ xs. refl }
 
 pub object : {p : Policy} {n : ℕ} → total p.object ≡ n → TestedBy Object (entry_test object_numbers n) objects p
-unfolding objects in_range rises first_broken
+unfolding objects in_range rises entry_rises first_broken
 object e = record { layout = two-wordless; said = λ n ws. refl; range = λ xs n. rw e; rise = λ xs n. refl; space = λ xs. refl }
 
 -- ---- lists with a limit: a line past it breaks one check
 
-full-broken : (r : Refusal) (room : Bool) → cond (not room) (some (number_of r)) none ≡ number_in (room_by room r)
+full-broken : (r : Refusal) (room : Bool) → cond (not room) (Some (number_of r)) None ≡ number_in (room_by room r)
 full-broken r true = refl
 full-broken r false = refl
 
@@ -168,7 +168,7 @@ conflicts =
       same = λ p. refl;
     }
 
-pub conflict : {p : Policy} {u : ℕ} → total p.user ≡ u → TestedBy ConflictKind (limited_test (conflicts_by u)) conflicts p
+pub conflict : {p : Policy} {u : ℕ} → total p.user ≡ u → TestedBy ConflictKind (conflict_test u) conflicts p
 unfolding conflicts in_range rises conflict_rises first_broken
 conflict e = record { layout = two-wordless; said = λ n ws. refl; range = λ xs n. rw e; rise = λ xs n. refl; space = λ xs. full-broken TooManyConflicts (ltb (length xs) most_conflicts) }
 
@@ -207,6 +207,6 @@ pairs =
     }
 
 pub pair : {p : Policy} {n u o : ℕ} → actions p.form ≡ n → total p.user ≡ u → total p.object ≡ o
-    → TestedBy PairKind (limited_test (pairs_by n u o)) pairs p
+    → TestedBy PairKind (pair_test n u o) pairs p
 unfolding pairs in_range rises pair_rises first_broken
 pair e f g = record { layout = three-wordless; said = λ n ws. refl; range = λ xs n. rw (e, f, g); rise = λ xs n. refl; space = λ xs. full-broken TooManyPairs (ltb (length xs) most_pairs) }

@@ -4,7 +4,13 @@ use mathlib.Core.Path.{◌≡◌, refl, sym, ◌∙◌}
 use mathlib.Core.Bool.{Bool, true, false}
 use mathlib.Core.List.{List, [], ◌∷◌, ◌++◌}
 use native.Mathlib.Omega.{arith}
-use lib.ListN.{length, set}
+use Rattle.std.specs.Prelude.{Some}
+use lib.ListN.{length, set, drop}
+use Rattle.text.specs.Parts.{lines}
+use Rattle.policy.specs.Policy.{Policy}
+use Rattle.policy.specs.Read.{read_lines}
+use Rattle.policy.specs.declared.value.Rejection.{Rejection}
+use Rattle.checks.specs.declared.shape.Shape.{Shape}
 use Rattle.basis.specs.Lists.{sum, padded}
 use Rattle.basis.proofs.Padded.{padded-more}
 use Rattle.basis.proofs.Snoc.{length-snoc, sum-snoc}
@@ -15,12 +21,10 @@ use Rattle.policy.specs.Limits.{most_values}
 use Rattle.policy.specs.Value.{width_places}
 use Rattle.policy.specs.declared.refusal.Refusal.TheVariants.{OutOfRange}
 use Rattle.policy.proofs.Bounds.{width_fits_lem}
-use Rattle.reader.specs.Inner.Cursor.{bare_at, Stands, NextOf, ahead_is}
-use Rattle.reader.specs.Inner.Lists.{TestedBy, TestedLines, width_test, WidthsFrom}
-use Rattle.reader.specs.declared.cursor.Ahead.TheVariants.{Line, Fault}
+use Rattle.reader.specs.Inner.Cursor.{refused_as, Stands, NextOf, ahead_is}
+use Rattle.reader.specs.Inner.Lists.{TestedBy, TestedLines, TestedRefused, width_test, WidthsFrom}
 use Rattle.reader.specs.declared.cursor.Cursor.{Cursor}
-use Rattle.reader.proofs.Cursors.{ahead_there}
-use Rattle.reader.proofs.Runs.{none_read, all_read, tested-more, tested-out}
+use Rattle.reader.proofs.Runs.{none_read, all_read, tested-more, tested-next, tested-out}
 
 -- what is held between two lines
 pub record WidthsHeld (t : List ℕ) (k : Kind) (most : ℕ) (c : Cursor) (ws : List ℕ) (n u : ℕ) (d : Cursor) : Type 0 where
@@ -38,14 +42,14 @@ no_widths t k most c s =
     record { widths = []; stored = refl; count = refl; total = refl; few = omega arith; small = omega arith; lines = none_read t k (TestedBy k (width_test most)) c s }
 
 module _ {t : List ℕ} {k : Kind} {most : ℕ} {c : Cursor} {ws : List ℕ} {n u : ℕ} {d : Cursor} (h : WidthsHeld t k most c ws n u d) where
-  pub widths-read : (r : Bool) → r ≡ ahead_is d.ahead k → r ≡ false → WidthsFrom t k most c (record { shape = record { attributes = n; widths = ws; total = u }; cursor = d })
-  widths-read r e f =
+  pub widths-read : (x : Shape) → x.attributes ≡ n → x.widths ≡ ws → x.total ≡ u → most ≤ most_values → ahead_is d.ahead k ≡ false → WidthsFrom t k most c x d
+  widths-read x a b e m f =
       record {
         widths = h.widths;
-        shape = rw (h.stored, h.count, h.total);
+        shape = record { attributes = a ∙ h.count; widths = b ∙ h.stored; total = e ∙ h.total; small = omega (arith, e, h.total, h.small, m) };
         few = h.few;
         small = h.small;
-        lines = all_read t k (TestedBy k (width_test most)) h.lines (sym e ∙ f);
+        lines = all_read t k (TestedBy k (width_test most)) h.lines f;
       }
 
   module _ (w : ℕ) (r : Bool) (e : r ≡ width_fits most u w) where
@@ -56,36 +60,29 @@ module _ {t : List ℕ} {k : Kind} {most : ℕ} {c : Cursor} {ws : List ℕ} {n 
     pub width-sum : r ≡ true → u + w ≤ most
     width-sum g = (width_fits_lem most u w (sym e ∙ g)).fits
 
-  module _ (a : Bool) (o : a ≡ ahead_is d.ahead k) (y : a ≡ true) (r : Bool) (e : r ≡ width_fits most u d.numbers.first) (b : Cursor) where
-    abbrev q : d.ahead ≡ Line k
-    q = ahead_there d.ahead k a o y
-
+  module _ (q : d.ahead ≡ Some k) (r : Bool) (e : r ≡ width_fits most u d.numbers.first) where
     -- check 6 decides
     width-tested : width_fits most (sum h.widths) d.numbers.first ≡ r
     width-tested = rw (← h.total) (sym e)
 
-    pub width-more : r ≡ true → most ≤ most_values → NextOf t d k b → WidthsHeld t k most c (set ws n d.numbers.first) (n + 1) (u + d.numbers.first) b
-    width-more g m i =
-        let w = d.numbers.first in
-        let z = width_fits_lem most u w (sym e ∙ g) in
-        record {
-          widths = h.widths ++ (w ∷ []);
-          stored = rw (h.stored, h.count) (sym (padded-more width_places 0 h.widths w (omega (arith, width_room w r e g m, h.count))));
-          count = rw (length-snoc h.widths w, h.count);
-          total = rw (sum-snoc h.widths w, h.total);
-          few = omega (arith, length-snoc h.widths w, sum-snoc h.widths w, h.few, z.some);
-          small = omega (arith, sum-snoc h.widths w, h.total, z.fits);
-          lines = tested-more h.lines q (rw (width-tested ∙ g)) b i;
-        }
+    pub width-out : r ≡ false → TestedRefused t k (width_test most) c (record { refusal = OutOfRange; line = d.line })
+    width-out g = tested-out h.lines q OutOfRange (rw (width-tested ∙ g))
 
-    pub width-out : r ≡ false → b ≡ bare_at d.at d.line (Fault OutOfRange) → WidthsHeld t k most c ws n u b
-    width-out g i =
-        record {
-          widths = h.widths;
-          stored = h.stored;
-          count = h.count;
-          total = h.total;
-          few = h.few;
-          small = h.small;
-          lines = tested-out h.lines q OutOfRange (rw (width-tested ∙ g)) b i;
-        }
+    module _ (g : r ≡ true) where
+      pub width-next : (x : Rejection) → ((p : Policy) → read_lines (record { before = Some k; policy = p }) (d.line + 1) (lines (drop (d.end + 1) t)) ≡ refused_as x)
+          → TestedRefused t k (width_test most) c x
+      width-next x i = tested-next h.lines q tt (rw (width-tested ∙ g)) x i
+
+      pub width-more : most ≤ most_values → (b : Cursor) → NextOf t d k b → WidthsHeld t k most c (set ws n d.numbers.first) (n + 1) (u + d.numbers.first) b
+      width-more m b i =
+          let w = d.numbers.first in
+          let z = width_fits_lem most u w (sym e ∙ g) in
+          record {
+            widths = h.widths ++ (w ∷ []);
+            stored = rw (h.stored, h.count) (sym (padded-more width_places 0 h.widths w (omega (arith, width_room w r e g m, h.count))));
+            count = rw (length-snoc h.widths w, h.count);
+            total = rw (sum-snoc h.widths w, h.total);
+            few = omega (arith, length-snoc h.widths w, sum-snoc h.widths w, h.few, z.some);
+            small = omega (arith, sum-snoc h.widths w, h.total, z.fits);
+            lines = tested-more h.lines q tt (rw (width-tested ∙ g)) b i;
+          }

@@ -1,51 +1,64 @@
 // The conflicts of a text.
-ghost use Rattle.std.specs.Prelude.{◌≤◌};
+ghost use Rattle.std.specs.Prelude.{◌≡◌, ◌≤◌, []};
+ghost use Rattle.policy.specs.Checks.{conflict_in, conflict_fits};
 ghost use Rattle.policy.specs.Limits.{most_values};
+ghost use Rattle.policy.specs.Value.{conflicts_value};
 ghost use Rattle.reader.specs.Inner.Cursor.{Stands};
-ghost use Rattle.reader.specs.Inner.Lists.{ConflictsFrom};
+ghost use Rattle.reader.specs.Inner.Lists.{ConflictsRead};
 
 use crate::cursor::Cursor;
-use line::rule::Fault;
+use crate::lines::Lines;
+use checks::shape::Shape;
 use policy::refusal::Refusal;
-use policy::value::{CONFLICT_PLACES, Conflict, Conflicts};
+use policy::value::{Conflict, Conflicts, Rejection};
 use text::kind::Kind;
+use text::number::Numbers;
 
+// Of the user side.
 #[derive(Clone, Copy)]
-pub struct ConflictsRead {
-    pub conflicts: Conflicts,
-    pub cursor: Cursor,
+struct ConflictLines {
+    user: Shape,
+    ghost small: { user.total ≤ most_values },
 }
 
-// The conflicts from the cursor on, of so many user values.
-pub fn read(text: &[u8], cursor: Cursor, users: u32) -> ConflictsRead
-    requires { Stands text.now cursor × (users ≤ most_values) }
-    ensures { ConflictsFrom text.now users cursor result }
-{
-    let mut last = Conflict { set: 0, most: 0 };
-    let mut entries = [last; CONFLICT_PLACES];
-    let mut count: usize = 0;
-    let mut c = cursor;
-    while crate::cursor::is_at(c, Kind::Conflict) {
-        let conflict = Conflict {
-            set: c.numbers.first,
-            most: c.numbers.second,
-        };
-        let fits = checks::conflict::fits(users, conflict);
-        let rising = checks::conflict::rises(count, last, conflict);
-        let room = count < CONFLICT_PLACES;
-        let f = crate::limited::fault(fits, rising, room, Refusal::TooManyConflicts);
-        if let Fault::Is(r) = f {
-            c = crate::cursor::stop(c, r);
-        } else {
-            entries[count] = conflict;
-            count += 1;
-            last = conflict;
-            c = crate::cursor::next(text, c, Kind::Conflict);
+impl Lines for ConflictLines {
+    type Element = Conflict;
+
+    ghost says = { conflict_in };
+
+    ghost passes = { λ s x. conflict_fits s.user.total x };
+
+    fn said(&self, numbers: Numbers) -> Conflict {
+        Conflict {
+            set: numbers.first,
+            most: numbers.second,
         }
     }
-    let conflicts = Conflicts { count, entries };
-    ConflictsRead {
-        conflicts,
-        cursor: c,
+
+    fn fits(&self, x: &Conflict) -> bool {
+        self.user.conflict_fits(x)
     }
+}
+
+// The conflicts from the cursor on, of values of this user side, into a list with none.
+pub fn read(
+    text: &[u8],
+    cursor: Cursor,
+    user: &Shape,
+    list: &mut Conflicts,
+) -> Result<Cursor, Rejection>
+    requires { Stands text.now cursor × (user.now.total ≤ most_values) × (list.old ≡ conflicts_value []) }
+    ensures { ConflictsRead text.now user.now.total cursor list.new result }
+{
+    let lines = ConflictLines { user: *user };
+    let (count, c) = crate::lines::read(
+        text,
+        cursor,
+        Kind::Conflict,
+        &lines,
+        Refusal::TooManyConflicts,
+        &mut list.entries,
+    )?;
+    list.count = count;
+    Ok(c)
 }

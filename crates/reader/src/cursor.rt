@@ -1,21 +1,12 @@
 // A place in a text, and what stands there.
-ghost use Rattle.std.specs.Prelude.{◌≡◌, ◌≤◌, length};
+ghost use Rattle.std.specs.Prelude.{◌≡◌, ◌≤◌, length, Some};
 ghost use Rattle.policy.specs.Limits.{text_bytes};
-ghost use Rattle.reader.specs.Inner.Cursor.{Stands, LookedAt, FirstOf, NextOf, bare_at, ahead_is};
-ghost use Rattle.reader.specs.declared.cursor.Ahead.TheVariants as ahead;
+ghost use Rattle.reader.specs.Inner.Cursor.{Stands, Looked, First, Next, ahead_is};
 
-use line::head::{Before, Head};
 use policy::refusal::Refusal;
+use policy::value::Rejection;
 use text::kind::Kind;
 use text::number::Numbers;
-
-// A line that breaks nothing up to its numbers, nothing behind the end line, or what the text breaks.
-#[derive(Clone, Copy)]
-pub enum Ahead {
-    Line(Kind),
-    Over,
-    Fault(Refusal),
-}
 
 #[derive(Clone, Copy)]
 pub struct Cursor {
@@ -24,97 +15,89 @@ pub struct Cursor {
     pub end: usize,
     // How many lines stand before it.
     pub line: usize,
-    pub ahead: Ahead,
+    // The kind of the line, which breaks nothing up to its numbers; none behind the end line, where the text is over.
+    pub ahead: Option<Kind>,
     pub numbers: Numbers,
 }
 
-fn bare(at: usize, line: usize, ahead: Ahead) -> Cursor
-    ensures { result ≡ bare_at at line ahead }
-{
-    let numbers = Numbers {
-        first: 0,
-        second: 0,
-        third: 0,
-    };
-    Cursor {
-        at,
-        end: at,
-        line,
-        ahead,
-        numbers,
+impl Cursor {
+    // Whether a line of kind k is ahead.
+    pub fn is_at(self, k: Kind) -> bool
+        ensures { result ≡ ahead_is self.ahead k }
+    {
+        self.ahead == Some(k)
+    }
+
+    // The text is refused at the line ahead.
+    pub fn refused(self, refusal: Refusal) -> Rejection
+        ensures { result ≡ record { refusal = refusal; line = self.line } }
+    {
+        Rejection {
+            refusal,
+            line: self.line,
+        }
+    }
+
+    // The cursor behind the line of kind k that is ahead.
+    pub fn next(self, text: &[u8], k: Kind) -> Result<Cursor, Rejection>
+        requires { Stands text.now self × (self.ahead ≡ Some k) }
+        ensures { Next text.now self k result }
+    {
+        look(text, self.end + 1, self.line + 1, Some(k))
     }
 }
 
 // The end of a text of n lines.
-fn end_of(text: &[u8], at: usize, n: usize, before: Before) -> Cursor
+fn end_of(text: &[u8], at: usize, n: usize, before: Option<Kind>) -> Result<Cursor, Rejection>
     requires { length text.now ≤ at }
-    ensures { LookedAt text.now at n before result }
+    ensures { Looked text.now at n before result }
 {
-    let Before::After(k) = before else {
-        return bare(at, n, Ahead::Fault(Refusal::EndMissing));
-    };
-    if text::kind::same(Kind::End, k) {
-        return bare(at, n, Ahead::Over);
+    if Some(Kind::End) != before {
+        return Err(Rejection {
+            refusal: Refusal::EndMissing,
+            line: n,
+        });
     }
-    bare(at, n, Ahead::Fault(Refusal::EndMissing))
+    Ok(Cursor {
+        at,
+        end: at,
+        line: n,
+        ahead: None,
+        numbers: Numbers::default(),
+    })
 }
 
 // The cursor at a place where line n starts.
-fn look(text: &[u8], at: usize, n: usize, before: Before) -> Cursor
+fn look(text: &[u8], at: usize, n: usize, before: Option<Kind>) -> Result<Cursor, Rejection>
     requires { (at ≤ length text.now) × (n ≤ at) }
-    ensures { LookedAt text.now at n before result }
+    ensures { Looked text.now at n before result }
 {
     if at == text.len() {
         return end_of(text, at, n, before);
     }
-    let end = text::parts::find(text, at, 10);
+    let end = text::parts::find(text, at, b'\n');
     if end == text.len() {
-        return bare(at, n, Ahead::Fault(Refusal::LineFeedMissing));
+        return Err(Rejection {
+            refusal: Refusal::LineFeedMissing,
+            line: n,
+        });
     }
-    let x = line::head::parse(before, &text[at..end]);
-    match x {
-        Head::Line(kind, numbers) => Cursor {
+    match line::head::parse(before, &text[at..end]) {
+        Ok(head) => Ok(Cursor {
             at,
             end,
             line: n,
-            ahead: Ahead::Line(kind),
-            numbers,
-        },
-        Head::Fault(r) => bare(at, n, Ahead::Fault(r)),
+            ahead: Some(head.kind),
+            numbers: head.numbers,
+        }),
+        Err(refusal) => Err(Rejection { refusal, line: n }),
     }
 }
 
 // The cursor at the start of a text that is not too long.
-pub fn first(text: &[u8]) -> Cursor
+pub fn first(text: &[u8]) -> Result<Cursor, Rejection>
     requires { length text.now ≤ text_bytes }
-    ensures { FirstOf text.now result }
+    ensures { First text.now result }
 {
-    look(text, 0, 0, Before::Start)
-}
-
-// The cursor behind the line of kind k at c.
-pub fn next(text: &[u8], c: Cursor, k: Kind) -> Cursor
-    requires { Stands text.now c × (c.ahead ≡ ahead.Line k) }
-    ensures { NextOf text.now c k result }
-{
-    look(text, c.end + 1, c.line + 1, Before::After(k))
-}
-
-// The text is refused at c.
-pub fn stop(c: Cursor, r: Refusal) -> Cursor
-    ensures { result ≡ bare_at c.at c.line (ahead.Fault r) }
-{
-    bare(c.at, c.line, Ahead::Fault(r))
-}
-
-// Whether a line of kind k is ahead.
-pub fn is_at(c: Cursor, k: Kind) -> bool
-    ensures { result ≡ ahead_is c.ahead k }
-{
-    let a = c.ahead;
-    match a {
-        Ahead::Line(j) => text::kind::same(j, k),
-        Ahead::Over => false,
-        Ahead::Fault(_) => false,
-    }
+    look(text, 0, 0, None)
 }

@@ -1,50 +1,63 @@
 // Registered users or objects.
-ghost use Rattle.std.specs.Prelude.{◌≤◌};
+ghost use Rattle.std.specs.Prelude.{◌≡◌, ◌≤◌, []};
+ghost use Rattle.policy.specs.Inner.Sound.{number_in};
 ghost use Rattle.policy.specs.Limits.{most_values};
-ghost use Rattle.policy.specs.Value.{entry_places};
+ghost use Rattle.policy.specs.Value.{entry_places, register};
 ghost use Rattle.reader.specs.Inner.Cursor.{Stands};
-ghost use Rattle.reader.specs.Inner.Lists.{EntriesFrom};
+ghost use Rattle.reader.specs.Inner.Lists.{entry_in, EntriesRead};
 
 use crate::cursor::Cursor;
+use crate::lines::Lines;
+use checks::shape::Shape;
 use policy::refusal::Refusal;
-use policy::value::{ENTRY_PLACES, Entry, Register};
+use policy::value::{Entry, Register, Rejection};
 use text::kind::Kind;
+use text::number::Numbers;
 
+// With numbers below `most` and sets of a side's values.
 #[derive(Clone, Copy)]
-pub struct EntriesRead {
-    pub register: Register,
-    pub cursor: Cursor,
+struct EntryLines {
+    most: u32,
+    side: Shape,
+    ghost small: { side.total ≤ most_values },
 }
 
-// The lines of this kind from the cursor on, with numbers below `most` and sets of `total` values.
-pub fn read(text: &[u8], cursor: Cursor, kind: Kind, most: u32, total: u32) -> EntriesRead
-    requires { Stands text.now cursor × (most ≤ entry_places) × (total ≤ most_values) }
-    ensures { EntriesFrom text.now kind most total cursor result }
-{
-    let mut entries = [Entry { number: 0, set: 0 }; ENTRY_PLACES];
-    let mut count: usize = 0;
-    // The least number that rises above the last.
-    let mut least = 0;
-    let mut c = cursor;
-    while crate::cursor::is_at(c, kind) {
-        let number = c.numbers.first;
-        let set = c.numbers.second;
-        if checks::side::entry_fits(most, total, number, set) {
-            if least <= number {
-                entries[count] = Entry { number, set };
-                count += 1;
-                least = number + 1;
-                c = crate::cursor::next(text, c, kind);
-            } else {
-                c = crate::cursor::stop(c, Refusal::NotRising);
-            }
-        } else {
-            c = crate::cursor::stop(c, Refusal::OutOfRange);
+impl Lines for EntryLines {
+    type Element = Entry;
+
+    ghost says = { entry_in };
+
+    ghost passes = { λ s. number_in s.most s.side.total };
+
+    fn said(&self, numbers: Numbers) -> Entry {
+        Entry {
+            number: numbers.first,
+            set: numbers.second,
         }
     }
-    let register = Register { count, entries };
-    EntriesRead {
-        register,
-        cursor: c,
+
+    fn fits(&self, e: &Entry) -> bool {
+        self.side.entry_fits(self.most, e)
     }
+}
+
+// The lines of this kind from the cursor on, with numbers below `most` and sets of this side's values, into a list with
+// none.
+pub fn read(
+    text: &[u8],
+    cursor: Cursor,
+    kind: Kind,
+    most: u32,
+    side: &Shape,
+    list: &mut Register,
+) -> Result<Cursor, Rejection>
+    requires { Stands text.now cursor × (most ≤ entry_places) × (side.now.total ≤ most_values) × (list.old ≡ register []) }
+    ensures { EntriesRead text.now kind most side.now.total cursor list.new result }
+{
+    let lines = EntryLines { most, side: *side };
+    // As numbers rise, no list has too many: the refusal is never given.
+    let full = Refusal::OutOfRange;
+    let (count, c) = crate::lines::read(text, cursor, kind, &lines, full, &mut list.entries)?;
+    list.count = count;
+    Ok(c)
 }

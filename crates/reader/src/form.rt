@@ -1,33 +1,23 @@
 // The form of a text.
+ghost use Rattle.std.specs.Prelude.{◌≡◌, Some};
+ghost use Rattle.text.specs.declared.kind.Kind.TheVariants as kind;
 ghost use Rattle.reader.specs.Inner.Cursor.{Stands};
-ghost use Rattle.reader.specs.Inner.Lists.{FormFrom};
+ghost use Rattle.reader.specs.Inner.Lists.{FormRead};
 
 use crate::cursor::Cursor;
 use policy::refusal::Refusal;
+use policy::value::Rejection;
 use text::kind::Kind;
 
-#[derive(Clone, Copy)]
-pub struct FormRead {
-    pub form: u32,
-    pub cursor: Cursor,
-}
-
-// The policy line; 0 where there is none.
-pub fn read(text: &[u8], cursor: Cursor) -> FormRead
-    requires { Stands text.now cursor }
-    ensures { FormFrom text.now cursor result }
+// The form that the policy line at the cursor says, and the cursor behind it.
+pub fn read(text: &[u8], cursor: Cursor) -> Result<(u32, Cursor), Rejection>
+    requires { Stands text.now cursor × (cursor.ahead ≡ Some kind.Policy) }
+    ensures { FormRead text.now cursor result }
 {
-    if crate::cursor::is_at(cursor, Kind::Policy) {
-        let form = cursor.numbers.first;
-        if policy::limits::is_form(form) {
-            let next = crate::cursor::next(text, cursor, Kind::Policy);
-            return FormRead { form, cursor: next };
-        }
-        let stopped = crate::cursor::stop(cursor, Refusal::OutOfRange);
-        return FormRead {
-            form: 0,
-            cursor: stopped,
-        };
+    let form = cursor.numbers.first;
+    if !policy::limits::is_form(form) {
+        return Err(cursor.refused(Refusal::OutOfRange));
     }
-    FormRead { form: 0, cursor }
+    let next = cursor.next(text, Kind::Policy)?;
+    Ok((form, next))
 }

@@ -1,19 +1,17 @@
 // Reading a policy text: its value, or the first refusal and its line.
 #![tactic(auto)]
 
-ghost use Rattle.std.specs.Prelude.{◌≡◌, List, ℕ};
 ghost use Rattle.text.specs.Kind.{place_of};
 ghost use Rattle.text.specs.declared.kind.Kind.TheVariants as kind;
-ghost use Rattle.policy.specs.Answers.{number_of, ReadAs};
-ghost use Rattle.policy.specs.Policy.{Policy};
-ghost use Rattle.policy.specs.Read.{Refused, read_text};
-ghost use Rattle.reader.specs.Inner.Cursor.{Stands, Past, Bare, left, outcome_of};
+ghost use Rattle.policy.specs.Answers.{ReadAs};
+ghost use Rattle.policy.specs.Read.{read_text};
+ghost use Rattle.reader.specs.Inner.Cursor.{Stands, Past, Finished};
 
 mod conflicts;
 mod cursor;
 mod entries;
 mod form;
-mod limited;
+mod lines;
 mod lists;
 mod pairs;
 mod rules;
@@ -21,77 +19,40 @@ mod seniorities;
 mod sides;
 mod widths;
 
-use crate::cursor::{Ahead, Cursor};
+use crate::cursor::Cursor;
 use policy::limits::TEXT_BYTES;
 use policy::refusal::Refusal;
-use policy::value::{Reading, Verdict};
+use policy::value::{PolicyValue, Rejection};
 use text::kind::Kind;
 
-// The cursor behind the end line, where one is ahead.
-fn pass_end(text: &[u8], c: Cursor) -> Cursor
-    requires { Stands text.now c × Past (place_of kind.End) c }
-    ensures { ((p : Policy) → left text.now c p ≡ left text.now result p) × Bare result }
+// Nothing stands at a cursor behind all lists but the end line, and nothing behind that.
+fn finish(text: &[u8], cursor: Cursor) -> Result<(), Rejection>
+    requires { Stands text.now cursor × Past (place_of kind.End) cursor }
+    ensures { Finished text.now cursor result }
 {
-    if cursor::is_at(c, Kind::End) {
-        return cursor::next(text, c, Kind::End);
+    if !cursor.is_at(Kind::End) {
+        return Ok(());
     }
-    c
-}
-
-// What is said of a text where no line of it is ahead.
-fn said(c: Cursor) -> Verdict
-    requires { Bare c }
-    ensures { (t : List ℕ) (p : Policy) → left t c p ≡ outcome_of result p }
-{
-    let a = c.ahead;
-    match a {
-        Ahead::Over => Verdict::Accepted,
-        Ahead::Fault(r) => Verdict::Refused(r, c.line),
-        // No line may stand behind the end line.
-        Ahead::Line(_) => Verdict::Refused(Refusal::KindNotAllowed, c.line),
-    }
-}
-
-// A refused text: the refusal and its line, and the blank value beside them.
-fn refused(why: Refusal, line: usize) -> Reading
-    ensures { ReadAs (Refused (number_of why) line) result }
-{
-    let policy = policy::value::blank();
-    Reading {
-        verdict: Verdict::Refused(why, line),
-        policy,
-    }
+    cursor.next(text, Kind::End)?;
+    Ok(())
 }
 
 // The policy value of a text, or the refusal and its line.
-pub fn read(text: &[u8]) -> Reading
+pub fn read(text: &[u8]) -> Result<PolicyValue, Rejection>
     ensures { ReadAs (read_text text.now) result }
 {
     if TEXT_BYTES < text.len() {
-        return refused(Refusal::TextTooLong, 0);
+        return Err(Rejection {
+            refusal: Refusal::TextTooLong,
+            line: 0,
+        });
     }
-    let c = cursor::first(text);
-    let f = form::read(text, c);
-    let c = f.cursor;
-    // Where the form is refused, there is no side to make room for.
-    let a = c.ahead;
-    if let Ahead::Fault(why) = a {
-        return refused(why, c.line);
-    }
-    let s = sides::read(text, f);
-    let c = s.cursor;
-    // Where the sides are refused, there is no list to make room for.
-    let a = c.ahead;
-    if let Ahead::Fault(why) = a {
-        return refused(why, c.line);
-    }
-    let all = lists::read(text, s);
-    let c = all.cursor;
-    let end = pass_end(text, c);
-    let verdict = said(end);
-    if let Verdict::Refused(why, line) = verdict {
-        return refused(why, line);
-    }
-    let policy = all.policy;
-    Reading { verdict, policy }
+    let start = cursor::first(text)?;
+    let (form, cursor) = form::read(text, start)?;
+    // Each list is read into its place in the value, so that none is copied there.
+    let mut policy = policy::value::blank();
+    let sides = sides::read(text, cursor, form, &mut policy)?;
+    let cursor = lists::read(text, sides, form, &mut policy)?;
+    finish(text, cursor)?;
+    Ok(policy)
 }

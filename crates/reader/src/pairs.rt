@@ -1,51 +1,68 @@
 // The pairs of a text.
+ghost use Rattle.std.specs.Prelude.{◌≡◌, []};
+ghost use Rattle.policy.specs.Checks.{pair_in, pair_fits};
+ghost use Rattle.policy.specs.Value.{pairs_value};
 ghost use Rattle.reader.specs.Inner.Cursor.{Stands};
-ghost use Rattle.reader.specs.Inner.Lists.{PairsFrom};
+ghost use Rattle.reader.specs.Inner.Lists.{PairsRead};
 
 use crate::cursor::Cursor;
-use line::rule::Fault;
+use crate::lines::Lines;
+use checks::shape::Shapes;
 use policy::refusal::Refusal;
-use policy::value::{PAIR_PLACES, Pair, Pairs};
+use policy::value::{Pair, Pairs, Rejection};
 use text::kind::Kind;
+use text::number::Numbers;
 
+// Of so many actions, and values of both sides.
 #[derive(Clone, Copy)]
-pub struct PairsRead {
-    pub pairs: Pairs,
-    pub cursor: Cursor,
+struct PairLines {
+    actions: u32,
+    shapes: Shapes,
 }
 
-// The pairs from the cursor on, of so many actions, user values and object values.
-pub fn read(text: &[u8], cursor: Cursor, actions: u32, users: u32, objects: u32) -> PairsRead
-    requires { Stands text.now cursor }
-    ensures { PairsFrom text.now actions users objects cursor result }
-{
-    let mut last = Pair {
-        action: 0,
-        user: 0,
-        object: 0,
-    };
-    let mut entries = [last; PAIR_PLACES];
-    let mut count: usize = 0;
-    let mut c = cursor;
-    while crate::cursor::is_at(c, Kind::Pair) {
-        let pair = Pair {
-            action: c.numbers.first,
-            user: c.numbers.second,
-            object: c.numbers.third,
-        };
-        let fits = checks::pair::fits(actions, users, objects, pair);
-        let rising = checks::pair::rises(count, last, pair);
-        let room = count < PAIR_PLACES;
-        let f = crate::limited::fault(fits, rising, room, Refusal::TooManyPairs);
-        if let Fault::Is(r) = f {
-            c = crate::cursor::stop(c, r);
-        } else {
-            entries[count] = pair;
-            count += 1;
-            last = pair;
-            c = crate::cursor::next(text, c, Kind::Pair);
+impl Lines for PairLines {
+    type Element = Pair;
+
+    ghost says = { pair_in };
+
+    ghost passes = { λ s x. pair_fits s.actions s.shapes.user.total s.shapes.object.total x };
+
+    fn said(&self, numbers: Numbers) -> Pair {
+        Pair {
+            action: numbers.first,
+            user: numbers.second,
+            object: numbers.third,
         }
     }
-    let pairs = Pairs { count, entries };
-    PairsRead { pairs, cursor: c }
+
+    fn fits(&self, x: &Pair) -> bool {
+        self.shapes.pair_fits(self.actions, x)
+    }
+}
+
+// The pairs from the cursor on, of so many actions, into a list with none.
+pub fn read(
+    text: &[u8],
+    cursor: Cursor,
+    actions: u32,
+    shapes: &Shapes,
+    list: &mut Pairs,
+) -> Result<Cursor, Rejection>
+    requires { Stands text.now cursor × (list.old ≡ pairs_value []) }
+    ensures { PairsRead text.now actions shapes.now.user.total shapes.now.object.total cursor list.new result }
+{
+    let lines = PairLines {
+        actions,
+        shapes: *shapes,
+    };
+    let (count, c) = crate::lines::read(
+        text,
+        cursor,
+        Kind::Pair,
+        &lines,
+        Refusal::TooManyPairs,
+        &mut list.entries,
+    )?;
+    list.count = count;
+    Ok(c)
 }

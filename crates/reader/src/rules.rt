@@ -1,52 +1,39 @@
 // The rules of a text.
-ghost use Rattle.std.specs.Prelude.{◌≤◌};
-ghost use Rattle.policy.specs.Value.{width_places};
+ghost use Rattle.std.specs.Prelude.{◌≡◌, []};
+ghost use Rattle.policy.specs.Value.{rules_value};
 ghost use Rattle.reader.specs.Inner.Cursor.{Stands};
-ghost use Rattle.reader.specs.Inner.Lists.{RulesFrom};
+ghost use Rattle.reader.specs.Inner.Lists.{RulesRead};
 
 use crate::cursor::Cursor;
-use checks::side::Shape;
-use line::rule::Fault;
-use policy::value::{RULE_PLACES, RuleValue, Rules, WORD_PLACES};
+use checks::shape::Shapes;
+use policy::value::{Rejection, Rules};
 use text::kind::Kind;
 
-#[derive(Clone, Copy)]
-pub struct RulesRead {
-    pub rules: Rules,
-    pub cursor: Cursor,
-}
-
-// The rules from the cursor on.
-pub fn read(text: &[u8], cursor: Cursor, form: u32, user: Shape, object: Shape) -> RulesRead
-    requires { Stands text.now cursor × (user.attributes ≤ width_places) × (object.attributes ≤ width_places) }
-    ensures { RulesFrom text.now form user object cursor result }
+// The rules from the cursor on, into a list with none.
+pub fn read(
+    text: &[u8],
+    cursor: Cursor,
+    form: u32,
+    shapes: &Shapes,
+    list: &mut Rules,
+) -> Result<Cursor, Rejection>
+    requires { Stands text.now cursor × (list.old ≡ rules_value []) }
+    ensures { RulesRead text.now form shapes.now cursor list.new result }
 {
-    let words = [0u8; WORD_PLACES];
-    let mut entries = [RuleValue {
-        action: 0,
-        count: 0,
-        words,
-    }; RULE_PLACES];
-    let mut count: usize = 0;
+    // A loop of its own, not `lines::read`: a rule is read from the bytes of its line, and has refusals 5, 8 and 9 too.
     // The least action that rises above the last.
     let mut least = 0;
     let mut c = cursor;
-    while crate::cursor::is_at(c, Kind::Rule) {
-        let at = c.at;
-        let end = c.end;
+    while c.is_at(Kind::Rule) {
         let action = c.numbers.first;
-        let x = line::rule::admit(action, &text[at..end], least, form, user, object);
-        let f = x.fault;
-        if let Fault::Is(r) = f {
-            c = crate::cursor::stop(c, r);
-        } else {
-            let rule = x.rule;
-            entries[count] = rule;
-            count += 1;
-            least = action + 1;
-            c = crate::cursor::next(text, c, Kind::Rule);
-        }
+        let rule = match line::rule::admit(action, &text[c.at..c.end], least, form, shapes) {
+            Ok(rule) => rule,
+            Err(r) => return Err(c.refused(r)),
+        };
+        list.entries[list.count] = rule;
+        list.count += 1;
+        least = action + 1;
+        c = c.next(text, Kind::Rule)?;
     }
-    let rules = Rules { count, entries };
-    RulesRead { rules, cursor: c }
+    Ok(c)
 }

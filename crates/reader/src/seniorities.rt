@@ -1,61 +1,64 @@
 // The direct seniorities of a side.
-ghost use Rattle.std.specs.Prelude.{◌≤◌};
+ghost use Rattle.std.specs.Prelude.{◌≡◌, ◌≤◌};
 ghost use Rattle.policy.specs.Limits.{most_values};
-ghost use Rattle.policy.specs.Value.{width_places};
+ghost use Rattle.policy.specs.Policy.{blank_side};
+ghost use Rattle.policy.specs.Inner.Sound.{line_in};
+ghost use Rattle.policy.specs.Value.{side_value};
+ghost use Rattle.checks.specs.Inner.{sizes_in};
 ghost use Rattle.reader.specs.Inner.Cursor.{Stands};
-ghost use Rattle.reader.specs.Inner.Lists.{SenioritiesFrom};
+ghost use Rattle.reader.specs.Inner.Lists.{direct_in, SenioritiesRead};
 
 use crate::cursor::Cursor;
-use checks::side::Shape;
+use crate::lines::Lines;
+use checks::shape::Shape;
 use policy::refusal::Refusal;
-use policy::value::{LINE_PLACES, SideValue};
+use policy::value::{Rejection, SideValue};
 use seniority::Direct;
 use text::kind::Kind;
+use text::number::Numbers;
 
 #[derive(Clone, Copy)]
-pub struct SenioritiesRead {
-    pub side: SideValue,
-    pub cursor: Cursor,
+struct DirectLines {
+    side: Shape,
 }
 
-// The lines of this kind from the cursor on, and the side that they make with its widths.
-pub fn read(text: &[u8], cursor: Cursor, kind: Kind, shape: Shape) -> SenioritiesRead
-    requires { Stands text.now cursor × (shape.attributes ≤ width_places) × (shape.total ≤ most_values) }
-    ensures { SenioritiesFrom text.now kind shape cursor result }
-{
-    // Below every line, as the upper value of a line is above 0.
-    let mut last = Direct {
-        senior: 0,
-        junior: 0,
-    };
-    let mut seniority = [last; LINE_PLACES];
-    let mut lines: usize = 0;
-    let mut c = cursor;
-    while crate::cursor::is_at(c, kind) {
-        let v = c.numbers.first;
-        let j = c.numbers.second;
-        if checks::side::direct_fits(shape, v, j) {
-            if checks::side::direct_above(last, v, j) {
-                last = Direct {
-                    senior: v,
-                    junior: j,
-                };
-                seniority[lines] = last;
-                lines += 1;
-                c = crate::cursor::next(text, c, kind);
-            } else {
-                c = crate::cursor::stop(c, Refusal::NotRising);
-            }
-        } else {
-            c = crate::cursor::stop(c, Refusal::OutOfRange);
+impl Lines for DirectLines {
+    type Element = Direct;
+
+    ghost says = { direct_in };
+
+    ghost passes = { λ s. line_in (sizes_in s.side) };
+
+    fn said(&self, numbers: Numbers) -> Direct {
+        Direct {
+            senior: numbers.first,
+            junior: numbers.second,
         }
     }
+
+    fn fits(&self, l: &Direct) -> bool {
+        self.side.direct_fits(l)
+    }
+}
+
+// The lines of this kind from the cursor on, into a side with no line, which is given its widths.
+pub fn read(
+    text: &[u8],
+    cursor: Cursor,
+    kind: Kind,
+    shape: &Shape,
+    side: &mut SideValue,
+) -> Result<Cursor, Rejection>
+    requires { Stands text.now cursor × (shape.now.total ≤ most_values) × (side.old ≡ side_value blank_side) }
+    ensures { SenioritiesRead text.now kind shape.now cursor side.new result }
+{
+    let lines = DirectLines { side: *shape };
+    // As seniorities rise, no list has too many: the refusal is never given.
+    let full = Refusal::OutOfRange;
+    let (count, c) = crate::lines::read(text, cursor, kind, &lines, full, &mut side.seniority)?;
+    side.lines = count;
+    side.attributes = shape.attributes;
     let widths = shape.widths;
-    let side = SideValue {
-        attributes: shape.attributes,
-        widths,
-        lines,
-        seniority,
-    };
-    SenioritiesRead { side, cursor: c }
+    side.widths = widths;
+    Ok(c)
 }

@@ -1,49 +1,38 @@
-// The user side and the object side of a text, beside its form.
-ghost use Rattle.reader.specs.Inner.Lists.{FormFrom, SidesFrom};
+// The user side and the object side of a text.
+ghost use Rattle.std.specs.Prelude.{◌≡◌};
+ghost use Rattle.policy.specs.Policy.{blank};
+ghost use Rattle.policy.specs.Value.{value_of};
+ghost use Rattle.reader.specs.Inner.Lists.{FormFrom, SidesRead};
 ghost use Rattle.reader.specs.declared.cursor.Cursor.{Cursor};
 
 use crate::cursor::Cursor;
-use crate::form::FormRead;
-use checks::side::Shape;
-use policy::value::SideValue;
+use checks::shape::Shapes;
+use policy::value::{PolicyValue, Rejection};
 use text::kind::Kind;
 
-// The sides, each with its shape.
+// The shapes of both sides, and the cursor behind their lines.
 #[derive(Clone, Copy)]
-pub struct SidesRead {
-    pub form: u32,
-    pub user: SideValue,
-    pub ushape: Shape,
-    pub object: SideValue,
-    pub oshape: Shape,
+pub struct Sides {
+    pub shapes: Shapes,
     pub cursor: Cursor,
 }
 
-// The lines of the attributes and the seniorities behind this form.
-pub fn read(text: &[u8], f: FormRead) -> SidesRead
-    requires { (c : Cursor) × FormFrom text.now c f }
-    ensures { (c : Cursor) → FormFrom text.now c f → SidesFrom text.now c result }
+// The lines of the attributes and the seniorities behind this form, into a blank policy.
+pub fn read(
+    text: &[u8],
+    cursor: Cursor,
+    form: u32,
+    policy: &mut PolicyValue,
+) -> Result<Sides, Rejection>
+    requires { ((c : Cursor) × FormFrom text.now c form cursor) × (policy.old ≡ value_of blank) }
+    ensures { (c : Cursor) → FormFrom text.now c form cursor → SidesRead text.now c form policy.new result }
 {
-    let c = f.cursor;
-    let most = policy::limits::values(f.form);
-    let u = crate::widths::read(text, c, Kind::Uattr, most);
-    let us = u.shape;
-    let c = u.cursor;
-    let o = crate::widths::read(text, c, Kind::Oattr, most);
-    let os = o.shape;
-    let c = o.cursor;
-    let u = crate::seniorities::read(text, c, Kind::Usen, us);
-    let user = u.side;
-    let c = u.cursor;
-    let o = crate::seniorities::read(text, c, Kind::Osen, os);
-    let object = o.side;
-    let cursor = o.cursor;
-    SidesRead {
-        form: f.form,
-        user,
-        ushape: us,
-        object,
-        oshape: os,
-        cursor,
-    }
+    policy.form = form;
+    let most = policy::limits::values(form);
+    let (user, cursor) = crate::widths::read(text, cursor, Kind::Uattr, most)?;
+    let (object, cursor) = crate::widths::read(text, cursor, Kind::Oattr, most)?;
+    let cursor = crate::seniorities::read(text, cursor, Kind::Usen, &user, &mut policy.user)?;
+    let cursor = crate::seniorities::read(text, cursor, Kind::Osen, &object, &mut policy.object)?;
+    let shapes = Shapes { user, object };
+    Ok(Sides { shapes, cursor })
 }

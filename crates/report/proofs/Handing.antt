@@ -12,14 +12,11 @@ use Rattle.basis.specs.Lists.{over}
 use Rattle.policy.specs.Policy.{Policy}
 use Rattle.writer.proofs.Putting.{put-none, put-long, put_next}
 use Rattle.report.specs.Report.{chunk, behind}
-use Rattle.report.specs.Inner.Cursor.{left_of, Standing, Left, is_over, Handed, Same}
+use Rattle.report.specs.Inner.Cursor.{left_of, Standing, Left, is_over, Handed, Same, up_to}
 use Rattle.report.specs.declared.cursor.Chunk.{Chunk}
 use Rattle.report.specs.declared.cursor.Cursor.{Cursor}
 use Rattle.report.proofs.Left.{over_none}
 use Rattle.report.proofs.Rest.{rest-fits, rest_put}
-
-abbrev pub up_to : ℕ → Cursor → Chunk
-up_to at c = record { count = at; next = c }
 
 pub handed-start : {p : Policy} {c : Cursor} (b : List ℕ) → Standing p c → Handed p c b b (up_to 0 c)
 handed-start b s = record { bytes = []; put = put-none b 0 (omega arith); stands = s; left = refl }

@@ -20,7 +20,7 @@ use Rattle.formula.specs.Inner.Source.{SourceOf}
 use Rattle.formula.specs.declared.blocks.Source.{Source}
 use Rattle.tuples.specs.Tuples.{tuples}
 use Rattle.tuples.specs.Inner.Blocks.{most_blocks, pair_blocks, tuple_at, StripOf}
-use Rattle.tuples.specs.Inner.Marks.{strip_words, marked, passing}
+use Rattle.tuples.specs.Inner.Marks.{marked, passing}
 use Rattle.tuples.specs.declared.marks.Marks.{Marks}
 use Rattle.tuples.proofs.From.{passing-all, passing-end}
 use Rattle.tuples.proofs.Numbering.{blocks-few}
@@ -38,13 +38,12 @@ use Rattle.report.proofs.Onward.{some-onward}
 
 -- a cursor with other bytes held, one with other tuples of its strip, and one in its next strip
 abbrev pub holding : Cursor → Held → Cursor
-holding c h = record { source = c.source; objects = c.objects; grants = c.grants; listed = c.listed; done = c.done; tuples = c.tuples; held = h }
+holding c h = record { pairs = c.pairs; grants = c.grants; listed = c.listed; done = c.done; tuples = c.tuples; held = h }
 
 abbrev pub listing : Cursor → ℕ → Cursor
 listing c from =
     record {
-      source = c.source;
-      objects = c.objects;
+      pairs = c.pairs;
       grants = c.grants;
       listed = c.listed;
       done = c.done;
@@ -62,8 +61,7 @@ listing c from =
 abbrev pub onward : Cursor → Marks → Cursor
 onward c m =
     record {
-      source = c.source;
-      objects = c.objects;
+      pairs = c.pairs;
       grants = c.grants;
       listed = c.listed;
       done = c.done;
@@ -145,9 +143,9 @@ module _ {p : Policy} {c : Cursor} (s : Standing p c) where
   strip-within = omega (arith, s.tuples.strip.within, s.tuples.end)
 
   -- the lines of its tuples can be put
-  pub tuples-ready : (c.tuples.values < 32) × (c.tuples.first * lanes ≤ most_tuples) × (c.tuples.marks.count ≤ strip_words) × (c.tuples.from ≤ marks_end c.tuples)
+  pub tuples-ready : (c.tuples.values < 32) × (c.tuples.first * lanes ≤ most_tuples) × (c.tuples.from ≤ marks_end c.tuples)
   tuples-ready =
-      (omega (arith, s.tuples.values, s.source.sides.object.most), omega (arith, end-few, strip-within), s.tuples.strip.few, s.tuples.within)
+      (omega (arith, s.tuples.values, s.source.sides.object.most), omega (arith, end-few, strip-within), s.tuples.within)
 
   strip-inside : c.tuples.first * lanes + marks_end c.tuples ≤ numbers_end c.tuples
   strip-inside = omega (arith, strip-within)
@@ -227,8 +225,7 @@ pub record Marking (p : Policy) (a : ℕ) (m : Marks) (n : ℕ) : Type 0 where
 abbrev pub begun : Cursor → ℕ → Marks → Held → Cursor
 begun c a m h =
     record {
-      source = c.source;
-      objects = c.objects;
+      pairs = c.pairs;
       grants = c.grants;
       listed = c.listed;
       done = c.done + 1;

@@ -1,7 +1,7 @@
 -- Runs of tuples' lines: a start put in two copies that may overlap, the table of ends, and the lines that they make.
 use Prim.Native.Nat.{ℕ, ◌+◌, ◌-◌, ◌*◌, ◌/◌, ◌%◌, ◌^◌, ◌≤◌, ◌<◌}
 use mathlib.Core.Path.{◌≡◌, sym, ap, ◌∙◌}
-use mathlib.Core.List.{List, [], ◌∷◌, ◌++◌, append_assoc}
+use mathlib.Core.List.{append-nil, List, [], ◌∷◌, ◌++◌, append_assoc}
 use native.Mathlib.Decide.{dec_lt}
 use native.Mathlib.Nat.{div-add-mod', one-mul}
 use native.Mathlib.Omega.{arith}
@@ -14,12 +14,12 @@ use Rattle.basis.specs.Bytes.{byte, bytes}
 use Rattle.basis.specs.Lists.{over}
 use Rattle.text.specs.Number.{decimal}
 use Rattle.text.proofs.RoundTrip.{decimal-one, decimal-more}
-use Rattle.writer.specs.Inner.Put.{Room, Put, field, feed, lone, number_field, three_line, start_line, end_line}
-use Rattle.writer.proofs.Putting.{put-long}
+use Rattle.writer.specs.Inner.Put.{Room, Put, each, field, feed, lone, number_field, number_fields, numbers_line, start_line, end_line}
+use Rattle.writer.proofs.Putting.{put-long, each_append}
 use Rattle.report.specs.declared.runs.Start.{Start}
 use Rattle.report.specs.Inner.Lines.{tuple_text}
-use Rattle.report.specs.Inner.Runs.{start_room, start_bytes, StartFits, EndsTo}
-use Rattle.report.proofs.Short.{three-is}
+use Rattle.report.specs.Inner.Runs.{start_room, EndsTo}
+use Rattle.report.proofs.Short.{line-is}
 
 -- ---- a text put over the end of another
 
@@ -158,33 +158,35 @@ module _ (e : List ℕ) {n : ℕ} (o : ℕ) (x : EndsTo n e) (h : 100 ≤ o) (l 
 -- ---- the start and the end of a line
 
 -- a start that was put
-pub start_fits : (a u : ℕ) {b m : List ℕ} {r : ℕ} → Put (start_line (bytes "tuple") a u) 0 b m r → length (start_line (bytes "tuple") a u) ≤ start_room → start_room ≤ length b → StartFits (record { action = a; user = u; length = r; bytes = m })
-unfolding start_line field over
+pub start_fits : (a u : ℕ) {b m : List ℕ} {r : ℕ} → Put (start_line (bytes "tuple") (a ∷ u ∷ [])) 0 b m r → length (start_line (bytes "tuple") (a ∷ u ∷ [])) ≤ start_room → start_room ≤ length b
+    → (8 ≤ r) × (r ≤ start_room) × (start_room ≤ length m) × (take r m ≡ start_line (bytes "tuple") (a ∷ u ∷ []))
+unfolding start_line each field over
 start_fits a u {b} {m} {r} p h z =
-    let word = bytes "tuple" in
-    let t = word ++ (number_field a ++ (number_field u ++ lone)) in
-    let i : r ≡ length t = omega (arith, p.end) in
-    record {
-      least = omega (arith, i, length-append word (number_field a ++ (number_field u ++ lone)), length-append (number_field a) (number_field u ++ lone), length-append (number_field u) lone);
-      most = omega (arith, i, h);
-      long = omega (arith, put-long p);
-      are = ap (take r) p.bytes ∙ take_at t (drop (length t) b) r (sym i);
-    }
+    let fields = number_field a ++ (number_field u ++ []) in
+    let t = (bytes "tuple" ++ fields) ++ lone in
+    let i : r ≡ length t = omega (arith, p.end) in (
+      omega (arith, i, length-append (bytes "tuple" ++ fields) lone, length-append (number_field a) (number_field u ++ []), length-append (number_field u) []),
+      omega (arith, i, h),
+      omega (arith, put-long p),
+      ap (take r) p.bytes ∙ take_at t (drop (length t) b) r (sym i),
+    )
 
--- the two are the line of a tuple
-parts_are : (word : List ℕ) (a b c : ℕ) → start_line word a b ++ end_line c ≡ three_line word a b c
-unfolding start_line end_line three_line field
-parts_are word a b c =
-    append_assoc word (number_field a ++ (number_field b ++ lone)) (decimal c ++ feed)
-    ∙ rw (append_assoc (number_field a) (number_field b ++ lone) (decimal c ++ feed), append_assoc (number_field b) lone (decimal c ++ feed))
+-- the two are a line with the last number behind the others
+behind-fields : (word fields d : List ℕ) → ((word ++ fields) ++ lone) ++ (d ++ feed) ≡ (word ++ (fields ++ field d)) ++ feed
+unfolding field
+behind-fields word fields d = simp append_assoc
 
-pub run-line : (s : Start) (values t o k : ℕ) → StartFits s → s.user ≡ t / 2 ^ values → o ≡ t % 2 ^ values → o + k < 2 ^ values
-    → start_bytes s ++ end_line (o + k) ≡ tuple_text s.action values (t + k)
-run-line s values t o k x u e h =
+parts_are : (word ns : List ℕ) (n : ℕ) → start_line word ns ++ end_line n ≡ numbers_line word (ns ++ n ∷ [])
+unfolding start_line end_line numbers_line each
+parts_are word ns n = rw (each_append number_field ns (n ∷ []), append-nil) (behind-fields word (number_fields ns) (decimal n))
+
+pub run-line : (s : Start) (values t o k : ℕ) → s.user ≡ t / 2 ^ values → o ≡ t % 2 ^ values → o + k < 2 ^ values
+    → take s.count s.text ++ end_line (o + k) ≡ tuple_text s.action values (t + k)
+run-line s values t o k u e h =
     let z : t + k ≡ t / 2 ^ values * 2 ^ values + (o + k) = omega (arith, e, div-add-mod' t (2 ^ values)) in
     let d : (t + k) / 2 ^ values ≡ s.user = rw z (digits_div (t / 2 ^ values) h) ∙ sym u in
     let r : (t + k) % 2 ^ values ≡ o + k = rw z (digits_mod (t / 2 ^ values) h) in
-    rw (x.are, d, r) (parts_are (bytes "tuple") s.action s.user (o + k) ∙ three-is (bytes "tuple") s.action s.user (o + k))
+    rw (s.are, d, r) (parts_are (bytes "tuple") (s.action ∷ s.user ∷ []) (o + k) ∙ line-is (bytes "tuple") (s.action ∷ s.user ∷ (o + k) ∷ []))
 
 -- a power of two that a number of the machine has room for
 pub shl_one : (v : ℕ) → v < 32 → (1 * 2 ^ v) % 2 ^ 32 ≡ 2 ^ v

@@ -1,11 +1,12 @@
 -- What is read: the policy value of an accepted text passes check 11, that beside a refusal is blank, and the line that
 -- a refusal names is at most one more than the bytes that a text may have. So a report starts as it should.
+use Rattle.std.specs.Prelude.{Option, None, Some, Result, Ok, Err}
+use Rattle.std.specs.Result.{result_unwrap_or}
 use Prim.Native.Nat.{ℕ, suc, ◌+◌, ◌≤◌}
 use mathlib.Core.Path.{◌≡◌, refl, sym, ap, ◌∙◌}
 use mathlib.Core.Bool.{Bool, true, false, cond}
 use mathlib.Core.List.Memᴰ
 use mathlib.Core.List.{List, [], ◌∷◌, ◌++◌, append_assoc, append-nil}
-use mathlib.Core.Option.{Option, none, some}
 use native.Mathlib.Omega.{arith}
 use borrow.Author.Tests.{ltb-false}
 use lib.Dec.{eqb, ltb}
@@ -16,15 +17,14 @@ use Rattle.basis.specs.Numbers.{select}
 use Rattle.text.specs.Kind.{is_kind}
 use Rattle.text.specs.Parts.{TextLine, line_feed, onto, split, lines_of, lines, text_of}
 use Rattle.text.specs.declared.kind.Kind.TheVariants.{End}
-use Rattle.policy.specs.Answers.{number_of, value_in, ReadAs}
+use Rattle.policy.specs.Answers.{number_of, ReadAs}
 use Rattle.policy.specs.Limits.{text_bytes, actions}
 use Rattle.policy.specs.Policy.{Policy, blank_side, blank, total, formula_in, named}
 use Rattle.policy.specs.Read.{Outcome, Accepted, Refused, State, start, line_refusal, line_after, ending, read_lines, read_text}
 use Rattle.policy.specs.Valid.{valid}
 use Rattle.policy.specs.Value.{side_value, rules_value, pairs_value, value_of, side_of, policy_of}
-use Rattle.policy.specs.declared.refusal.Refusal.{Refusal}
-use Rattle.policy.specs.declared.value.Reading.{Reading}
-use Rattle.policy.specs.declared.value.Verdict.TheVariants.{Accepted as AcceptedText, Refused as RefusedText}
+use Rattle.policy.specs.declared.value.PolicyValue.{PolicyValue}
+use Rattle.policy.specs.declared.value.Rejection.{Rejection}
 use Rattle.policy.proofs.Valid.{yielded_policy, yielded_valid}
 use Rattle.policy.proofs.Values.{policy-value}
 use Rattle.formula.specs.Inner.Fits.{SideFits, ValueFits}
@@ -59,8 +59,8 @@ line_in (Refused n l) = l
 
 module _ {k : ℕ} where
   given-line : (r : Option ℕ) (o : Outcome) (n : ℕ) → line_in o ≤ k → n ≤ k → line_in (given r o (λ m. Refused m n)) ≤ k
-  given-line none o n h g = h
-  given-line (some m) o n h g = g
+  given-line None o n h g = h
+  given-line (Some m) o n h g = g
 
   cond-line : (b : Bool) (o q : Outcome) → line_in o ≤ k → line_in q ≤ k → line_in (cond b o q) ≤ k
   cond-line true o q h g = h
@@ -97,26 +97,27 @@ unfolding report first_line text_of blocks
 report-is (Accepted p) = sym (append_assoc (labels_line (NU p) (NO p)) feed (text_of (blocks p (listed p))))
 report-is (Refused n l) = rw blank_none (sym (append-nil (ended (refusal_line n l))))
 
-abbrev refusal_of : Option (ℕ × ℕ) → ℕ × ℕ
-refusal_of none = (0, 0)
-refusal_of (some x) = x
+-- the policy value that the report is made of: the blank one beside a refusal
+abbrev pub unwrapped : Result PolicyValue Rejection → PolicyValue
+unwrapped r = result_unwrap_or r (value_of blank)
 
-module _ {r : Reading} where
-  read-value : (o : Outcome) → ReadAs o r → r.policy ≡ value_of (policy_in o)
-  unfolding value_in
-  read-value (Accepted p) x = x.value
-  read-value (Refused n l) x = x.value
+read-value : (o : Outcome) (r : Result PolicyValue Rejection) → ReadAs o r → unwrapped r ≡ value_of (policy_in o)
+read-value (Accepted p) r x = rw x refl
+read-value (Refused n l) (Err e) x = refl
+read-value (Refused n l) (Ok v) x = absurd x
 
-  -- the first line beside a refusal
-  pub refused-first : (o : Outcome) → ReadAs o r → {q : Refusal} {l : ℕ} → r.verdict ≡ RefusedText q l → refusal_line (number_of q) l ≡ first_line o
-  unfolding first_line
-  refused-first (Accepted p) x h =
-      let k = rw h at x.verdict in
-      let z : ◌≡◌ {A = ℕ} 0 1 = cc in
-      absurd (omega arith)
-  refused-first (Refused n m) x {q} {l} h =
-      let e : ◌≡◌ {A = ℕ × ℕ} (number_of q, l) (n, m) = ap refusal_of (rw h at x.verdict) in
-      ap (λ (y : ℕ × ℕ). refusal_line y.0 y.1) e
+not-err : (p : Policy) (e : Rejection) → ReadAs (Accepted p) (Err e) → ⊥
+not-err p e x = cc
+
+-- an accepted value is its policy's
+value-is : (p : Policy) (v : PolicyValue) → ReadAs (Accepted p) (Ok v) → v ≡ value_of p
+value-is p v x = cc
+
+-- the first line beside a refusal
+pub refused-first : (o : Outcome) (e : Rejection) → ReadAs o (Err e) → refusal_line (number_of e.refusal) e.line ≡ first_line o
+unfolding first_line
+refused-first (Accepted p) e x = absurd (not-err p e x)
+refused-first (Refused n l) e x = rw (x.0, x.1) refl
 
 -- before the first line nothing is out of place
 blank_side_lem : SideFits (side_value blank_side)
@@ -133,59 +134,48 @@ blank-fits =
       pairs = record { count = omega arith; each = λ x m. absurd (Memᴰ.not-nil m) };
     }
 
-module _ (t : List ℕ) {r : Reading} where
-  policy-cases : (o : Outcome) → read_text t ≡ o → ReadAs o r → policy_of r.policy ≡ policy_in o
+module _ (t : List ℕ) (r : Result PolicyValue Rejection) where
+  policy-cases : (o : Outcome) → read_text t ≡ o → ReadAs o r → policy_of (unwrapped r) ≡ policy_in o
   unfolding blank all
-  policy-cases (Accepted p) e x = ap policy_of (read-value (Accepted p) x) ∙ yielded_policy t p e
-  policy-cases (Refused n l) e x = ap policy_of (read-value (Refused n l) x) ∙ policy-value blank refl
+  policy-cases (Accepted p) e x = ap policy_of (read-value (Accepted p) r x) ∙ yielded_policy t p e
+  policy-cases (Refused n l) e x = ap policy_of (read-value (Refused n l) r x) ∙ policy-value blank refl
 
   -- the policy value stands for the policy that is read
-  pub read-policy : ReadAs (read_text t) r → policy_of r.policy ≡ policy_in (read_text t)
+  pub read-policy : ReadAs (read_text t) r → policy_of (unwrapped r) ≡ policy_in (read_text t)
   read-policy x = policy-cases (read_text t) refl x
 
-  first-cases : (o : Outcome) → read_text t ≡ o → ReadAs o r → r.verdict ≡ AcceptedText → {users objects : ℕ}
-      → users ≡ NU (policy_of r.policy) → objects ≡ NO (policy_of r.policy) → labels_line users objects ≡ first_line o
-  unfolding first_line
-  first-cases (Accepted p) e x h u o = rw (u, o, policy-cases (Accepted p) e x)
-  first-cases (Refused n l) e x h u o =
-      let k = rw h at x.verdict in
-      let z : ◌≡◌ {A = ℕ} 0 1 = cc in
-      absurd (omega arith)
+  fits-cases : (o : Outcome) → read_text t ≡ o → ReadAs o r → ValueFits (unwrapped r)
+  fits-cases (Accepted p) e x = rw (read-value (Accepted p) r x) (valid-fits (value_of p) (yielded_valid t p e))
+  fits-cases (Refused n l) e x = rw (read-value (Refused n l) r x) blank-fits
 
-  -- the first line of an accepted text
-  pub accepted-first : ReadAs (read_text t) r → r.verdict ≡ AcceptedText → {users objects : ℕ}
-      → users ≡ NU (policy_of r.policy) → objects ≡ NO (policy_of r.policy)
-      → labels_line users objects ≡ first_line (read_text t)
-  accepted-first x h u o = first-cases (read_text t) refl x h u o
-
-  valid-cases : (o : Outcome) → read_text t ≡ o → ReadAs o r → r.verdict ≡ AcceptedText → valid r.policy ≡ true
-  unfolding value_in
-  valid-cases (Accepted p) e x h = rw x.value (yielded_valid t p e)
-  valid-cases (Refused n l) e x h =
-      let k = rw h at x.verdict in
-      let z : ◌≡◌ {A = ℕ} 0 1 = cc in
-      absurd (omega arith)
-
-  -- the policy value of an accepted text passes check 11
-  pub read-valid : ReadAs (read_text t) r → r.verdict ≡ AcceptedText → valid r.policy ≡ true
-  read-valid x h = valid-cases (read_text t) refl x h
-
-  fits-cases : (o : Outcome) → read_text t ≡ o → ReadAs o r → ValueFits r.policy
-  fits-cases (Accepted p) e x = rw (read-value (Accepted p) x) (valid-fits (value_of p) (yielded_valid t p e))
-  fits-cases (Refused n l) e x = rw (read-value (Refused n l) x) blank-fits
-
-  -- and that of any text is what the evaluator asks
-  pub read_fits : ReadAs (read_text t) r → ValueFits r.policy
+  -- and is what the evaluator asks
+  pub read_fits : ReadAs (read_text t) r → ValueFits (unwrapped r)
   read_fits x = fits-cases (read_text t) refl x
 
-  line-cases : (o : Outcome) → line_in o ≤ suc text_bytes → ReadAs o r → {q : Refusal} {l : ℕ} → r.verdict ≡ RefusedText q l → l ≤ suc text_bytes
-  line-cases (Accepted p) g x {q} {l} h =
-      let k = rw h at x.verdict in
-      let z : ◌≡◌ {A = ℕ} 0 1 = cc in
-      absurd (omega arith)
-  line-cases (Refused n m) g x {q} {l} h =
-      let e : l ≡ m = ap (λ (y : Option (ℕ × ℕ)). (refusal_of y).1) (rw h at x.verdict) in
-      omega arith
+module _ (t : List ℕ) (v : PolicyValue) where
+  first-cases : (o : Outcome) → read_text t ≡ o → ReadAs o (Ok v) → {users objects : ℕ}
+      → users ≡ NU (policy_of v) → objects ≡ NO (policy_of v) → labels_line users objects ≡ first_line o
+  unfolding first_line
+  first-cases (Accepted p) e x u o = rw (u, o, policy-cases t (Ok v) (Accepted p) e x)
+  first-cases (Refused n l) e x u o = absurd x
 
-  pub read-line : ReadAs (read_text t) r → {q : Refusal} {l : ℕ} → r.verdict ≡ RefusedText q l → l ≤ suc text_bytes
-  read-line x h = line-cases (read_text t) (text-line t) x h
+  -- the first line of an accepted text
+  pub accepted-first : ReadAs (read_text t) (Ok v) → {users objects : ℕ} → users ≡ NU (policy_of v) → objects ≡ NO (policy_of v)
+      → labels_line users objects ≡ first_line (read_text t)
+  accepted-first x u o = first-cases (read_text t) refl x u o
+
+  valid-cases : (o : Outcome) → read_text t ≡ o → ReadAs o (Ok v) → valid v ≡ true
+  valid-cases (Accepted p) e x = rw (value-is p v x) (yielded_valid t p e)
+  valid-cases (Refused n l) e x = absurd x
+
+  -- the policy value of an accepted text passes check 11
+  pub read-valid : ReadAs (read_text t) (Ok v) → valid v ≡ true
+  read-valid x = valid-cases (read_text t) refl x
+
+module _ (t : List ℕ) (e : Rejection) where
+  line-cases : (o : Outcome) → line_in o ≤ suc text_bytes → ReadAs o (Err e) → e.line ≤ suc text_bytes
+  line-cases (Accepted p) g x = absurd (not-err p e x)
+  line-cases (Refused n m) g x = omega (arith, g, x.1)
+
+  pub read-line : ReadAs (read_text t) (Err e) → e.line ≤ suc text_bytes
+  read-line x = line-cases (read_text t) (text-line t) x

@@ -16,7 +16,6 @@ use Rattle.writer.specs.Inner.Put.{end_line}
 use Rattle.report.specs.declared.lines.Lines.{Lines}
 use Rattle.report.specs.declared.runs.Start.{Start}
 use Rattle.report.specs.Inner.Lines.{line_room, tuple_text, Some}
-use Rattle.report.specs.Inner.Runs.{start_bytes, StartFits}
 use Rattle.report.proofs.Rest.{rest-long}
 use Rattle.report.proofs.Pieces.{run-line}
 use Rattle.report.proofs.Going.{Going, run_fits, going_run}
@@ -36,17 +35,17 @@ word_marks words y k small h =
 module _ (action values start n : ℕ) (words : List ℕ) {from : ℕ} {b m : List ℕ} {at next : ℕ}
     (x : Going (λ k. tuple_text action values (start + k)) (marked words) (n * lanes) from b m at next)
     (y : ℕ) (q : y ≡ next + first (λ k. marked words (next + k)) (n * lanes - next)) (h : y < n * lanes)
-    (s : Start) (o v c : ℕ) (f : StartFits s) (a : s.action ≡ action) (u : s.user ≡ (start + y) / 2 ^ values) (e : o ≡ (start + y) % 2 ^ values)
+    (s : Start) (o v c : ℕ) (a : s.action ≡ action) (u : s.user ≡ (start + y) / 2 ^ values) (e : o ≡ (start + y) % 2 ^ values)
     (w : (v ≡ get_or words (y / lanes) 0 / 2 ^ (y % lanes)) × (get_or words (y / lanes) 0 < 2 ^ lanes))
     (g : (0 < c) × ((start + y) % 2 ^ values + c ≤ 2 ^ values) × (y % lanes + c ≤ lanes))
-    {ys : List ℕ} {r : Lines} (p : Some (λ k. start_bytes s ++ end_line (o + k)) (marked (v ∷ [])) c 0 (take (length m - at) (drop at m)) ys r) where
+    {ys : List ℕ} {r : Lines} (p : Some (λ k. take s.count s.text ++ end_line (o + k)) (marked (v ∷ [])) c 0 (take (length m - at) (drop at m)) ys r) where
   next-is : Next (marked words) next y
   next-is = from_next (marked words) next (n * lanes) x.high y q h
 
-  line-is : (k : ℕ) → k < c → start_bytes s ++ end_line (o + k) ≡ tuple_text action values (start + (y + k))
+  line-is : (k : ℕ) → k < c → take s.count s.text ++ end_line (o + k) ≡ tuple_text action values (start + (y + k))
   line-is k i =
       let z : start + y + k ≡ start + (y + k) = omega arith in
-      run-line s values (start + y) o k f u e (omega (arith, e, g.1)) ∙ rw (z, a)
+      run-line s values (start + y) o k u e (omega (arith, e, g.1)) ∙ rw (z, a)
 
   mark_is : (k : ℕ) → k < c → marked (v ∷ []) k ≡ marked words (y + k)
   mark_is k i = rw w.0 (word_marks words y k w.1 (omega (arith, g.2)))

@@ -1,16 +1,16 @@
 -- Each line of the lister has room: a word of at most 7 bytes, numbers of at most ten digits, and a line feed.
-use Prim.Native.Nat.{ℕ, ◌+◌, ◌-◌, ◌^◌, ◌≤◌, ◌<◌}
-use mathlib.Core.Path.{◌≡◌, sym, ◌∙◌}
-use mathlib.Core.List.{List, [], ◌∷◌, ◌++◌, append_assoc, append-nil}
+use Prim.Native.Nat.{ℕ, ◌+◌, ◌-◌, ◌*◌, ◌^◌, ◌≤◌, ◌<◌}
+use mathlib.Core.Path.{◌≡◌, sym}
+use mathlib.Core.List.{List, [], ◌∷◌, ◌++◌}
 use native.Mathlib.Omega.{arith}
 use lib.Dec.{lit<}
 use lib.ListN.{length, take, length-append}
 use lib.Seq.{length-take-le}
 use Rattle.text.specs.Number.{decimal}
 use Rattle.text.proofs.RoundTrip.{decimal-short}
-use Rattle.writer.specs.Inner.Put.{Room, Put, each, field, feed, lone, number_field, two_line, three_line, start_line, end_line}
+use Rattle.writer.specs.Inner.Put.{Room, Put, each, field, feed, lone, number_field, number_fields, numbers_line, start_line, end_line}
 use Rattle.writer.proofs.Putting.{put-long}
-use Rattle.writer.proofs.Texts.{fields-end}
+use Rattle.writer.proofs.Texts.{numbers-end}
 use Rattle.report.specs.Report.{line_of}
 use Rattle.report.specs.Inner.Lines.{word_room, digit_room, line_room, ended}
 use Rattle.report.specs.Inner.Runs.{start_room}
@@ -20,47 +20,31 @@ unfolding field
 field-short n h = omega (arith, decimal-short digit_room n (lit< tt) h)
 
 -- the lines that the writer puts are the lister's
-pub two_is : (word : List ℕ) (a b : ℕ) → two_line word a b ≡ ended (line_of word (a ∷ b ∷ []))
-unfolding two_line each
-two_is word a b =
-    sym (fields-end word (decimal a ∷ decimal b ∷ []) ∙ rw (append-nil, append_assoc (number_field a) (number_field b) feed))
-
-pub three-is : (word : List ℕ) (a b c : ℕ) → three_line word a b c ≡ ended (line_of word (a ∷ b ∷ c ∷ []))
-unfolding three_line each
-three-is word a b c =
-    sym
-    (fields-end word (decimal a ∷ decimal b ∷ decimal c ∷ [])
-    ∙ rw (append-nil, append_assoc (number_field a) (number_field b ++ number_field c) feed, append_assoc (number_field b) (number_field c) feed))
+pub line-is : (word ns : List ℕ) → numbers_line word ns ≡ ended (line_of word ns)
+line-is word ns = sym (numbers-end word ns)
 
 module _ (word : List ℕ) (a b : ℕ) (w : length word ≤ word_room) (ha : a < 10 ^ digit_room) (hb : b < 10 ^ digit_room) where
-  two-short : length (two_line word a b) ≤ line_room
-  unfolding two_line
-  two-short =
+  fields-short : length (word ++ number_fields (a ∷ b ∷ [])) ≤ word_room + 2 * (digit_room + 1)
+  unfolding each
+  fields-short =
       omega (
         arith,
-        length-append word (number_field a ++ (number_field b ++ feed)),
-        length-append (number_field a) (number_field b ++ feed),
-        length-append (number_field b) feed,
+        length-append word (number_field a ++ (number_field b ++ [])),
+        length-append (number_field a) (number_field b ++ []),
+        length-append (number_field b) [],
         field-short a ha,
         field-short b hb,
       )
 
-  pub two-room : {buffer : List ℕ} → line_room ≤ length buffer → Room (two_line word a b) 0 buffer
-  two-room r = record { fits = omega (arith, two-short) }
+  pub two-room : {buffer : List ℕ} → line_room ≤ length buffer → Room (numbers_line word (a ∷ b ∷ [])) 0 buffer
+  unfolding numbers_line
+  two-room r = record { fits = omega (arith, fields-short, length-append (word ++ number_fields (a ∷ b ∷ [])) feed) }
 
-  pub start-short : length (start_line word a b) ≤ start_room
+  pub start-short : length (start_line word (a ∷ b ∷ [])) ≤ start_room
   unfolding start_line
-  start-short =
-      omega (
-        arith,
-        length-append word (number_field a ++ (number_field b ++ lone)),
-        length-append (number_field a) (number_field b ++ lone),
-        length-append (number_field b) lone,
-        field-short a ha,
-        field-short b hb,
-      )
+  start-short = omega (arith, fields-short, length-append (word ++ number_fields (a ∷ b ∷ [])) lone)
 
-  pub start-room : {buffer : List ℕ} → start_room ≤ length buffer → Room (start_line word a b) 0 buffer
+  pub start-room : {buffer : List ℕ} → start_room ≤ length buffer → Room (start_line word (a ∷ b ∷ [])) 0 buffer
   start-room r = record { fits = omega (arith, start-short) }
 
 -- the end of a line has the room that its start leaves

@@ -10,62 +10,54 @@ ghost use Rattle.report.specs.Inner.Cursor.{held_bytes, HeldFits, Left, remainin
 
 use crate::cursor::{Chunk, Cursor, Held, Tuples};
 use crate::{counts, cursor, lines, listed};
-use formula::{attributes, blocks, grant};
-use policy::limits;
-use policy::refusal::number_of;
-use policy::value::{Reading, Verdict};
-use tuples::marks;
+use formula::{attributes, grant};
+use policy::value::{PolicyValue, Rejection};
+use policy::{limits, value};
+use tuples::blocks::Pairs;
+use tuples::marks::Marks;
 
 // The first line, held back: the numbers of labels, or the refusal.
-fn first_line(reading: Reading) -> Held
-    requires { (t : List ℕ) × ReadAs (read_text t) reading }
-    ensures { HeldFits result × ((t : List ℕ) → ReadAs (read_text t) reading → held_bytes result ≡ ended (first_line (read_text t))) }
+fn first_line(read: Result<PolicyValue, Rejection>) -> Held
+    requires { (t : List ℕ) × ReadAs (read_text t) read }
+    ensures { HeldFits result × ((t : List ℕ) → ReadAs (read_text t) read → held_bytes result ≡ ended (first_line (read_text t))) }
 {
-    let verdict = reading.verdict;
-    let policy = reading.policy;
     let mut bytes = cursor::blank();
-    match verdict {
-        Verdict::Accepted => {
+    match read {
+        Ok(policy) => {
             let counts = counts::count_labels(policy);
             let to = lines::labels_line(counts.users, counts.objects, &mut bytes);
             Held { from: 0, to, bytes }
         }
-        Verdict::Refused(refusal, line) => {
-            let to = lines::refusal_line(number_of(refusal), line as u32, &mut bytes);
+        Err(rejection) => {
+            let number = u32::from(rejection.refusal);
+            let to = lines::refusal_line(number, rejection.line as u32, &mut bytes);
             Held { from: 0, to, bytes }
         }
     }
 }
 
-// The start of a text's report: what all chunks need of the text is worked out here, once.
-pub fn start(text: &[u8]) -> Cursor
-    ensures { Left result (spec.report (read_text text.now)) }
+// The start of the report of a text that was read so: what all chunks need of the text is worked out here, once. Of a
+// refused text no action is listed, as of a policy with no line.
+fn started(read: Result<PolicyValue, Rejection>) -> Cursor
+    requires { (t : List ℕ) × ReadAs (read_text t) read }
+    ensures { (t : List ℕ) → ReadAs (read_text t) read → Left result (spec.report (read_text t)) }
 {
-    let reading = reader::read(text);
-    let held = first_line(reading);
-    let policy = reading.policy;
-    let user = policy.user;
-    let object = policy.object;
-    let source = blocks::source_of(user, object);
-    let sides = source.sides;
-    let starts = sides.object;
-    let values = attributes::total(starts);
-    let objects = blocks::of_side(object, values, false);
-    let end = tuples::blocks::pair_blocks(sides);
-    let marks = marks::none();
+    let held = first_line(read);
+    let policy = read.unwrap_or_else(|_| value::blank());
+    let pairs = Pairs::of(policy.user, policy.object);
+    let end = pairs.blocks();
     let tuples = Tuples {
         action: 0,
-        values,
+        values: attributes::total(pairs.source.sides.object),
         first: end,
         end,
         from: 0,
-        marks,
+        marks: Marks::none(),
     };
     let grants = grant::of_policy(policy);
     let listed = listed::of_grants(grants, limits::actions(policy.form));
     Cursor {
-        source,
-        objects,
+        pairs,
         grants,
         listed,
         done: 0,
@@ -74,24 +66,30 @@ pub fn start(text: &[u8]) -> Cursor
     }
 }
 
+// The start of a text's report.
+pub fn start(text: &[u8]) -> Cursor
+    ensures { Left result (spec.report (read_text text.now)) }
+{
+    started(reader::read(text))
+}
+
 // Stores the next chunk of a report at the start of a buffer: as many bytes as it has room for, and fewer only where
 // nothing is left behind them. Says how many they are, and gives the cursor behind them.
 pub fn next(cursor: Cursor, buffer: &mut [u8]) -> Chunk
     requires { (left : List ℕ) × Left cursor left }
-    ensures by_index { (left : List ℕ) → Left cursor left → result.count ≡ length (spec.chunk (length buffer.old) left) }
-    ensures by_index_2 { (left : List ℕ) → Left cursor left → buffer.new ≡ over (spec.chunk (length buffer.old) left) buffer.old }
-    ensures by_index_3 { (left : List ℕ) → Left cursor left → Left result.next (spec.behind (length buffer.old) left) }
-    ensures next_bound { 0 < result.count → remaining result.next < remaining cursor }
+    ensures counted { (left : List ℕ) → Left cursor left → result.count ≡ length (spec.chunk (length buffer.old) left) }
+    ensures stored { (left : List ℕ) → Left cursor left → buffer.new ≡ over (spec.chunk (length buffer.old) left) buffer.old }
+    ensures left_behind { (left : List ℕ) → Left cursor left → Left result.next (spec.behind (length buffer.old) left) }
+    ensures falls { 0 < result.count → remaining result.next < remaining cursor }
 {
-    let mut c = cursor;
-    let mut at: usize = 0;
-    while at < buffer.len() {
-        if cursor::is_over(c) {
-            return Chunk { count: at, next: c };
+    let mut next = cursor;
+    let mut count: usize = 0;
+    // No `for`: a step hands out as many bytes as it has, or none.
+    while count < buffer.len() {
+        if next.is_over() {
+            return Chunk { count, next };
         }
-        let s = cursor::step(c, &mut buffer[at..]);
-        at += s.count;
-        c = s.next;
+        count += next.step(&mut buffer[count..]);
     }
-    Chunk { count: at, next: c }
+    Chunk { count, next }
 }

@@ -4,7 +4,7 @@ ghost use Rattle.policy.specs.Valid.{valid};
 ghost use Rattle.policy.specs.Value.{policy_of};
 ghost use Rattle.labels.specs.Compile.{NU, NO};
 
-use labels::{Compiled, Counts};
+use labels::Counts;
 use policy::value::PolicyValue;
 
 // NU and NO. They are not refused: check 11 passes.
@@ -12,12 +12,5 @@ pub fn count_labels(policy: PolicyValue) -> Counts
     requires { valid policy ≡ true }
     ensures { (result.users ≡ NU (policy_of policy)) × (result.objects ≡ NO (policy_of policy)) }
 {
-    let used = labels::used(policy);
-    let Compiled::Stored(counts) = used else {
-        return Counts {
-            users: 0,
-            objects: 0,
-        };
-    };
-    counts
+    labels::used(policy).unwrap()
 }

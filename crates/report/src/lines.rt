@@ -1,17 +1,17 @@
 // The lines of a report, each put at the start of a lent buffer.
-ghost use Rattle.std.specs.Prelude.{◌≡◌, ◌+◌, ◌*◌, ◌/◌, ◌%◌, ◌^◌, ◌<◌, ◌≤◌, length, get_or};
+ghost use Rattle.std.specs.Prelude.{◌≡◌, ◌+◌, ◌*◌, ◌/◌, ◌%◌, ◌^◌, ◌<◌, ◌≤◌, length};
 ghost use Rattle.policy.specs.Limits.{most_tuples};
 ghost use Rattle.formula.specs.Inner.Lane.{lanes};
-ghost use Rattle.tuples.specs.Inner.Marks.{strip_words, marked};
+ghost use Rattle.tuples.specs.Inner.Marks.{marked};
 ghost use Rattle.writer.specs.Inner.Put.{Put};
 ghost use Rattle.report.specs.Report.{refusal_line, labels_line, action_line};
 ghost use Rattle.report.specs.Inner.Lines.{line_room, ended, tuple_text, Some};
+ghost use Rattle.report.specs.Inner.Cursor.{marks_end};
 
-use crate::runs::ENDS;
-use crate::{cursor, runs};
+use crate::cursor::Tuples;
+use crate::runs;
+use crate::runs::{Ends, Start};
 use formula::side::LANES;
-use tuples::marks;
-use tuples::marks::WORDS;
 use writer::line;
 
 // Room for any of these lines: a word of at most 7 bytes, three numbers of at most 10 digits, each after a comma, and a
@@ -30,7 +30,7 @@ pub fn refusal_line(number: u32, line: u32, buf: &mut [u8]) -> usize
     requires { line_room ≤ length buf.old }
     ensures { Put (ended (refusal_line number line)) 0 buf.old buf.new result }
 {
-    line::put_two(b"refused", number, line, buf)
+    line::put(b"refused", &[number, line], buf)
 }
 
 // The line of the numbers of labels.
@@ -38,7 +38,7 @@ pub fn labels_line(users: u32, objects: u32, buf: &mut [u8]) -> usize
     requires { line_room ≤ length buf.old }
     ensures { Put (ended (labels_line users objects)) 0 buf.old buf.new result }
 {
-    line::put_two(b"labels", users, objects, buf)
+    line::put(b"labels", &[users, objects], buf)
 }
 
 // The line of an action with its number of tuples.
@@ -46,7 +46,7 @@ pub fn action_line(action: u32, count: u32, buf: &mut [u8]) -> usize
     requires { line_room ≤ length buf.old }
     ensures { Put (ended (action_line action count)) 0 buf.old buf.new result }
 {
-    line::put_two(b"action", action, count, buf)
+    line::put(b"action", &[action, count], buf)
 }
 
 // The user set of a stored tuple, where the object side has `values` values.
@@ -71,59 +71,37 @@ fn run_length(values: u32, t: u32, x: usize) -> usize
     ensures { (0 < result) × (t % 2 ^ values + result ≤ 2 ^ values) × (x % lanes + result ≤ lanes) }
 {
     let of_set = (1 << values) - object_set(t, values);
-    cursor::least(of_set as usize, LANES - x % LANES)
+    (of_set as usize).min(LANES - x % LANES)
 }
 
-// Word b.
-fn word(words: &[u64; WORDS], b: usize) -> u64
-    requires { b < strip_words }
-    ensures { result ≡ get_or words.now b 0 }
+// The lines of the tuples that are left of a strip, as long as there is room for a line. They are put run by run, since
+// the lines of a run start alike.
+pub fn tuple_lines(tuples: &Tuples, buf: &mut [u8]) -> Lines
+    requires { (tuples.now.values < 32) × (tuples.now.first * lanes ≤ most_tuples) × (tuples.now.from ≤ marks_end tuples.now) }
+    ensures { Some (λ k. tuple_text tuples.now.action tuples.now.values (tuples.now.first * lanes + k)) (marked tuples.now.marks.words) (marks_end tuples.now) tuples.now.from buf.old buf.new result }
 {
-    words[b]
-}
-
-// The bits from x on of its word.
-fn word_from(words: &[u64; WORDS], x: usize) -> u64
-    requires { x < strip_words * lanes }
-    ensures { (result ≡ get_or words.now (x / lanes) 0 / 2 ^ (x % lanes)) × (get_or words.now (x / lanes) 0 < 2 ^ lanes) }
-{
-    word(words, x / LANES) >> (x % LANES)
-}
-
-// The lines of the tuples that the first n words mark from their bit `from` on, as long as there is room for a line.
-// The first bit of these words is number `start`. They are put run by run, since the lines of a run start alike.
-pub fn tuple_lines(
-    action: u32,
-    values: u32,
-    start: usize,
-    words: &[u64; WORDS],
-    n: usize,
-    from: usize,
-    buf: &mut [u8],
-) -> Lines
-    requires { (values < 32) × (start ≤ most_tuples) × (n ≤ strip_words) × (from ≤ n * lanes) }
-    ensures { Some (λ k. tuple_text action values (start + k)) (marked words.now) (n * lanes) from buf.old buf.new result }
-{
-    let end = n * LANES;
-    let mut ends = [0u8; ENDS];
-    let tabled = runs::fill_ends(values, buf.len() / ROOM, &mut ends);
-    let mut head = runs::start_of(action, 0);
+    let values = tuples.values;
+    let start = tuples.first * LANES;
+    let end = tuples.marks.count * LANES;
+    let ends = Ends::of(values, buf.len() / ROOM);
+    let mut head = Start::of(tuples.action, 0);
     let mut at = 0;
-    let mut next = from;
+    let mut next = tuples.from;
+    // No `for`: a run ends where its user set or its word does.
     while next < end {
         if buf.len() - at < ROOM {
             return Lines { at, next };
         }
-        let x = marks::next(words, n, next);
+        let x = tuples.marks.next(next);
         if end <= x {
             return Lines { at, next: x };
         }
         let t = (start + x) as u32;
-        head = runs::start_for(user_set(t, values), head);
+        head = head.for_user(user_set(t, values));
         let count = run_length(values, t, x);
-        let w = word_from(words, x);
+        let w = tuples.marks.word_from(x);
         let object = object_set(t, values);
-        let lines = runs::run_lines(head, &ends, tabled, object, w, count, &mut buf[at..]);
+        let lines = runs::run_lines(&head, &ends, object, w, count, &mut buf[at..]);
         at += lines.at;
         next = x + lines.next;
     }

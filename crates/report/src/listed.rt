@@ -10,7 +10,7 @@ use formula::grant;
 use formula::grant::Grants;
 use policy::limits::MOST_ACTIONS;
 
-// So many actions, in the first places.
+// So many actions, in the first places. An array and a count, since there is no heap.
 #[derive(Clone, Copy)]
 pub struct Listed {
     pub count: usize,

@@ -1,12 +1,13 @@
 -- An answer's number is a byte.
+use Rattle.std.specs.Prelude.{Result, Ok, Err}
 use Prim.Native.Nat.{◌<◌}
 use lib.Dec.{lit<}
 use Rattle.policy.specs.Answers.{number_of, reply_number}
 use Rattle.policy.specs.declared.refusal.Refusal.{Refusal}
 use Rattle.policy.specs.declared.refusal.Refusal.TheVariants.{TextTooLong, LineFeedMissing, KindNotAllowed, WrongFieldCount, MalformedField, OutOfRange, NotRising, UnequalWidths, UnbalancedFormula, EndMissing, InvalidState, UnknownAction, UnknownSession, UnregisteredUser, UnregisteredObject, SessionOpen, SessionNotOpen, SessionOfAnother, SetOutOfReach, BufferTooShort, TooManyPairs, TooManyConflicts, TooManyHeld}
 use Rattle.board.specs.Board.{reply_of}
-use Rattle.board.specs.declared.Answer.{Answer}
-use Rattle.board.specs.declared.Answer.TheVariants.{Done, Granted, Denied, Refused}
+use Rattle.board.specs.declared.Reply.{Reply}
+use Rattle.board.specs.declared.Reply.TheVariants.{Denied, Granted, Done}
 
 number-byte : (r : Refusal) → number_of r < 256
 number-byte TextTooLong = lit< tt
@@ -33,8 +34,8 @@ number-byte TooManyPairs = lit< tt
 number-byte TooManyConflicts = lit< tt
 number-byte TooManyHeld = lit< tt
 
-pub reply-byte : (a : Answer) → reply_number (reply_of a) < 256
-reply-byte Done = lit< tt
-reply-byte Granted = lit< tt
-reply-byte Denied = lit< tt
-reply-byte (Refused r) = number-byte r
+pub reply-byte : (a : Result Reply Refusal) → reply_number (reply_of a) < 256
+reply-byte (Ok Denied) = lit< tt
+reply-byte (Ok Granted) = lit< tt
+reply-byte (Ok Done) = lit< tt
+reply-byte (Err r) = number-byte r

@@ -1,8 +1,8 @@
 -- The items of a list of numbers: how many there are, and what stands at a place.
+use Rattle.std.specs.Prelude.{None}
 use Prim.Native.Nat.{ℕ, zero, suc, ◌+◌, ◌*◌, ◌/◌, ◌%◌, ◌≤◌, ◌<◌}
 use mathlib.Core.Path.{◌≡◌, refl}
 use mathlib.Core.List.{List, [], ◌∷◌}
-use mathlib.Core.Option.{none}
 use native.Mathlib.Omega.{arith}
 use lib.ListN.{length, get_or}
 use Rattle.runner.specs.Calls.{call_in, items_in}
@@ -33,7 +33,7 @@ later k a b c rest n m e = rw e
 
 -- the item of four numbers
 pub item_whole : (ns : List ℕ) (i : ℕ) → i * 4 + 4 ≤ length ns
-    → get_or (items_in ns) i none ≡ call_in (get_or ns (i * 4) 0) (get_or ns (i * 4 + 1) 0) (get_or ns (i * 4 + 2) 0) (get_or ns (i * 4 + 3) 0)
+    → get_or (items_in ns) i None ≡ call_in (get_or ns (i * 4) 0) (get_or ns (i * 4 + 1) 0) (get_or ns (i * 4 + 2) 0) (get_or ns (i * 4 + 3) 0)
 unfolding items_in
 item_whole [] i h = absurd (omega arith)
 item_whole (k ∷ []) i h = absurd (omega arith)
@@ -50,7 +50,7 @@ item_whole (k ∷ a ∷ b ∷ c ∷ rest) (suc i) h =
     (item_whole rest i (omega arith))
 
 -- and of fewer
-pub item_short : (ns : List ℕ) (i : ℕ) → length ns < i * 4 + 4 → get_or (items_in ns) i none ≡ none
+pub item_short : (ns : List ℕ) (i : ℕ) → length ns < i * 4 + 4 → get_or (items_in ns) i None ≡ None
 unfolding items_in
 item_short [] i h = refl
 item_short (k ∷ []) zero h = refl

@@ -1,4 +1,5 @@
 -- The two ways out of a run: refused whole, or every item answered.
+use Rattle.std.specs.Prelude.{Ok, Err}
 use Prim.Native.Nat.{ℕ, ◌≤◌, ◌<◌}
 use mathlib.Core.Path.{◌≡◌}
 use mathlib.Core.List.{List}
@@ -11,28 +12,27 @@ use Rattle.board.specs.Board.{Labels, board_step, fresh}
 use Rattle.board.specs.declared.Board.{Board}
 use Rattle.runner.specs.Calls.{items_in}
 use Rattle.runner.specs.Run.{answer_count, answer_buffer, board_after_run, RunsAs}
-use Rattle.runner.specs.declared.Verdict.TheVariants.{Answered, Refused}
 use Rattle.runner.proofs.Weaving.{Reached, reached-all}
 
 module _ (v : PolicyValue) (l : Labels) (numbers buffer : List ℕ) (b : Board) where
   pub run-refused : b ≡ fresh → length buffer < length (items_in numbers)
-      → RunsAs v l numbers buffer (record { verdict = Refused BufferTooShort; board = b }) buffer
+      → RunsAs v l numbers buffer (record { answered = Err BufferTooShort; board = b }) buffer
   unfolding answer_count answer_buffer board_after_run first_broken
   run-refused e h =
       record {
-        verdict = rw (lt-ltb (length buffer) (length (items_in numbers)) h);
+        answered = rw (lt-ltb (length buffer) (length (items_in numbers)) h);
         board = rw (lt-ltb (length buffer) (length (items_in numbers)) h) e;
         answers = rw (lt-ltb (length buffer) (length (items_in numbers)) h);
       }
 
   module _ (room : length (items_in numbers) ≤ length buffer) (start : Board) (e : start ≡ fresh) (i : ℕ) (out : List ℕ)
       (r : Reached (board_step v l) (items_in numbers) start buffer i b out) (end : length (items_in numbers) ≤ i) where
-    pub run-answered : (n : ℕ) → n ≡ length (items_in numbers) → RunsAs v l numbers buffer (record { verdict = Answered n; board = b }) out
+    pub run-answered : (n : ℕ) → n ≡ length (items_in numbers) → RunsAs v l numbers buffer (record { answered = Ok n; board = b }) out
     unfolding answer_count answer_buffer board_after_run first_broken
     run-answered n q =
         let a = reached-all (board_step v l) (items_in numbers) start buffer i b out r end in
         record {
-          verdict = rw (le-ltb (length buffer) (length (items_in numbers)) room, q);
+          answered = rw (le-ltb (length buffer) (length (items_in numbers)) room, q);
           board = rw (le-ltb (length buffer) (length (items_in numbers)) room, ← e) a.0;
           answers = rw (le-ltb (length buffer) (length (items_in numbers)) room, ← e) a.1;
         }

@@ -1,8 +1,8 @@
 -- The run of the calls among some items, with the answers of all: one item more is one step more.
+use Rattle.std.specs.Prelude.{Option, None, Some}
 use Prim.Native.Nat.{ℕ, suc, ◌+◌, ◌≤◌, ◌<◌}
 use mathlib.Core.Path.{◌≡◌, refl, sym, ap, ◌∙◌}
 use mathlib.Core.List.{List, [], ◌∷◌, ◌++◌, map, map-append}
-use mathlib.Core.Option.{Option, none, some}
 use native.Mathlib.Numerals.{add-one}
 use native.Mathlib.Omega.{arith}
 use lib.ListN.{length, get_or, take, set, length-map}
@@ -25,17 +25,17 @@ module _ {S : Type 0} (f : Call → S → Out S) where
 
   pub woven-more : (items : List (Option Call)) (x : Option Call) (s : S) → woven (items ++ (x ∷ [])) s ≡ further (woven items s) x
   unfolding run calls_in answers_to item_step
-  woven-more [] none s = refl
-  woven-more [] (some c) s = refl
-  woven-more (none ∷ items) x s = ap (λ (r : Ran S). record { replies = refused 5 ∷ r.replies; state = r.state }) (woven-more items x s)
-  woven-more (some c ∷ items) x s =
+  woven-more [] None s = refl
+  woven-more [] (Some c) s = refl
+  woven-more (None ∷ items) x s = ap (λ (r : Ran S). record { replies = refused 5 ∷ r.replies; state = r.state }) (woven-more items x s)
+  woven-more (Some c ∷ items) x s =
       ap (λ (r : Ran S). record { replies = (f c s).reply ∷ r.replies; state = r.state }) (woven-more items x (f c s).state)
 
   pub length-woven : (items : List (Option Call)) (s : S) → length (woven items s).replies ≡ length items
   unfolding run calls_in answers_to
   length-woven [] s = refl
-  length-woven (none ∷ items) s = ap suc (length-woven items s)
-  length-woven (some c ∷ items) s = ap suc (length-woven items (f c s).state)
+  length-woven (None ∷ items) s = ap suc (length-woven items s)
+  length-woven (Some c ∷ items) s = ap suc (length-woven items (f c s).state)
 
   -- the bytes of all answers
   abbrev pub woven_bytes : List (Option Call) → S → List ℕ
@@ -75,10 +75,10 @@ module _ {S : Type 0} (f : Call → S → Out S) where
           ∙ sym (over-more (woven_bytes (take i items) start) old y k)
 
       pub reached-more : i < length items → length items ≤ length old
-          → (x : Option Call) → x ≡ get_or items i none → (o : Out S) → o ≡ item_step f x s → (y : ℕ) → y ≡ reply_number o.reply
+          → (x : Option Call) → x ≡ get_or items i None → (o : Out S) → o ≡ item_step f x s → (y : ℕ) → y ≡ reply_number o.reply
           → Reached items start old (i + 1) o.state (set out i y)
       reached-more h room x ex o eo y ey =
-          let t : take (i + 1) items ≡ take i items ++ (x ∷ []) = rw (add-one i, ex) (take-suc items i none h) in
+          let t : take (i + 1) items ≡ take i items ++ (x ∷ []) = rw (add-one i, ex) (take-suc items i None h) in
           let e : woven (take (i + 1) items) start ≡ further before x = rw t (woven-more (take i items) x start) in
           let q : o ≡ item_step f x before.state = rw (← r.state) eo in
           let w : woven_bytes (take (i + 1) items) start ≡ woven_bytes (take i items) start ++ (y ∷ []) =

@@ -1,25 +1,22 @@
 -- What running a list of numbers on a fresh board answers, and what it leaves: the run of the list's calls, with 5 for
 -- what is no call.
-use Rattle.std.specs.Prelude.{ℕ, ◌≡◌, List, [], ◌∷◌, map, ltb, length}
-use Rattle.std.proofs.Math.Option.{Option, none, some}
-use Rattle.basis.specs.Choice.{given, Result, gives, refuses, Check, check, first_broken, unless_refused}
+use Rattle.std.specs.Prelude.{ℕ, ◌≡◌, List, [], ◌∷◌, map, ltb, length, Option, None, Some, Result}
+use Rattle.basis.specs.Choice.{given, Check, check, first_broken, unless_refused}
 use Rattle.basis.specs.Lists.{over}
-use Rattle.policy.specs.Answers.{number_of, Reply, refused, reply_number}
+use Rattle.policy.specs.Answers.{answer_of, Reply, refused, reply_number}
 use Rattle.policy.specs.declared.value.PolicyValue.{PolicyValue}
 use Rattle.board.specs.Machine.{Call, Ran, run}
 use Rattle.board.specs.Board.{Labels, board_step, fresh}
 use Rattle.board.specs.declared.Board.{Board}
 use Rattle.runner.specs.Calls.{items_in, calls_in}
-use Rattle.runner.specs.declared.Verdict.{Verdict}
-use Rattle.runner.specs.declared.Verdict.TheVariants.{Answered, Refused}
 use Rattle.runner.specs.declared.Ran.{Ran as CodeRan}
 
 -- the answers in the list's order: each call gets its reply, of which there is one a call, and what is no call gets 5
 unfoldable pub answers_to : List (Option Call) → List Reply → List Reply
 answers_to [] replies = []
-answers_to (none ∷ items) replies = refused 5 ∷ answers_to items replies
-answers_to (some c ∷ items) [] = []
-answers_to (some c ∷ items) (r ∷ replies) = r ∷ answers_to items replies
+answers_to (None ∷ items) replies = refused 5 ∷ answers_to items replies
+answers_to (Some c ∷ items) [] = []
+answers_to (Some c ∷ items) (r ∷ replies) = r ∷ answers_to items replies
 
 -- the bytes of a run's answers
 abbrev pub bytes_of : {S : Type 0} → List ℕ → Ran S → List ℕ
@@ -34,7 +31,7 @@ abbrev pub run_checks : List ℕ → List ℕ → List Check
 run_checks numbers buffer = check 20 (ltb (length buffer) (length (items_in numbers))) ∷ []
 
 -- how many answers there are
-unfoldable pub answer_count : List ℕ → List ℕ → Result ℕ
+unfoldable pub answer_count : List ℕ → List ℕ → Result ℕ ℕ
 answer_count numbers buffer = unless_refused (run_checks numbers buffer) (length (items_in numbers))
 
 -- the buffer afterwards: what lies past the answers stays, and a refusal changes nothing
@@ -46,12 +43,7 @@ answer_buffer v l numbers buffer =
 unfoldable pub board_after_run : PolicyValue → Labels → List ℕ → List ℕ → Board
 board_after_run v l numbers buffer = given (first_broken (run_checks numbers buffer)) (board_run v l numbers).state (λ n. fresh)
 
--- what the code's verdict stands for
-abbrev pub result_of : Verdict → Result ℕ
-result_of (Answered n) = gives n
-result_of (Refused r) = refuses (number_of r)
-
 pub record RunsAs (v : PolicyValue) (l : Labels) (numbers buffer : List ℕ) (r : CodeRan) (after : List ℕ) : Type 0 where
-  pub verdict : result_of r.verdict ≡ answer_count numbers buffer
+  pub answered : answer_of r.answered ≡ answer_count numbers buffer
   pub board : r.board ≡ board_after_run v l numbers buffer
   pub answers : after ≡ answer_buffer v l numbers buffer

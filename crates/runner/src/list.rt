@@ -1,6 +1,5 @@
 // A list of calls as numbers: four to a call.
 ghost use Rattle.std.specs.Prelude.{◌≡◌, List, ℕ, ◌<◌, length, get_or};
-ghost use Rattle.std.proofs.Math.Option.{none};
 ghost use Rattle.runner.specs.Calls.{item_of, call_in, items_in};
 
 use board::Call;
@@ -8,30 +7,17 @@ use board::Call;
 // How many numbers a call is.
 const NUMBERS: usize = 4;
 
-// What stands at one place of a list: a call, or what is none.
-#[derive(Clone, Copy)]
-pub enum Item {
-    Is(Call),
-    NoCall,
-}
-
-// Four numbers as a call: its kind, then its arguments; close has 0 for the third.
-fn decode(kind: u32, a: u32, b: u32, c: u32) -> Item
+// Four numbers as a call, if they are one: its kind, then its arguments; close has 0 for the third.
+fn decode(kind: u32, a: u32, b: u32, c: u32) -> Option<Call>
     ensures { item_of result ≡ call_in kind a b c }
 {
     match kind {
-        0 => Item::Is(Call::Open(a, b, c)),
-        1 => Item::Is(Call::Add(a, b, c)),
-        2 => Item::Is(Call::Drop(a, b, c)),
-        3 => {
-            if c == 0 {
-                Item::Is(Call::Close(a, b))
-            } else {
-                Item::NoCall
-            }
-        }
-        4 => Item::Is(Call::Request(a, b, c)),
-        _ => Item::NoCall,
+        0 => Some(Call::Open(a, b, c)),
+        1 => Some(Call::Add(a, b, c)),
+        2 => Some(Call::Drop(a, b, c)),
+        3 => (c == 0).then_some(Call::Close(a, b)),
+        4 => Some(Call::Request(a, b, c)),
+        _ => None,
     }
 }
 
@@ -46,14 +32,14 @@ pub fn count_of(numbers: usize) -> usize
     }
 }
 
-// What stands at place i of a list.
-pub fn item_at(numbers: &[u32], i: usize) -> Item
+// What stands at place i of a list: a call, or what is none.
+pub fn item_at(numbers: &[u32], i: usize) -> Option<Call>
     requires { i < length (items_in numbers.now) }
-    ensures { item_of result ≡ get_or (items_in numbers.now) i none }
+    ensures { item_of result ≡ get_or (items_in numbers.now) i None }
 {
     let from = i * NUMBERS;
     if numbers.len() - from < NUMBERS {
-        return Item::NoCall;
+        return None;
     }
     decode(
         numbers[from],

@@ -3,7 +3,7 @@
 
 // Value `senior` is directly senior to value `junior`.
 #[repr(C)]
-#[derive(Clone, Copy)]
+#[derive(Clone, Copy, Default)]
 pub struct Direct {
     pub senior: u32,
     pub junior: u32,

@@ -8,7 +8,7 @@ ghost use Rattle.sets.specs.Set as set;
 pub fn holds(s: u32, v: u32) -> bool
     ensures { result ≡ set.has s v }
 {
-    if v < 32 { (s >> v) % 2 == 1 } else { false }
+    v < 32 && (s >> v) % 2 == 1
 }
 
 // The values of a and of b.

@@ -1,5 +1,6 @@
 -- A number, fields, lines and a kind word are read back from what they are written as, and are written as what they
 -- were read from.
+use Rattle.std.specs.Prelude.{Option, Some}
 use Prim.Native.Nat.{ℕ, zero, suc, ◌+◌, ◌*◌, ◌-◌, ◌/◌, ◌%◌, ◌^◌, ◌≤◌, ◌<◌}
 use mathlib.Core.Path.{◌≡◌, refl, sym, ap, ◌∙◌, subst}
 use mathlib.Core.Bool.{Bool, true, false, cond, not, ◌&&◌, ◌||◌, or-true, false≢true}
@@ -21,8 +22,6 @@ use Rattle.text.specs.Parts.{line_feed, comma, onto, split, join, TextLine, line
 use Rattle.text.specs.Kind.{word_of, kinds, named_in, named}
 use Rattle.text.specs.declared.kind.Kind.{Kind}
 use Rattle.text.specs.declared.kind.Kind.TheVariants.{Policy, Uattr, Oattr, Usen, Osen, User, Object, Conflict, Rule, Pair, End}
-use Rattle.text.specs.declared.kind.Named.{Named}
-use Rattle.text.specs.declared.kind.Named.TheVariants.{Is}
 use Rattle.text.proofs.Split.{split-pos}
 use Rattle.text.proofs.Naming.{each-kind}
 
@@ -356,7 +355,7 @@ text-lines t h = text-join (split line_feed t) (split-pos line_feed t) h ∙ joi
 
 -- ---- kind words
 
-pub named-word : (k : Kind) → named (word_of k) ≡ Is k
+pub named-word : (k : Kind) → named (word_of k) ≡ Some k
 unfolding named_in same
 named-word Policy = refl
 named-word Uattr = refl
@@ -370,18 +369,18 @@ named-word Rule = refl
 named-word Pair = refl
 named-word End = refl
 
-is-first : (b : Bool) (j k : Kind) (x : Named) → cond b (Is j) x ≡ Is k → ((b ≡ true) × (j ≡ k)) ⊎ (x ≡ Is k)
+is-first : (b : Bool) (j k : Kind) (x : Option Kind) → cond b (Some j) x ≡ Some k → ((b ≡ true) × (j ≡ k)) ⊎ (x ≡ Some k)
 is-first true j k x e = inl (refl, cc)
 is-first false j k x e = inr e
 
-word_in : (f : List ℕ) (ks : List Kind) (k : Kind) → named_in ks f ≡ Is k → same eqb f (word_of k) ≡ true
+word_in : (f : List ℕ) (ks : List Kind) (k : Kind) → named_in ks f ≡ Some k → same eqb f (word_of k) ≡ true
 unfolding named_in
 word_in f [] k e = let z : ◌≡◌ {A = ℕ} 0 1 = cc in absurd (omega arith)
 word_in f (j ∷ ks) k e =
     ⊎_elim (λ p. subst (λ (i : Kind). same eqb f (word_of i) ≡ true) p.1 p.0) (λ q. word_in f ks k q)
     (is-first (same eqb f (word_of j)) j k (named_in ks f) e)
 
-pub word_named : (f : List ℕ) (k : Kind) → named f ≡ Is k → f ≡ word_of k
+pub word_named : (f : List ℕ) (k : Kind) → named f ≡ Some k → f ≡ word_of k
 word_named f k e = same-eq eqb eqb-true f (word_of k) (word_in f kinds k e)
 
 pub word_lacks_comma : (k : Kind) → lacks comma (word_of k) ≡ true

@@ -1,32 +1,30 @@
 -- Laws of `split` and `index_of`: one byte more, and parts by the positions that `find` tells.
 use Prim.Native.Nat.{ℕ, suc, ◌+◌, ◌-◌, ◌≤◌, ◌<◌}
-use mathlib.Core.Path.{◌≡◌, refl, ◌∙◌}
-use mathlib.Core.Bool.{Bool, true, false}
+use mathlib.Core.Path.{◌≡◌, refl, sym, ap, ◌∙◌}
+use mathlib.Core.Bool.{Bool, true, false, cond, not}
 use mathlib.Core.List.{List, [], ◌∷◌}
 use native.Mathlib.Nat.{le_of_suc-le-suc, zero-lt-suc, not-suc-le-zero}
-use native.Mathlib.Numerals.{add-one}
 use native.Mathlib.Omega.{arith}
 use native.Mathlib.Decide.{dec_lt}
-use borrow.Author.Tests.{eq-eqb, ne_eqb}
 use lib.Dec.{eqb}
-use lib.ListN.{length, get_or, take, drop, length-drop, drop_of_length-le}
-use lib.Seq.{drop-cons, drop-drop, take_all}
+use lib.ListN.{length, get_or, take, drop, length-drop}
+use lib.Seq.{drop-drop, take_all}
+use Rattle.std.specs.List.{position_or_len, count_by}
+use Rattle.std.proofs.lemmas.List.Sums.{sum_by-cons}
 use Rattle.text.specs.Parts.{split, onto}
 use Rattle.text.specs.Inner.{index_of, after, Found}
 
 -- ---- one byte more
 
-pub index_hit : (s : List ℕ) (i b : ℕ) → i < length s → get_or s i 0 ≡ b → index_of b (drop i s) ≡ 0
+-- where a byte first stands, in the library's words
+pub index-position : (b : ℕ) (s : List ℕ) → index_of b s ≡ position_or_len (λ x. eqb x b) s
 unfolding index_of
-index_hit s i b h e = rw (drop-cons s i 0) (simp (eq-eqb _ _ e))
-
-pub index_miss : (s : List ℕ) (i b : ℕ) → i < length s → (get_or s i 0 ≡ b → ⊥) → index_of b (drop i s) ≡ suc (index_of b (drop (i + 1) s))
-unfolding index_of
-index_miss s i b h e = rw (drop-cons s i 0, add-one) (simp (ne_eqb _ _ e))
-
-pub index_end : (s : List ℕ) (i b : ℕ) → length s ≤ i → index_of b (drop i s) ≡ 0
-unfolding index_of
-index_end s i b h = rw (drop_of_length-le s h)
+index-position b [] = refl
+index-position b (x ∷ xs) = first (eqb x b) _ _ (index-position b xs)
+  where
+    first : (t : Bool) (m n : ℕ) → m ≡ n → after t m ≡ cond (not t) (1 + n) 0
+    first true m n e = refl
+    first false m n e = omega (arith, e)
 
 -- there is a part
 onto-pos : (t : Bool) (x : ℕ) (ps : List (List ℕ)) → 0 < length (onto t x ps)
@@ -43,22 +41,17 @@ onto-length : (x : ℕ) (ps : List (List ℕ)) → 0 < length ps → length (ont
 onto-length x [] h = absurd (not-suc-le-zero h)
 onto-length x (p ∷ ps) h = refl
 
--- a separator makes a part more, any other byte none
-pub split-hit : (s : List ℕ) (i b : ℕ) → i < length s → get_or s i 0 ≡ b
-    → length (split b (drop i s)) ≡ suc (length (split b (drop (i + 1) s)))
-unfolding split
-split-hit s i b h e = rw (drop-cons s i 0, add-one) (simp (eq-eqb _ _ e))
+-- each separator makes a part more
+onto-count : (t : Bool) (x n : ℕ) (ps : List (List ℕ)) → 0 < length ps → length ps ≡ n + 1 → length (onto t x ps) ≡ cond t 1 0 + n + 1
+onto-count true x n ps h e = omega (arith, e)
+onto-count false x n ps h e = onto-length x ps h ∙ omega (arith, e)
 
-pub split-miss : (s : List ℕ) (i b : ℕ) → i < length s → (get_or s i 0 ≡ b → ⊥)
-    → length (split b (drop i s)) ≡ length (split b (drop (i + 1) s))
+pub split-count : (b : ℕ) (s : List ℕ) → length (split b s) ≡ count_by (λ x. eqb x b) s + 1
 unfolding split
-split-miss s i b h e =
-    rw (drop-cons s i 0, add-one)
-    (simp (ne_eqb _ _ e) (onto-length (get_or s i 0) (split b (drop (suc i) s)) (split-pos b (drop (suc i) s))))
-
-pub split-end : (s : List ℕ) (i b : ℕ) → length s ≤ i → length (split b (drop i s)) ≡ 1
-unfolding split
-split-end s i b h = rw (drop_of_length-le s h)
+split-count b [] = refl
+split-count b (x ∷ xs) =
+    onto-count (eqb x b) x (count_by (λ y. eqb y b) xs) (split b xs) (split-pos b xs) (split-count b xs)
+    ∙ ap (λ n. n + 1) (sym (sum_by-cons (λ y. cond (eqb y b) 1 0) x xs))
 
 -- ---- the first part, by the first separator
 

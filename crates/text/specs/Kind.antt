@@ -1,14 +1,12 @@
 -- "The first field is one of nine words", to which document 02 adds `pair` and `conflict`; which kind may follow
 -- which.
-use Rattle.std.specs.Prelude.{ℕ, Bool, false, cond, ◌||◌, List, [], ◌∷◌, eqb, leb}
+use Rattle.std.specs.Prelude.{ℕ, Bool, false, cond, ◌||◌, List, [], ◌∷◌, eqb, leb, Option, Some, None}
 use Rattle.basis.specs.Bytes.{bytes}
 use Rattle.basis.specs.Lists.{same}
 use Rattle.text.specs.declared.kind.Kind.{Kind}
 use Rattle.text.specs.declared.kind.Kind.TheVariants.{Policy, Uattr, Oattr, Usen, Osen, User, Object, Conflict, Rule, Pair, End}
 use Rattle.text.specs.declared.kind.Layout.{Layout}
 use Rattle.text.specs.declared.kind.Layout.TheVariants.{Bare, One, Two, Three, Formula}
-use Rattle.text.specs.declared.kind.Named.{Named}
-use Rattle.text.specs.declared.kind.Named.TheVariants.{Is, Unknown}
 
 -- each kind word is a fixed byte string
 abbrev pub word_of : Kind → List ℕ
@@ -28,11 +26,11 @@ abbrev pub kinds : List Kind
 kinds = Policy ∷ Uattr ∷ Oattr ∷ Usen ∷ Osen ∷ User ∷ Object ∷ Conflict ∷ Rule ∷ Pair ∷ End ∷ []
 
 -- the kind of a list whose word a first field is
-unfoldable pub named_in : List Kind → List ℕ → Named
-named_in [] f = Unknown
-named_in (k ∷ ks) f = cond (same eqb f (word_of k)) (Is k) (named_in ks f)
+unfoldable pub named_in : List Kind → List ℕ → Option Kind
+named_in [] f = None
+named_in (k ∷ ks) f = cond (same eqb f (word_of k)) (Some k) (named_in ks f)
 
-abbrev pub named : List ℕ → Named
+abbrev pub named : List ℕ → Option Kind
 named f = named_in kinds f
 
 -- what stands behind a kind's word: nothing, one, two or three numbers, or an action and the words of a formula

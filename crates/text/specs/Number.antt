@@ -1,9 +1,7 @@
 -- "A number is one to five digits with no needless leading zero."
-use Rattle.std.specs.Prelude.{ℕ, zero, suc, ◌+◌, ◌*◌, ◌-◌, ◌/◌, ◌%◌, Bool, cond, not, ◌&&◌, ◌||◌, List, [], ◌∷◌, eqb, leb, ltb, length, get_or}
+use Rattle.std.specs.Prelude.{ℕ, zero, suc, ◌+◌, ◌*◌, ◌-◌, ◌/◌, ◌%◌, Bool, cond, not, ◌&&◌, ◌||◌, List, [], ◌∷◌, eqb, leb, ltb, length, get_or, Option, Some, None}
 use Rattle.basis.specs.Bytes.{byte}
 use Rattle.basis.specs.Lists.{all}
-use Rattle.text.specs.declared.number.Numeral.{Numeral}
-use Rattle.text.specs.declared.number.Numeral.TheVariants.{Value, Malformed}
 
 abbrev pub most_digits : ℕ
 most_digits = 5
@@ -29,9 +27,9 @@ is_number f =
     leb 1 (length f) && (leb (length f) most_digits && (all is_digit f && (eqb (length f) 1 || not (eqb (get_or f 0 0) (byte "0")))))
 
 -- what a field says
-unfoldable pub numeral : List ℕ → Numeral
+unfoldable pub numeral : List ℕ → Option ℕ
 unfolding is_number
-numeral f = cond (is_number f) (Value (value_of f)) Malformed
+numeral f = cond (is_number f) (Some (value_of f)) None
 
 -- the digits of n, at most k of them, in front of others
 unfoldable pub digits_before : ℕ → ℕ → List ℕ → List ℕ

@@ -1,10 +1,8 @@
 // The eleven words that a line may start with, and which kind may follow which.
-ghost use Rattle.std.specs.Prelude.{◌≡◌, eqb, drop};
-ghost use Rattle.basis.specs.Lists.{same};
-ghost use Rattle.text.specs.Kind.{kinds, named_in, named, layout_of, place_of, is_kind, follows};
-ghost use Rattle.text.specs.declared.kind.Kind.TheVariants.{User};
+ghost use Rattle.std.specs.Prelude.{◌≡◌};
+ghost use Rattle.text.specs.Kind.{named, layout_of, place_of, follows};
 
-#[derive(Clone, Copy)]
+#[derive(Clone, Copy, PartialEq, Eq)]
 pub enum Kind {
     Policy,
     Uattr,
@@ -52,117 +50,46 @@ pub enum Layout {
     Formula,
 }
 
-#[derive(Clone, Copy)]
-pub enum Named {
-    Is(Kind),
-    Unknown,
-}
-
-// Whether a and b are the same bytes.
-fn equal(a: &[u8], b: &[u8]) -> bool
-    ensures { result ≡ same eqb a.now b.now }
-{
-    if a.len() != b.len() {
-        return false;
-    }
-    let mut i = 0;
-    while i < a.len() {
-        if a[i] != b[i] {
-            return false;
-        }
-        i += 1;
-    }
-    true
-}
-
-// The kind that a first field names, where it is none of those before user.
-fn parse_later(f: &[u8]) -> Named
-    ensures { result ≡ named_in (drop (place_of User) kinds) f.now }
-{
-    if equal(f, &USER) {
-        return Named::Is(Kind::User);
-    }
-    if equal(f, &OBJECT) {
-        return Named::Is(Kind::Object);
-    }
-    if equal(f, &CONFLICT) {
-        return Named::Is(Kind::Conflict);
-    }
-    if equal(f, &RULE) {
-        return Named::Is(Kind::Rule);
-    }
-    if equal(f, &PAIR) {
-        return Named::Is(Kind::Pair);
-    }
-    if equal(f, &END) {
-        return Named::Is(Kind::End);
-    }
-    Named::Unknown
-}
-
 // The kind that a first field names.
-pub fn parse(f: &[u8]) -> Named
+#[tactic(auto, using(crate::proofs::Naming::same_pointwise), unfolding(crate::specs::Kind::named_in))]
+pub fn parse(f: &[u8]) -> Option<Kind>
     ensures { result ≡ named f.now }
 {
-    if equal(f, &POLICY) {
-        return Named::Is(Kind::Policy);
-    }
-    if equal(f, &UATTR) {
-        return Named::Is(Kind::Uattr);
-    }
-    if equal(f, &OATTR) {
-        return Named::Is(Kind::Oattr);
-    }
-    if equal(f, &USEN) {
-        return Named::Is(Kind::Usen);
-    }
-    if equal(f, &OSEN) {
-        return Named::Is(Kind::Osen);
-    }
-    parse_later(f)
+    // Tests in turn, and no patterns: of a pattern that did not fit, the check knows too little.
+    let kind = match f {
+        _ if f == POLICY.as_slice() => Kind::Policy,
+        _ if f == UATTR.as_slice() => Kind::Uattr,
+        _ if f == OATTR.as_slice() => Kind::Oattr,
+        _ if f == USEN.as_slice() => Kind::Usen,
+        _ if f == OSEN.as_slice() => Kind::Osen,
+        _ if f == USER.as_slice() => Kind::User,
+        _ if f == OBJECT.as_slice() => Kind::Object,
+        _ if f == CONFLICT.as_slice() => Kind::Conflict,
+        _ if f == RULE.as_slice() => Kind::Rule,
+        _ if f == PAIR.as_slice() => Kind::Pair,
+        _ if f == END.as_slice() => Kind::End,
+        _ => return None,
+    };
+    Some(kind)
 }
 
-// A kind's place in the list of eleven.
+// A kind's place in the list of eleven. A function, whose clause says what the discriminants are.
 fn place(k: Kind) -> usize
     ensures { result ≡ place_of k }
 {
-    match k {
-        Kind::Policy => 0,
-        Kind::Uattr => 1,
-        Kind::Oattr => 2,
-        Kind::Usen => 3,
-        Kind::Osen => 4,
-        Kind::User => 5,
-        Kind::Object => 6,
-        Kind::Conflict => 7,
-        Kind::Rule => 8,
-        Kind::Pair => 9,
-        Kind::End => 10,
-    }
+    k as usize
 }
 
 pub fn layout_of(k: Kind) -> Layout
     ensures { result ≡ layout_of k }
 {
     match k {
-        Kind::Policy => Layout::One,
-        Kind::Uattr => Layout::One,
-        Kind::Oattr => Layout::One,
-        Kind::Usen => Layout::Two,
-        Kind::Osen => Layout::Two,
-        Kind::User => Layout::Two,
-        Kind::Object => Layout::Two,
-        Kind::Conflict => Layout::Two,
+        Kind::Policy | Kind::Uattr | Kind::Oattr => Layout::One,
+        Kind::Usen | Kind::Osen | Kind::User | Kind::Object | Kind::Conflict => Layout::Two,
         Kind::Rule => Layout::Formula,
         Kind::Pair => Layout::Three,
         Kind::End => Layout::Bare,
     }
-}
-
-pub fn same(j: Kind, k: Kind) -> bool
-    ensures { result ≡ is_kind j k }
-{
-    place(j) == place(k)
 }
 
 const KINDS: usize = 11;

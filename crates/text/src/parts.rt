@@ -8,27 +8,15 @@ pub fn find(s: &[u8], from: usize, b: u8) -> usize
     requires { from ≤ length s.now }
     ensures { Found s.now from b result }
 {
-    let mut i = from;
-    while i < s.len() {
-        if s[i] == b {
-            return i;
-        }
-        i += 1;
+    match s[from..].iter().position(|x| *x == b) {
+        Some(i) => from + i,
+        None => s.len(),
     }
-    i
 }
 
 // How many fields a line has.
 pub fn count(line: &[u8]) -> usize
     ensures { result ≡ length (fields line.now) }
 {
-    let mut n: usize = 1;
-    let mut i = 0;
-    while i < line.len() {
-        if line[i] == b',' {
-            n += 1;
-        }
-        i += 1;
-    }
-    n
+    line.iter().filter(|x| **x == b',').count() + 1
 }

@@ -1,4 +1,3 @@
 -- What only the contracts of inner code and the proofs cite.
-pub mod Buffers
 pub mod Marks
 pub mod Blocks

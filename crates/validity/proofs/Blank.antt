@@ -1,33 +1,24 @@
--- The loop over the places of an array behind its elements, each of which must be blank: one law for a turn and one for
--- the end.
-use Prim.Native.Nat.{ℕ, ◌+◌, ◌≤◌, ◌<◌}
-use mathlib.Core.Path.{◌≡◌, refl, sym, ◌∙◌}
-use mathlib.Core.Bool.{Bool, true, ◌&&◌, and-true, and_assoc}
-use mathlib.Core.List.{List, []}
-use native.Mathlib.Omega.{arith}
-use lib.ListN.{length, get_or, drop, drop_of_length-le}
+-- The loop over places that must be blank: one law for a turn and one for the end.
+use Prim.Native.Nat.{ℕ, ◌+◌, ◌-◌, ◌≤◌, ◌<◌}
+use mathlib.Core.Path.{◌≡◌}
+use mathlib.Core.Bool.{Bool, ◌&&◌, and-true, and_assoc}
+use mathlib.Core.List.{List}
+use lib.ListN.{length, get_or, take, drop, drop_of_length-le, length-drop}
+use lib.Seq.{take-length}
 use Rattle.basis.specs.Lists.{all}
 use Rattle.basis.proofs.Walk.{rest-next}
-use Rattle.policy.specs.declared.value.RuleValue.{RuleValue}
 
--- `so` says whether the places looked at, up to place i of an array of m, are blank: the answer is that, and that of
--- the rest
-pub record BlankTo {A : Type 0} (answer : Bool) (t : A → Bool) (xs : List A) (m i : ℕ) (so : Bool) : Type 0 where
-  pub places : length xs ≡ m
-  pub rest : answer ≡ (so && all t (drop i xs))
-
-pub blank_none : {A : Type 0} {t : A → Bool} {xs : List A} {m n : ℕ} → length xs ≡ m → BlankTo (all t (drop n xs)) t xs m n true
-blank_none k = record { places = k; rest = refl }
-
-module _ {A : Type 0} {answer : Bool} {t : A → Bool} {xs : List A} {m i : ℕ} {so : Bool} (q : BlankTo answer t xs m i so) where
-  pub blank-all : m ≤ i → so ≡ answer
+-- `so` says whether the places before place i are blank
+module _ {A : Type 0} (t : A → Bool) (xs : List A) (i : ℕ) (so : Bool) where
+  pub blank-next : i < length xs → {x : A} → x ≡ get_or xs i x → {b : Bool} → b ≡ t x
+      → (so && all t (drop i xs)) ≡ ((so && b) && all t (drop (i + 1) xs))
   unfolding all
-  blank-all h = let l : length xs ≤ i = omega arith in sym (q.rest ∙ rw (drop_of_length-le xs l, and-true))
+  blank-next h {x} is e = rw (rest-next x xs i h, ← is, e, and_assoc)
 
-  pub blank-more : (d : A) → i < m → {b r : Bool} → b ≡ t (get_or xs i d) → r ≡ (so && b) → BlankTo answer t xs m (i + 1) r
+  pub blank-end : length xs ≤ i → (so && all t (drop i xs)) ≡ so
   unfolding all
-  blank-more d h e g = record { places = q.places; rest = q.rest ∙ rw (rest-next d xs i (rw q.places h), ← e, g, and_assoc) }
+  blank-end h = rw (drop_of_length-le xs h, and-true)
 
--- what stands past the end of an array of rules
-abbrev pub empty_rule : RuleValue
-empty_rule = record { action = 0; count = 0; words = [] }
+-- a list of m places from a place on, as a range of an array or a slice cuts it out
+pub whole : {A : Type 0} (xs : List A) (n m : ℕ) → length xs ≡ m → take (m - n) (drop n xs) ≡ drop n xs
+whole xs n m k = rw (← k, ← length-drop n xs) (take-length (drop n xs))

@@ -1,6 +1,5 @@
 pub mod Blank
 pub mod Rising
 pub mod Stored
-pub mod Turns
 pub mod Whole
 pub mod Widths

@@ -1,37 +1,35 @@
 -- Check 11 by its parts: a side by its widths and lines, the rules by each rule and what is behind the last, and the
 -- value by its sides and lists.
+use Rattle.std.specs.Prelude.{None}
 use Prim.Native.Nat.{ℕ, ◌≤◌, ◌<◌}
 use mathlib.Core.Path.{◌≡◌, refl, sym, ap, ◌∙◌}
-use mathlib.Core.Bool.{Bool, true, false, not, ◌&&◌, and-false}
-use mathlib.Core.List.{List, map, map-map}
-use mathlib.Core.Option.{none}
-use native.Mathlib.Nat.{le_trans}
+use mathlib.Core.Bool.{Bool, true, false, ◌&&◌, and-false}
+use mathlib.Core.List.{map, map-map}
 use native.Mathlib.Omega.{arith}
-use borrow.Author.Tests.{eq-eqb, ne_eqb, le-leb, eqb-true, not-false}
+use borrow.Author.Tests.{eq-eqb, ne_eqb, le-leb, leb-true, leb-false}
 use lib.Dec.{eqb, leb, ltb}
 use lib.ListN.{length, take, drop, length-map, length-take}
 use lib.Seq.{length-take-le}
 use Rattle.basis.specs.Lists.{all, sum}
-use Rattle.basis.proofs.Bools.{and_left, and_right}
 use Rattle.basis.proofs.Padded.{same-padded, same_map}
-use Rattle.policy.specs.Limits.{is_form, values, actions, user_numbers, object_numbers, most_conflicts, most_words, most_values}
-use Rattle.policy.specs.Policy.{Side, total}
+use Rattle.seniority.specs.Seniority.{direct}
+use Rattle.policy.specs.Limits.{is_form, values, actions, user_numbers, object_numbers, most_conflicts, most_words}
+use Rattle.policy.specs.Policy.{total}
 use Rattle.policy.specs.Checks.{SideSizes, Sizes, side_sizes, sizes, conflict_fits, word_fits, widths_equal, balanced}
-use Rattle.policy.specs.Value.{width_places, word_places, words_in, rule_places, no_rule, register, side_of, side_value, entries_of, conflicts_of, conflicts_value, rule_of, rule_value, rules_of, rules_value, policy_of, value_of}
-use Rattle.policy.specs.Valid.{same_side, same_register, same_conflicts, same_rule, same_rules, same_value, valid}
-use Rattle.policy.specs.Inner.Sound.{widths_sound, rising, number_in, number_above, set_above, rule_sound, action_above, side_sound, lists_sound, sound}
+use Rattle.policy.specs.Value.{width_places, line_places, word_places, words_in, rule_places, no_rule, register, side_of, side_value, entries_of, conflicts_of, conflicts_value, rule_of, rule_value, rules_of, rules_value, policy_of, value_of}
+use Rattle.policy.specs.Valid.{same_line, same_side, same_register, same_conflicts, same_rule, same_rules, same_value, valid}
+use Rattle.policy.specs.Inner.Sound.{widths_sound, rising, line_in, line_above, number_in, number_above, set_above, rule_sound, action_above, side_sound, lists_sound, sound}
 use Rattle.policy.specs.declared.value.SideValue.{SideValue}
 use Rattle.policy.specs.declared.value.RuleValue.{RuleValue}
 use Rattle.policy.specs.declared.value.Rules.{Rules}
 use Rattle.policy.specs.declared.value.PolicyValue.{PolicyValue}
 use Rattle.policy.proofs.Valid.{valid-sound}
-use Rattle.checks.specs.Inner.{sizes_in, both_in, shape_of}
-use Rattle.checks.specs.declared.side.Shape.{Shape}
-use Rattle.checks.proofs.Laws.{shape-sizes}
+use Rattle.checks.specs.Inner.{sizes_in, both_in}
+use Rattle.checks.specs.declared.shape.Shape.{Shape}
+use Rattle.checks.specs.declared.shape.Shapes.{Shapes}
 use Rattle.validity.specs.Inner.{holds, widths_valid, lines_valid, side_valid, register_valid, conflicts_valid, rule_valid, rules_valid, pairs_valid, lists_valid}
 use Rattle.validity.proofs.Rising.{rising-map, rising-all}
-use Rattle.validity.proofs.Turns.{turn-fails, turn-rest}
-use Rattle.validity.proofs.Widths.{sound-sum}
+use Rattle.validity.proofs.Stored.{lines-are}
 
 -- ---- a side
 
@@ -53,22 +51,24 @@ side-parts most x =
     (widths_sound most 0 (take x.attributes x.widths))
     _
 
--- the widths of a valid side are in their places and sum to at most the limit
-pub record Small (most : ℕ) (ws : List ℕ) (n : ℕ) : Type 0 where
-  pub places : n ≤ width_places
-  pub small : sum (take n ws) ≤ most
+-- a shape with the widths of a side has its sizes
+pub shape-is : (s : Shape) (x : SideValue) → length x.widths ≡ width_places → s.attributes ≡ x.attributes → s.widths ≡ x.widths
+    → s.total ≡ sum (take x.attributes x.widths) → sizes_in s ≡ side_sizes (side_of x)
+unfolding side_of total
+shape-is s x k e w t =
+    let p : length (take s.attributes s.widths) ≡ s.attributes = length-take-le s.attributes s.widths (omega (arith, s.placed, ap length w)) in
+    rw (t, ← e, ← w, p)
 
-pub widths-small : (most : ℕ) (ws : List ℕ) (n : ℕ) → length ws ≡ width_places → widths_valid most ws n ≡ true → Small most ws n
-unfolding widths_valid holds
-widths-small most ws n k e =
-    let l = eqb-true (length (take n ws)) n (and_left _ _ (and_left (eqb (length (take n ws)) n && _) _ e)) in
-    let s = and_right (leb 1 (length (take n ws))) _ (and_right (eqb (length (take n ws)) n && _) _ e) in
-    record { places = omega (arith, length-take n ws); small = sound-sum most (take n ws) s }
+module _ (most : ℕ) (x : SideValue) where
+  pub side-out : widths_valid most x.widths x.attributes ≡ false → side_valid most x ≡ false
+  side-out e = rw (side-parts most x, e)
 
-pub side-small : (most : ℕ) (x : SideValue) {b : Bool} → length x.widths ≡ width_places → b ≡ side_valid most x → not b ≡ false → Small most x.widths x.attributes
-side-small most x {b} k e h =
-    widths-small most x.widths x.attributes k
-    (and_left (widths_valid most x.widths x.attributes) _ (sym (side-parts most x) ∙ sym e ∙ not-false b h))
+  -- where its widths are valid, the answer is that of its lines
+  pub side-lines : length x.seniority ≡ line_places → widths_valid most x.widths x.attributes ≡ true → {s : SideSizes} → s ≡ side_sizes (side_of x)
+      → {r : Bool}
+      → r ≡ (leb x.lines (length x.seniority) && (all (same_line (direct 0 0)) (drop x.lines x.seniority) && rising (line_in s) line_above None (take x.lines x.seniority)))
+      → side_valid most x ≡ r
+  side-lines k e {s} z q = rw (side-parts most x, e, ← z, lines-are s x.seniority x.lines k) (sym q)
 
 -- ---- a rule
 
@@ -87,7 +87,7 @@ rules-order true b r = refl
 rules-order false b r = sym (and-false b)
 
 module _ (n : ℕ) (s : Sizes) (x : Rules) (k : length x.entries ≡ rule_places) where
-  pub rules-out : rule_places < x.count → false ≡ rules_valid n s x
+  rules-out : rule_places < x.count → rules_valid n s x ≡ false
   unfolding rules_valid same_rules rules_value rules_of
   rules-out h = rw (length-map, ne_eqb (length (take x.count x.entries)) x.count (λ q. omega (arith, length-take x.count x.entries)))
 
@@ -109,37 +109,38 @@ module _ (n : ℕ) (s : Sizes) (x : Rules) (k : length x.entries ≡ rule_places
         same_map,
       )
 
-  pub rules-in : x.count ≤ rule_places
-      → rules_valid n s x ≡ (all (same_rule no_rule) (drop x.count x.entries) && rising (rule_valid n s) (λ (b y : RuleValue). ltb b.action y.action) none (take x.count x.entries))
+  rules-in : x.count ≤ rule_places
+      → rules_valid n s x ≡ (all (same_rule no_rule) (drop x.count x.entries) && rising (rule_valid n s) (λ (b y : RuleValue). ltb b.action y.action) None (take x.count x.entries))
   unfolding rules_valid rules_of rule_of rule_valid
   rules-in h =
       let zs = take x.count x.entries in
       rw (
         rules-stored h,
         rules-order (all (λ y. same_rule (rule_value (rule_of y)) y) zs),
-        rising-map (rule_sound n s) action_above rule_of none,
+        rising-map (rule_sound n s) action_above rule_of None,
         rising-all,
       )
 
+  pub rules-are
+      : rules_valid n s x
+      ≡ (leb x.count (length x.entries)
+      && (all (same_rule no_rule) (drop x.count x.entries) && rising (rule_valid n s) (λ (b y : RuleValue). ltb b.action y.action) None (take x.count x.entries)))
+  rules-are = rw k (go (leb x.count rule_places) refl)
+    where
+      go : (b : Bool) → leb x.count rule_places ≡ b
+          → rules_valid n s x
+          ≡ (b && (all (same_rule no_rule) (drop x.count x.entries) && rising (rule_valid n s) (λ (b y : RuleValue). ltb b.action y.action) None (take x.count x.entries)))
+      go true q = rules-in (leb-true x.count rule_places q)
+      go false q = rules-out (leb-false x.count rule_places q)
+
 -- ---- the value
 
--- the shape that is measured of a valid side: it has the sizes of the side, and they are within the limits
-module _ {most n : ℕ} {ws : List ℕ} (h : Small most ws n) {u : Shape} (q : u ≡ shape_of ws n) where
-  pub shape-places : u.attributes ≤ width_places
-  shape-places = rw q h.places
-
-  pub shape-small : most ≤ most_values → u.total ≤ most_values
-  shape-small k = rw q (le_trans h.small k)
-
-  pub shape_is : length ws ≡ width_places → (s : Side) → s.widths ≡ take n ws → sizes_in u ≡ side_sizes s
-  shape_is k s e = rw q (shape-sizes ws n (rw k h.places) s e)
-
 -- the sizes of both sides
-pub both-are : (v : PolicyValue) (u o : Shape) → sizes_in u ≡ side_sizes (side_of v.user) → sizes_in o ≡ side_sizes (side_of v.object)
-    → both_in u o ≡ sizes (policy_of v)
+pub both-are : (v : PolicyValue) (s : Shapes) → sizes_in s.user ≡ side_sizes (side_of v.user) → sizes_in s.object ≡ side_sizes (side_of v.object)
+    → both_in s ≡ sizes (policy_of v)
 unfolding policy_of
-both-are v u o x y =
-    ap (λ (z : SideSizes). record { user = z; object = sizes_in o }) x ∙ ap (λ (z : SideSizes). record { user = side_sizes (side_of v.user); object = z }) y
+both-are v s x y =
+    ap (λ (z : SideSizes). record { user = z; object = sizes_in s.object }) x ∙ ap (λ (z : SideSizes). record { user = side_sizes (side_of v.user); object = z }) y
 
 value-order : (su so ru ro rc rr rp f lu lo ku ko eu eo ec er ep : Bool)
     → ((su && (so && (ru && (ro && (rc && (rr && rp)))))) && (f && (lu && (lo && (ku && (ko && (eu && (eo && (ec && (er && ep))))))))))
@@ -155,7 +156,7 @@ value-order true true true true true true true f false lo ku ko eu eo ec er ep =
 value-order true true true true true true true f true false ku ko eu eo ec er ep = simp and-false
 value-order true true true true true true true f true true ku ko eu eo ec er ep = refl
 
-valid-parts : (v : PolicyValue)
+pub valid-parts : (v : PolicyValue)
     → valid v
     ≡ (is_form v.form
     && (side_valid (values v.form) v.user
@@ -177,31 +178,8 @@ valid-parts v =
     (leb 1 (length (side_of v.object).widths))
     (side_sound (values v.form) (side_of v.user))
     (side_sound (values v.form) (side_of v.object))
-    (rising (number_in user_numbers (total (side_of v.user))) number_above none (entries_of v.users))
-    (rising (number_in object_numbers (total (side_of v.object))) number_above none (entries_of v.objects))
-    (leb (length (conflicts_of v.conflicts)) most_conflicts && rising (conflict_fits (total (side_of v.user))) set_above none (conflicts_of v.conflicts))
-    (rising (rule_sound (actions v.form) (sizes (policy_of v))) action_above none (rules_of v.rules))
+    (rising (number_in user_numbers (total (side_of v.user))) number_above None (entries_of v.users))
+    (rising (number_in object_numbers (total (side_of v.object))) number_above None (entries_of v.objects))
+    (leb (length (conflicts_of v.conflicts)) most_conflicts && rising (conflict_fits (total (side_of v.user))) set_above None (conflicts_of v.conflicts))
+    (rising (rule_sound (actions v.form) (sizes (policy_of v))) action_above None (rules_of v.rules))
     _))
-
--- the answers about the value
-module _ (v : PolicyValue) (a : Bool) (f : a ≡ is_form v.form) where
-  pub form-not : not a ≡ true → false ≡ valid v
-  form-not e = turn-fails f e _ ∙ sym (valid-parts v)
-
-  module _ (e : not a ≡ false) (m : ℕ) (k : m ≡ values v.form) (b : Bool) (g : b ≡ side_valid m v.user) where
-    user : b ≡ side_valid (values v.form) v.user
-    user = rw k at g
-
-    pub user-not : not b ≡ true → false ≡ valid v
-    user-not h = turn-rest f e (turn-fails user h _) ∙ sym (valid-parts v)
-
-    module _ (h : not b ≡ false) (d : Bool) (t : d ≡ side_valid m v.object) where
-      object : d ≡ side_valid (values v.form) v.object
-      object = rw k at t
-
-      pub object-not : not d ≡ true → false ≡ valid v
-      object-not l = turn-rest f e (turn-rest user h (turn-fails object l _)) ∙ sym (valid-parts v)
-
-      pub lists-left : not d ≡ false → {s : Sizes} → s ≡ sizes (policy_of v)
-          → {r : Bool} → r ≡ lists_valid v.form s v.users v.objects v.conflicts v.rules v.pairs → r ≡ valid v
-      lists-left l x q = turn-rest f e (turn-rest user h (turn-rest object l (rw x at q))) ∙ sym (valid-parts v)

@@ -1,7 +1,6 @@
 -- The parts of check 11, a test for each list of a policy value: it is what the lists read from it are stored as, and
 -- these pass their checks.
-use Rattle.std.specs.Prelude.{ℕ, Bool, ◌&&◌, List, eqb, leb, length, take}
-use Rattle.std.proofs.Math.Option.{none}
+use Rattle.std.specs.Prelude.{ℕ, Bool, ◌&&◌, List, eqb, leb, length, take, None}
 use Rattle.basis.specs.Lists.{same, padded}
 use Rattle.seniority.specs.Seniority.{direct}
 use Rattle.seniority.specs.declared.Direct.{Direct}
@@ -27,7 +26,7 @@ unfoldable pub widths_valid : ℕ → List ℕ → ℕ → Bool
 widths_valid most ws n = holds eqb width_places 0 ws n && (leb 1 (length (take n ws)) && widths_sound most 0 (take n ws))
 
 unfoldable pub lines_valid : SideSizes → List Direct → ℕ → Bool
-lines_valid s ls n = holds same_line line_places (direct 0 0) ls n && rising (line_in s) line_above none (take n ls)
+lines_valid s ls n = holds same_line line_places (direct 0 0) ls n && rising (line_in s) line_above None (take n ls)
 
 unfoldable pub side_valid : ℕ → SideValue → Bool
 side_valid most x = same_side (side_value (side_of x)) x && (leb 1 (length (side_of x).widths) && side_sound most (side_of x))
@@ -36,7 +35,7 @@ side_valid most x = same_side (side_value (side_of x)) x && (leb 1 (length (side
 
 -- of a side of so many values
 unfoldable pub register_valid : ℕ → ℕ → Register → Bool
-register_valid most total x = same_register (register (entries_of x)) x && rising (number_in most total) number_above none (entries_of x)
+register_valid most total x = same_register (register (entries_of x)) x && rising (number_in most total) number_above None (entries_of x)
 
 -- ---- conflicts
 
@@ -44,7 +43,7 @@ register_valid most total x = same_register (register (entries_of x)) x && risin
 unfoldable pub conflicts_valid : ℕ → Conflicts → Bool
 conflicts_valid u x =
     same_conflicts (conflicts_value (conflicts_of x)) x
-    && (leb (length (conflicts_of x)) most_conflicts && rising (conflict_fits u) set_above none (conflicts_of x))
+    && (leb (length (conflicts_of x)) most_conflicts && rising (conflict_fits u) set_above None (conflicts_of x))
 
 -- ---- rules
 
@@ -53,7 +52,7 @@ unfoldable pub rule_valid : ℕ → Sizes → RuleValue → Bool
 rule_valid n s x = same_rule (rule_value (rule_of x)) x && rule_sound n s (rule_of x)
 
 unfoldable pub rules_valid : ℕ → Sizes → Rules → Bool
-rules_valid n s x = same_rules (rules_value (rules_of x)) x && rising (rule_sound n s) action_above none (rules_of x)
+rules_valid n s x = same_rules (rules_value (rules_of x)) x && rising (rule_sound n s) action_above None (rules_of x)
 
 -- ---- pairs
 
@@ -61,7 +60,7 @@ rules_valid n s x = same_rules (rules_value (rules_of x)) x && rising (rule_soun
 unfoldable pub pairs_valid : ℕ → Sizes → Pairs → Bool
 pairs_valid n s x =
     same_pairs (pairs_value (pairs_of x)) x
-    && (leb (length (pairs_of x)) most_pairs && rising (pair_fits n s.user.values s.object.values) pair_higher none (pairs_of x))
+    && (leb (length (pairs_of x)) most_pairs && rising (pair_fits n s.user.values s.object.values) pair_higher None (pairs_of x))
 
 -- ---- the value
 

@@ -1,13 +1,16 @@
-// The places behind the last element of a list, which must be blank. The loops over them have no early way out, so that
-// the compiler can look at several places at once.
-ghost use Rattle.std.specs.Prelude.{◌≡◌, ◌&&◌};
+// The places behind the last element of a list, which must be blank.
+ghost use Rattle.std.specs.Prelude.{◌≡◌, Bool};
+ghost use Rattle.std.specs.Fn.{FnReturnsAt};
+ghost use Rattle.basis.specs.Lists.{all};
 
-// The places so far are blank, and so is one more.
-pub fn still_blank(blank: bool, place: bool) -> bool
-    ensures { result ≡ (blank && place) }
+// The loop has no early way out, so that the compiler can look at several places at once.
+pub fn all_blank<T, B: Fn(&T) -> bool>(places: &[T], is_blank: B) -> bool
+    requires { B.IsAlwaysCallable is_blank }
+    ensures { (test : T → Bool) → ((x : T) (r : Bool) → FnReturnsAt B.Fn is_blank x r → r ≡ test x) → result ≡ all test places.now }
 {
-    if blank {
-        return place;
+    let mut blank = true;
+    for x in places {
+        blank &= is_blank(x);
     }
-    false
+    blank
 }

@@ -1,94 +1,58 @@
-// The lists of a side: its widths and its direct seniorities.
-ghost use Rattle.std.specs.Prelude.{◌≡◌, ◌≤◌};
-ghost use Rattle.seniority.specs.Seniority.{direct};
-ghost use Rattle.policy.specs.Value.{width_places};
-ghost use Rattle.policy.specs.Valid.{same_line};
+// A side: its widths and its direct seniorities.
+ghost use Rattle.std.specs.Prelude.{◌≡◌, ◌≤◌, true, false, take, MatchOption};
+ghost use Rattle.basis.specs.Lists.{sum};
+ghost use Rattle.policy.specs.Limits.{most_values};
+ghost use Rattle.policy.specs.Checks.{side_sizes};
+ghost use Rattle.policy.specs.Value.{side_of};
 ghost use Rattle.checks.specs.Inner.{sizes_in};
-ghost use Rattle.validity.specs.Inner.{widths_valid, lines_valid, side_valid};
+ghost use Rattle.validity.specs.Inner.{widths_valid, side_valid};
 
-use checks::side::Shape;
-use policy::value::{LINE_PLACES, SideValue, WIDTH_PLACES};
+use crate::behind::all_blank;
+use crate::list::list_valid;
+use checks::shape::{Shape, width_fits};
+use policy::value::{SideValue, WIDTH_PLACES};
 use seniority::Direct;
 
-// At least one width and no more than there are places, each sound, and nothing behind the last.
-fn widths_valid(most: u32, widths: [u32; WIDTH_PLACES], n: usize) -> bool
-    ensures { result ≡ widths_valid most widths n }
+// The shape of a side with these widths, where these are at least one and no more than there are places, each fits and
+// nothing is behind the last. n is what came from C, and is tested here.
+fn measure(most: u32, widths: &[u32; WIDTH_PLACES], n: usize) -> Option<Shape>
+    requires { most ≤ most_values }
+    ensures { MatchOption result (widths_valid most widths.now n ≡ false)
+        (λ x. (widths_valid most widths.now n ≡ true) × (x.attributes ≡ n) × (x.widths ≡ widths.now) × (x.total ≡ sum (take n widths.now)) × (x.total ≤ most_values)) }
 {
     if n < 1 {
-        return false;
+        return None;
     }
     if WIDTH_PLACES < n {
-        return false;
+        return None;
     }
-    let mut total: u32 = 0;
-    let mut i = 0;
-    while i < n {
-        let w = widths[i];
-        if !checks::side::width_fits(most, total, w) {
-            return false;
+    let mut total = 0;
+    for w in &widths[..n] {
+        if !width_fits(most, total, *w) {
+            return None;
         }
-        total += w;
-        i += 1;
+        total += *w;
     }
-    let mut blank = true;
-    while i < WIDTH_PLACES {
-        blank = crate::behind::still_blank(blank, 0 == widths[i]);
-        i += 1;
+    if !all_blank(&widths[n..], |w| *w == 0) {
+        return None;
     }
-    blank
+    Some(Shape {
+        attributes: n,
+        widths: *widths,
+        total,
+    })
 }
 
-fn no_line(l: Direct) -> bool
-    ensures { result ≡ same_line (direct 0 0) l }
+// Check 11 of a side: its shape, where it is valid.
+pub fn shape(most: u32, x: &SideValue) -> Option<Shape>
+    requires { most ≤ most_values }
+    ensures { MatchOption result (side_valid most x.now ≡ false)
+        (λ s. (side_valid most x.now ≡ true) × (sizes_in s ≡ side_sizes (side_of x.now)) × (s.total ≤ most_values)) }
 {
-    if l.senior == 0 {
-        return l.junior == 0;
+    let shape = measure(most, &x.widths, x.attributes)?;
+    let fits = |l: &Direct| shape.direct_fits(l);
+    if !list_valid(&x.seniority, x.lines, fits, |l| (l.senior | l.junior) == 0) {
+        return None;
     }
-    false
-}
-
-// No more lines than there are places, each sound, and nothing behind the last.
-fn lines_valid(side: Shape, lines: [Direct; LINE_PLACES], n: usize) -> bool
-    requires { side.attributes ≤ width_places }
-    ensures { result ≡ lines_valid (sizes_in side) lines n }
-{
-    if LINE_PLACES < n {
-        return false;
-    }
-    let mut last = Direct {
-        senior: 0,
-        junior: 0,
-    };
-    let mut i = 0;
-    while i < n {
-        let l = lines[i];
-        if !checks::side::direct_fits(side, l.senior, l.junior) {
-            return false;
-        }
-        if !crate::order::direct_rises(i, last, l) {
-            return false;
-        }
-        last = l;
-        i += 1;
-    }
-    let mut blank = true;
-    while i < LINE_PLACES {
-        let l = lines[i];
-        blank = crate::behind::still_blank(blank, no_line(l));
-        i += 1;
-    }
-    blank
-}
-
-// Check 11 of a side.
-pub fn side_valid(most: u32, x: SideValue) -> bool
-    ensures { result ≡ side_valid most x }
-{
-    let widths = x.widths;
-    if !widths_valid(most, widths, x.attributes) {
-        return false;
-    }
-    let shape = checks::side::measure(widths, x.attributes);
-    let lines = x.seniority;
-    lines_valid(shape, lines, x.lines)
+    Some(shape)
 }

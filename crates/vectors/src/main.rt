@@ -7,8 +7,10 @@ ghost use Rattle.std.specs.Io.{ReadsAtMost};
 ghost use Rattle.std.specs.Prelude.{◌<◌, ◌≤◌};
 ghost use Rattle.std.specs.Str.{IsUtf8};
 
+use buffers::ENTRIES;
 use cursor::NUMBERS;
 use found::Found;
+use labelling::Looked;
 use std::io::Read;
 use std::rt::Files;
 use std::{fs, io, str};
@@ -38,22 +40,31 @@ struct Case {
     to: usize,
 }
 
-// What the engine gives for a line.
+// What the engine gives for a line. A line's kind is a byte of the file, which is matched where it is read.
 fn answer(tag: u8, a: &[u32; NUMBERS], n: usize, text: &[u8]) -> Found {
     match tag {
         b'R' | b'Y' => texts::read(text),
         b'V' => texts::checked(text),
         b'W' => texts::written(a, text),
-        b'u' | b'o' | b'g' | b'U' | b'O' | b'G' | b'v' | b'p' | b'h' => {
-            labelling::compiled(tag, a, n, text)
-        }
-        b'T' | b't' => decisions::listed(tag, a, n, text),
+        b'u' => labelling::compiled::<u8, u8>(Looked::Users, a, n, text),
+        b'o' => labelling::compiled::<u8, u8>(Looked::Objects, a, n, text),
+        b'g' => labelling::compiled::<u8, u8>(Looked::Table, a, n, text),
+        b'U' => labelling::compiled::<u8, u16>(Looked::Users, a, n, text),
+        b'O' => labelling::compiled::<u8, u16>(Looked::Objects, a, n, text),
+        b'G' => labelling::compiled::<u8, u16>(Looked::Table, a, n, text),
+        b'v' => labelling::compiled::<u16, u16>(Looked::Users, a, n, text),
+        b'p' => labelling::compiled::<u16, u16>(Looked::Objects, a, n, text),
+        b'h' => labelling::compiled::<u16, u16>(Looked::Table, a, n, text),
+        b'T' => decisions::listed::<u16>(a, n, text),
+        b't' => decisions::listed::<u32>(a, n, text),
         b'F' => decisions::by_formula(a, text),
-        b'B' => decisions::by_tuples(a, text),
-        b'b' => decisions::by_wide_tuples(a, text),
+        b'B' => decisions::by_tuples::<u16>(a, text, ENTRIES as u32),
+        b'b' => decisions::by_tuples::<u32>(a, text, a[6]),
         b'P' => decisions::apart(a, text),
         b'D' => decisions::tells(a, text),
-        b'S' | b'Z' | b'X' => sessions::played(tag, a, n, text),
+        b'S' => sessions::played::<u8, u8>(a, n, text),
+        b'Z' => sessions::played::<u8, u16>(a, n, text),
+        b'X' => sessions::played::<u16, u16>(a, n, text),
         _ => found::bare(found::NO_KIND),
     }
 }
@@ -70,7 +81,8 @@ fn play_line(
     let tag = cursor::tag(line);
     let found = answer(tag, &a, n, text);
     let wrong = cursor::is_wrong(line);
-    if found::agrees(found, a[0], cursor::size(a[1])) == wrong {
+    let stored = found::counted(a[0], cursor::size(a[1]));
+    if (found == stored) == wrong {
         tally::print_found(rt, line, found)?;
         return Ok(false);
     }
@@ -107,19 +119,21 @@ fn play_lines(rt: &impl Print, file: &[u8], counts: &mut [u32; KINDS]) -> io::Re
         if cursor::tag(line) == b'C' {
             case = begin(line, at);
             at = case.to + 1;
-        } else if !play_line(rt, line, cursor::bytes(file, case.from, case.to), counts)? {
-            tally::print(rt, b"failed: a line of case ", cursor::size(case.number))?;
+        } else if !play_line(rt, line, cursor::part(file, case.from, case.to), counts)? {
+            println!(rt; "failed: a line of case {}", case.number)?;
             return Ok(false);
         }
     }
     Ok(true)
 }
 
-// Reads up to the end of a file or of the buffer, and says how many bytes there are.
+// Reads up to the end of a file or of the buffer, and says how many bytes there are. The lister has the same: the
+// engine's crates do no input and output, so there is none for both.
 fn read_full(file: &mut impl Read, buffer: &mut [u8]) -> io::Result<usize>
     ensures { ReadsAtMost result buffer.new }
 {
     let mut at = 0;
+    // No `for`: reads come in any lengths.
     while at < buffer.len() {
         let n = file.read(&mut buffer[at..])?;
         if n == 0 {
@@ -142,16 +156,10 @@ fn name(i: u8) -> [u8; 8]
     requires { i < 100 }
     ensures { IsUtf8 result }
 {
-    [
-        b'c',
-        b'a',
-        b's',
-        b'e',
-        b's',
-        b'-',
-        b'0' + i / 10,
-        b'0' + i % 10,
-    ]
+    let mut name = *b"cases-00";
+    name[6] += i / 10;
+    name[7] += i % 10;
+    name
 }
 
 // Opens a case file; there may be no such file.
@@ -168,16 +176,14 @@ fn open<R: Files>(rt: &R, i: u8) -> io::Result<Option<R::File>>
 
 // Plays the files cases-00, cases-01 and so on, as many as there are.
 fn play_files(rt: &(impl Files + Print), counts: &mut [u32; KINDS]) -> io::Result<bool> {
-    let mut i = 0u8;
-    while i < FILES {
+    for i in 0..FILES {
         let Some(mut file) = open(rt, i)? else {
             return Ok(true);
         };
         if !play_file(rt, &mut file, counts)? {
-            tally::print(rt, b"in the case file ", i as usize)?;
+            println!(rt; "in the case file {i}")?;
             return Ok(false);
         }
-        i += 1;
     }
     Ok(true)
 }
@@ -185,11 +191,7 @@ fn play_files(rt: &(impl Files + Print), counts: &mut [u32; KINDS]) -> io::Resul
 fn main(rt: HostRuntime) -> io::Result<()> {
     let mut counts = [0u32; KINDS];
     if play_files(&rt, &mut counts)? {
-        tally::print_counts(
-            &rt,
-            b"texts refused alike: ,texts accepted alike: ,checks of what was read alike: ,writings alike: ,label buffers and tables alike: ,listings alike: ,decisions by policy alike: ,decisions by tuples alike: ,answers of Apart alike: ,lists of calls alike: ,calls in these lists: ,lines wrong on purpose found different: ,",
-            &counts,
-        )?;
+        tally::print_counts(&rt, &counts)?;
     }
     Ok(())
 }

@@ -13,24 +13,12 @@ use Rattle.basis.specs.Lists.{all}
 use Rattle.basis.proofs.Bools.{and_left, and_right, and_both}
 use Rattle.words.specs.Word.{word_number, letters, missing, numbered}
 use Rattle.words.specs.Inner.{in_digits}
-use Rattle.words.specs.declared.Holding.{Holding}
 use Rattle.words.specs.declared.Holding.TheVariants.{User, Object}
-use Rattle.words.specs.declared.Comparison.{Comparison}
 use Rattle.words.specs.declared.Comparison.TheVariants.{Dominates, Equals}
 use Rattle.words.specs.declared.Word.{Word}
 use Rattle.words.specs.declared.Word.TheVariants.{True, False, Holds, Compares, Not, And, Or}
 
 -- ---- the word of a number, range by range
-
--- a number that is none of the letters'
-pub no_letter : (n : ℕ) → (n ≡ 0 → ⊥) → (n ≡ 1 → ⊥) → (n ≡ 2 → ⊥) → (n ≡ 3 → ⊥) → (n ≡ 4 → ⊥)
-    → get_or letters n missing ≡ missing
-no_letter zero t f n a r = absurd (t refl)
-no_letter (suc zero) t f n a r = absurd (f refl)
-no_letter (suc (suc zero)) t f n a r = absurd (n refl)
-no_letter (suc (suc (suc zero))) t f n a r = absurd (a refl)
-no_letter (suc (suc (suc (suc zero)))) t f n a r = absurd (r refl)
-no_letter (suc (suc (suc (suc (suc k))))) t f n a r = refl
 
 module _ (n : ℕ) where
   pub of_letter : n < 10 → numbered n ≡ get_or letters n missing
@@ -86,25 +74,6 @@ module _ (i j : ℕ) (h : (ltb i 10 && ltb j 10) ≡ true) where
 
   second-digit : j < 10
   second-digit = ltb-true j 10 (and_right (ltb i 10) _ h)
-
-module _ {w : Word} (d : in_digits w ≡ true) where
-  module _ {h : Holding} {v : ℕ} (e : w ≡ Holds h) where
-    pub user-digit : h ≡ User v → v < 10
-    unfolding in_digits
-    user-digit f = ltb-true v 10 (rw (e, f) at d)
-
-    pub object-digit : h ≡ Object v → v < 10
-    unfolding in_digits
-    object-digit f = ltb-true v 10 (rw (e, f) at d)
-
-  module _ {c : Comparison} {i j : ℕ} (e : w ≡ Compares c) where
-    pub dominates-digits : c ≡ Dominates i j → (i < 10) × (j < 10)
-    unfolding in_digits
-    dominates-digits f = let h = rw (e, f) at d in (first-digit i j h, second-digit i j h)
-
-    pub equals_digits : c ≡ Equals i j → (i < 10) × (j < 10)
-    unfolding in_digits
-    equals_digits f = let h = rw (e, f) at d in (first-digit i j h, second-digit i j h)
 
 -- ---- there and back
 

@@ -1,4 +1,5 @@
 -- A word is read back from what it is written as, and is written as what it was read from.
+use Rattle.std.specs.Prelude.{Option, Some, None}
 use Prim.Native.Nat.{ℕ, ◌+◌, ◌≤◌}
 use mathlib.Core.Path.{◌≡◌, refl}
 use mathlib.Core.Bool.{Bool, true, false, cond, ◌&&◌}
@@ -19,8 +20,6 @@ use Rattle.words.specs.declared.Holding.TheVariants.{User, Object}
 use Rattle.words.specs.declared.Comparison.TheVariants.{Dominates, Equals}
 use Rattle.words.specs.declared.Word.{Word}
 use Rattle.words.specs.declared.Word.TheVariants.{True, False, Holds, Compares, Not, And, Or}
-use Rattle.words.specs.declared.Parsed.{Parsed}
-use Rattle.words.specs.declared.Parsed.TheVariants.{Is, Malformed}
 
 -- ---- there and back
 
@@ -31,7 +30,7 @@ module _ (v : ℕ) (h : ltb v 10 ≡ true) where
   byte_of : digit_of (byte "0" + v) ≡ v
   byte_of = omega arith
 
-pub parsed-written : (w : Word) → in_digits w ≡ true → parsed (written w) ≡ Is w
+pub parsed-written : (w : Word) → in_digits w ≡ true → parsed (written w) ≡ Some w
 unfolding in_digits parsed written letter holding comparison
 parsed-written True h = refl
 parsed-written False h = refl
@@ -56,17 +55,17 @@ pub record From (w : Word) (f : List ℕ) : Type 0 where
   pub digits : in_digits w ≡ true
 
 -- a case of the reading: it is taken and its word writes the field, or a later one is
-choose : (f : List ℕ) (b : Bool) (v : Word) (x : Parsed) → (b ≡ true → From v f) → ((w : Word) → x ≡ Is w → From w f)
-    → (w : Word) → cond b (Is v) x ≡ Is w → From w f
+choose : (f : List ℕ) (b : Bool) (v : Word) (x : Option Word) → (b ≡ true → From v f) → ((w : Word) → x ≡ Some w → From w f)
+    → (w : Word) → cond b (Some v) x ≡ Some w → From w f
 choose f true v x h g w e =
     let q : v ≡ w = cc in
     rw q at (h refl)
 choose f false v x h g w e = g w e
 
-none : (f : List ℕ) (w : Word) → Malformed ≡ Is w → From w f
+none : (f : List ℕ) (w : Word) → None ≡ Some w → From w f
 none f w e = let z : ◌≡◌ {A = ℕ} 0 1 = cc in absurd (omega arith)
 
-passed : (b : Bool) (x : Parsed) (w : Word) → cond b x Malformed ≡ Is w → (b ≡ true) × (x ≡ Is w)
+passed : (b : Bool) (x : Option Word) (w : Word) → cond b x None ≡ Some w → (b ≡ true) × (x ≡ Some w)
 passed true x w e = (refl, e)
 passed false x w e = let z : ◌≡◌ {A = ℕ} 0 1 = cc in absurd (omega arith)
 
@@ -74,7 +73,7 @@ passed false x w e = let z : ◌≡◌ {A = ℕ} 0 1 = cc in absurd (omega arith
 made : (w : Word) (b : ℕ) (xs : List ℕ) → written w ≡ b ∷ xs → in_digits w ≡ true → (c : ℕ) → eqb c b ≡ true → From w (c ∷ xs)
 made w b xs e d c p = record { writes = rw (eqb-true c b p, e); digits = d }
 
-letter-from : (c : ℕ) (w : Word) → letter c ≡ Is w → From w (c ∷ [])
+letter-from : (c : ℕ) (w : Word) → letter c ≡ Some w → From w (c ∷ [])
 unfolding letter written in_digits
 letter-from c =
     choose f (eqb c (byte "t")) True _ (made True (byte "t") [] refl refl c)
@@ -94,7 +93,7 @@ module _ (b : ℕ) (h : is_digit b ≡ true) where
   of_digit : ltb (digit_of b) 10 ≡ true
   of_digit = lt-ltb (digit_of b) 10 (omega (arith, digit-bounds b h))
 
-holding-from : (c v : ℕ) (w : Word) → holding c v ≡ Is w → From w (c ∷ v ∷ [])
+holding-from : (c v : ℕ) (w : Word) → holding c v ≡ Some w → From w (c ∷ v ∷ [])
 unfolding holding written in_digits
 holding-from c v w e =
     let p = passed (is_digit v) _ w e in
@@ -109,7 +108,7 @@ holding-from c v w e =
     n : ℕ
     n = digit_of v
 
-comparison-from : (c i j : ℕ) (w : Word) → comparison c i j ≡ Is w → From w (c ∷ i ∷ j ∷ [])
+comparison-from : (c i j : ℕ) (w : Word) → comparison c i j ≡ Some w → From w (c ∷ i ∷ j ∷ [])
 unfolding comparison written in_digits
 comparison-from c i j w e =
     let p = passed (is_digit i && is_digit j) _ w e in
@@ -129,7 +128,7 @@ comparison-from c i j w e =
     n : ℕ
     n = digit_of j
 
-pub written-parsed : (f : List ℕ) (w : Word) → parsed f ≡ Is w → From w f
+pub written-parsed : (f : List ℕ) (w : Word) → parsed f ≡ Some w → From w f
 unfolding parsed
 written-parsed [] w e = none [] w e
 written-parsed (c ∷ []) w e = letter-from c w e

@@ -1,56 +1,54 @@
 -- "A word is a truth value, a holding, a comparison or a connective": its form in a text and its number, both ways.
-use Rattle.std.specs.Prelude.{ℕ, ◌+◌, ◌-◌, ◌*◌, ◌/◌, ◌%◌, Bool, true, false, cond, ◌&&◌, List, [], ◌∷◌, eqb, ltb, get_or}
+use Rattle.std.specs.Prelude.{ℕ, ◌+◌, ◌-◌, ◌*◌, ◌/◌, ◌%◌, Bool, true, false, cond, ◌&&◌, List, [], ◌∷◌, eqb, ltb, get_or, Option, Some, None}
 use Rattle.basis.specs.Bytes.{byte}
 use Rattle.text.specs.Number.{is_digit, digit_of}
 use Rattle.words.specs.declared.Holding.TheVariants.{User, Object}
 use Rattle.words.specs.declared.Comparison.TheVariants.{Dominates, Equals}
 use Rattle.words.specs.declared.Word.{Word}
 use Rattle.words.specs.declared.Word.TheVariants.{True, False, Holds, Compares, Not, And, Or}
-use Rattle.words.specs.declared.Parsed.{Parsed}
-use Rattle.words.specs.declared.Parsed.TheVariants.{Is, Malformed}
 
 -- `t` `f` `n` `a` `r`
-unfoldable pub letter : ℕ → Parsed
+unfoldable pub letter : ℕ → Option Word
 letter c =
-    cond (eqb c (byte "t")) (Is True)
-    (cond (eqb c (byte "f")) (Is False)
-    (cond (eqb c (byte "n")) (Is Not)
-    (cond (eqb c (byte "a")) (Is And)
-    (cond (eqb c (byte "r")) (Is Or) Malformed))))
+    cond (eqb c (byte "t")) (Some True)
+    (cond (eqb c (byte "f")) (Some False)
+    (cond (eqb c (byte "n")) (Some Not)
+    (cond (eqb c (byte "a")) (Some And)
+    (cond (eqb c (byte "r")) (Some Or) None))))
 
 -- `uV` `oV`
-unfoldable pub holding : ℕ → ℕ → Parsed
+unfoldable pub holding : ℕ → ℕ → Option Word
 holding c v =
     cond (is_digit v)
-    (cond (eqb c (byte "u")) (Is (Holds (User (digit_of v))))
-    (cond (eqb c (byte "o")) (Is (Holds (Object (digit_of v)))) Malformed))
-    Malformed
+    (cond (eqb c (byte "u")) (Some (Holds (User (digit_of v))))
+    (cond (eqb c (byte "o")) (Some (Holds (Object (digit_of v)))) None))
+    None
 
 -- `dIJ` `qIJ`
-unfoldable pub comparison : ℕ → ℕ → ℕ → Parsed
+unfoldable pub comparison : ℕ → ℕ → ℕ → Option Word
 comparison c i j =
     cond (is_digit i && is_digit j)
-    (cond (eqb c (byte "d")) (Is (Compares (Dominates (digit_of i) (digit_of j))))
-    (cond (eqb c (byte "q")) (Is (Compares (Equals (digit_of i) (digit_of j)))) Malformed))
-    Malformed
+    (cond (eqb c (byte "d")) (Some (Compares (Dominates (digit_of i) (digit_of j))))
+    (cond (eqb c (byte "q")) (Some (Compares (Equals (digit_of i) (digit_of j)))) None))
+    None
 
 -- the word that a field is
-unfoldable pub parsed : List ℕ → Parsed
-parsed [] = Malformed
+unfoldable pub parsed : List ℕ → Option Word
+parsed [] = None
 parsed (c ∷ []) = letter c
 parsed (c ∷ v ∷ []) = holding c v
 parsed (c ∷ i ∷ j ∷ []) = comparison c i j
-parsed (c ∷ i ∷ j ∷ x ∷ xs) = Malformed
+parsed (c ∷ i ∷ j ∷ x ∷ xs) = None
 
 -- a field in the form of a word
-abbrev pub is_word : Parsed → Bool
-is_word (Is w) = true
-is_word Malformed = false
+abbrev pub is_word : Option Word → Bool
+is_word (Some w) = true
+is_word None = false
 
 -- and the word, where it is one
-abbrev pub word_in : Parsed → Word
-word_in (Is w) = w
-word_in Malformed = True
+abbrev pub word_in : Option Word → Word
+word_in (Some w) = w
+word_in None = True
 
 -- a word as it is written
 unfoldable pub written : Word → List ℕ

@@ -1,7 +1,8 @@
 // The words of a formula.
 #![tactic(auto)]
 
-ghost use Rattle.std.specs.Prelude.{true, ◌≡◌, get_or};
+ghost use Rattle.std.specs.Prelude.{true, ◌≡◌, cond, get_or};
+ghost use Rattle.text.specs.Number.{is_digit, digit_of};
 ghost use Rattle.words.specs.Inner.{in_digits};
 ghost use Rattle.words.specs.Word as word;
 
@@ -30,119 +31,91 @@ pub enum Word {
     Or,
 }
 
-#[derive(Clone, Copy)]
-pub enum Parsed {
-    Is(Word),
-    Malformed,
+// The number that a digit writes.
+fn digit(c: u8) -> Option<u8>
+    ensures { result ≡ cond (is_digit c) (Some (digit_of c)) None }
+{
+    if c.is_ascii_digit() {
+        Some(c - b'0')
+    } else {
+        None
+    }
 }
 
-fn parse_letter(c: u8) -> Parsed
+#[tactic(auto, unfolding(crate::specs::Word::letter))]
+fn parse_letter(c: u8) -> Option<Word>
     ensures { result ≡ word.letter c }
 {
-    if c == b't' {
-        return Parsed::Is(Word::True);
+    match c {
+        b't' => Some(Word::True),
+        b'f' => Some(Word::False),
+        b'n' => Some(Word::Not),
+        b'a' => Some(Word::And),
+        b'r' => Some(Word::Or),
+        _ => None,
     }
-    if c == b'f' {
-        return Parsed::Is(Word::False);
-    }
-    if c == b'n' {
-        return Parsed::Is(Word::Not);
-    }
-    if c == b'a' {
-        return Parsed::Is(Word::And);
-    }
-    if c == b'r' {
-        return Parsed::Is(Word::Or);
-    }
-    Parsed::Malformed
 }
 
-fn parse_holding(c: u8, v: u8) -> Parsed
+#[tactic(auto, unfolding(crate::specs::Word::holding))]
+fn parse_holding(c: u8, v: u8) -> Option<Word>
     ensures { result ≡ word.holding c v }
 {
-    if v < b'0' {
-        return Parsed::Malformed;
+    let value = digit(v)?;
+    match c {
+        b'u' => Some(Word::Holds(Holding::User(value))),
+        b'o' => Some(Word::Holds(Holding::Object(value))),
+        _ => None,
     }
-    if b'9' < v {
-        return Parsed::Malformed;
-    }
-    if c == b'u' {
-        return Parsed::Is(Word::Holds(Holding::User(v - b'0')));
-    }
-    if c == b'o' {
-        return Parsed::Is(Word::Holds(Holding::Object(v - b'0')));
-    }
-    Parsed::Malformed
 }
 
-fn parse_comparison(c: u8, i: u8, j: u8) -> Parsed
+#[tactic(auto, unfolding(crate::specs::Word::comparison))]
+fn parse_comparison(c: u8, i: u8, j: u8) -> Option<Word>
     ensures { result ≡ word.comparison c i j }
 {
-    if i < b'0' {
-        return Parsed::Malformed;
+    let user = digit(i)?;
+    let object = digit(j)?;
+    match c {
+        b'd' => Some(Word::Compares(Comparison::Dominates(user, object))),
+        b'q' => Some(Word::Compares(Comparison::Equals(user, object))),
+        _ => None,
     }
-    if b'9' < i {
-        return Parsed::Malformed;
-    }
-    if j < b'0' {
-        return Parsed::Malformed;
-    }
-    if b'9' < j {
-        return Parsed::Malformed;
-    }
-    if c == b'd' {
-        return Parsed::Is(Word::Compares(Comparison::Dominates(i - b'0', j - b'0')));
-    }
-    if c == b'q' {
-        return Parsed::Is(Word::Compares(Comparison::Equals(i - b'0', j - b'0')));
-    }
-    Parsed::Malformed
 }
 
 // The word that a field is.
-pub fn parse(f: &[u8]) -> Parsed
+pub fn parse(f: &[u8]) -> Option<Word>
     ensures { result ≡ word.parsed f.now }
 {
-    if f.len() == 1 {
-        return parse_letter(f[0]);
-    }
-    if f.len() == 2 {
-        return parse_holding(f[0], f[1]);
-    }
-    if f.len() == 3 {
-        return parse_comparison(f[0], f[1], f[2]);
-    }
-    Parsed::Malformed
-}
-
-// The number of a word, a byte for each.
-pub fn number_of(w: Word) -> u8
-    requires { in_digits w ≡ true }
-    ensures { result ≡ word.word_number w }
-{
-    match w {
-        Word::True => 0,
-        Word::False => 1,
-        Word::Holds(h) => match h {
-            Holding::User(v) => 10 + v,
-            Holding::Object(v) => 20 + v,
-        },
-        Word::Compares(c) => match c {
-            Comparison::Dominates(i, j) => 50 + 10 * i + j,
-            Comparison::Equals(i, j) => 150 + 10 * i + j,
-        },
-        Word::Not => 2,
-        Word::And => 3,
-        Word::Or => 4,
+    match f {
+        [c] => parse_letter(*c),
+        [c, v] => parse_holding(*c, *v),
+        [c, i, j] => parse_comparison(*c, *i, *j),
+        _ => None,
     }
 }
 
-// The word that stands for a number which is no word's.
-fn missing() -> Word
-    ensures { result ≡ word.missing }
-{
-    Word::Holds(Holding::User(255))
+impl Word {
+    // The number of a word, a byte for each. No `From`, since a word that names more than a digit has none.
+    #[tactic(auto, unfolding(crate::specs::Word::word_number, crate::specs::Inner::in_digits))]
+    pub fn number(self) -> u8
+        requires { in_digits self ≡ true }
+        ensures { result ≡ word.word_number self }
+    {
+        match self {
+            Word::True => 0,
+            Word::False => 1,
+            Word::Not => 2,
+            Word::And => 3,
+            Word::Or => 4,
+            Word::Holds(Holding::User(v)) => 10 + v,
+            Word::Holds(Holding::Object(v)) => 20 + v,
+            Word::Compares(Comparison::Dominates(i, j)) => 50 + 10 * i + j,
+            Word::Compares(Comparison::Equals(i, j)) => 150 + 10 * i + j,
+        }
+    }
 }
+
+// What stands for a number which is no word's.
+const MISSING: Word = Word::Holds(Holding::User(255));
 
 fn letter_of(n: u8) -> Word
     ensures { result ≡ get_or word.letters n word.missing }
@@ -153,22 +126,24 @@ fn letter_of(n: u8) -> Word
         2 => Word::Not,
         3 => Word::And,
         4 => Word::Or,
-        _ => missing(),
+        _ => MISSING,
     }
 }
 
 // The word of a number. By tens, since evaluating does this for every word: the compiler then has one jump.
-pub fn of_number(n: u8) -> Word
-    ensures { result ≡ word.numbered n }
-{
-    let tens = n / 10;
-    match tens {
-        0 => letter_of(n),
-        1 => Word::Holds(Holding::User(n % 10)),
-        2 => Word::Holds(Holding::Object(n % 10)),
-        3..=4 => missing(),
-        5..=14 => Word::Compares(Comparison::Dominates(tens - 5, n % 10)),
-        15..=24 => Word::Compares(Comparison::Equals(tens - 15, n % 10)),
-        _ => missing(),
+impl From<u8> for Word {
+    ghost from_gives = { λ n w. w ≡ word.numbered n };
+
+    fn from(n: u8) -> Word {
+        let tens = n / 10;
+        match tens {
+            0 => letter_of(n),
+            1 => Word::Holds(Holding::User(n % 10)),
+            2 => Word::Holds(Holding::Object(n % 10)),
+            3..=4 => MISSING,
+            5..=14 => Word::Compares(Comparison::Dominates(tens - 5, n % 10)),
+            15..=24 => Word::Compares(Comparison::Equals(tens - 15, n % 10)),
+            _ => MISSING,
+        }
     }
 }

@@ -1,78 +1,29 @@
--- The digits of a number, worked out from the last one on.
-use Prim.Native.Nat.{ℕ, suc, ◌+◌, ◌-◌, ◌/◌, ◌%◌, ◌^◌, ◌≤◌, ◌<◌}
-use mathlib.Core.Path.{◌≡◌, sym, ◌∙◌}
-use mathlib.Core.List.{List, ◌∷◌, ◌++◌, [], append-nil, append_assoc}
-use native.Mathlib.Nat.{pow-suc}
-use native.Mathlib.Decide.{dec_lt}
+-- The digits of a number, one after the other.
+use Prim.Native.Nat.{ℕ, ◌/◌, ◌%◌, ◌≤◌, ◌<◌}
+use mathlib.Core.Path.{◌≡◌}
+use mathlib.Core.List.{List, ◌++◌, append_assoc}
 use native.Mathlib.Omega.{arith}
-use lib.ListN.{length, take, drop, set, length-drop, length-set, drop_of_length-le}
-use lib.Seq.{drop-cons, drop-set-lt, get_or-set_same, take_all}
-use Rattle.basis.specs.Bytes.{byte}
 use Rattle.text.specs.Number.{decimal}
 use Rattle.text.proofs.RoundTrip.{decimal-one, decimal-more}
 use Rattle.writer.specs.Inner.Put.{Room, Put, last_digit}
-use Rattle.writer.proofs.Putting.{room-first, room_next, put_next, put_byte}
+use Rattle.writer.proofs.Putting.{room-first, room_next, put_next}
 
--- a byte in front of what stands behind a place
-set-drop : (ds : List ℕ) (i d : ℕ) → i < length ds → drop i (set ds i d) ≡ d ∷ drop (suc i) ds
-set-drop ds i d h =
-    let l : i < length (set ds i d) = omega (arith, length-set ds i d) in
-    drop-cons (set ds i d) i 0 l ∙ rw (get_or-set_same ds i d 0 h, drop-set-lt (suc i) ds i d (omega arith))
+-- the last digit behind the others
+module _ {n at : ℕ} {b : List ℕ} (l : 10 ≤ n) where
+  others : Room (decimal n) at b → Room (decimal (n / 10) ++ last_digit n) at b
+  others x = rw (decimal-more n l) at x
 
--- in an array of m places the last digits of n stand behind `from`, and those of rest are still to come before them
-pub record Behind (m n : ℕ) (digits : List ℕ) (from rest : ℕ) : Type 0 where
-  pub places : length digits ≡ m
-  pub inside : from < m
-  pub few : rest < 10 ^ suc from
-  pub are : decimal n ≡ decimal rest ++ drop (suc from) digits
+  pub others-room : Room (decimal n) at b → Room (decimal (n / 10)) at b
+  others-room x = room-first _ _ (others x)
 
-pub behind-start : (m n : ℕ) (digits : List ℕ) → length digits ≡ suc m → n < 10 ^ suc m → Behind (suc m) n digits m n
-behind-start m n digits e h =
-    let l : length digits ≤ suc m = omega arith in
-    record { places = e; inside = omega arith; few = h; are = rw (drop_of_length-le digits l) (sym (append-nil (decimal n))) }
+  module _ {m : List ℕ} {r : ℕ} (p : Put (decimal (n / 10)) at b m r) where
+    pub last-room : Room (decimal n) at b → Room (last_digit n) r m
+    last-room x = room_next (others x) p
 
-module _ {m n : ℕ} {digits : List ℕ} {from rest : ℕ} (x : Behind m n digits from rest) where
-  -- the last digit of rest
-  module _ (h : 10 ≤ rest) where
-    pub behind_more : 0 < from
-    behind_more = elim (dec_lt 0 from) [
-      | yes l ↦ l
-      | no l ↦
-          let z : from ≡ 0 = omega (arith, l) in
-          let q : rest < 10 ^ suc 0 = rw z at x.few in
-          absurd (omega (arith, pow-suc 10 0))
-    ]
-
-    pub behind-next : {d : ℕ} → d ≡ byte "0" + rest % 10 → Behind m n (set digits from d) (from - 1) (rest / 10)
-    behind-next {d} e =
-        let z : suc (from - 1) ≡ from = omega (arith, behind_more) in
-        record {
-          places = length-set digits from d ∙ x.places;
-          inside = omega (arith, x.inside);
-          few = rw z (omega (arith, x.few, pow-suc 10 from));
-          are =
-              x.are
-              ∙ rw (decimal-more rest h, ← e, z, set-drop digits from d (omega (arith, x.places, x.inside)))
-              (append_assoc (decimal (rest / 10)) (d ∷ []) (drop (suc from) digits));
-        }
-
-  -- the first digit
-  module _ {d : ℕ} (e : d ≡ byte "0" + rest % 10) where
-    pub behind-long : m ≤ length (set digits from d)
-    behind-long = omega (arith, length-set digits from d, x.places)
-
-    pub behind-end : rest < 10 → take (m - from) (drop from (set digits from d)) ≡ decimal n
-    behind-end h =
-        let l : length (drop from (set digits from d)) ≤ m - from = omega (arith, length-drop from (set digits from d), length-set digits from d, x.places) in
-        let r : rest % 10 ≡ rest = omega arith in
-        take_all (m - from) (drop from (set digits from d)) l
-        ∙ set-drop digits from d (omega (arith, x.places, x.inside))
-        ∙ sym (x.are ∙ rw (decimal-one rest h, e, r))
+    pub last-put : {k : List ℕ} {q : ℕ} → Put (last_digit n) r m k q → Put (decimal n) at b k q
+    last-put y = rw (decimal-more n l) (put_next p y)
 
 -- ---- one, two or three digits, put one after the other
-
-pub last-put : (n : ℕ) {d at : ℕ} {b : List ℕ} → d ≡ byte "0" + n % 10 → Room (last_digit n) at b → Put (last_digit n) at b (set b at d) (at + 1)
-last-put n e h = rw e (put_byte h)
 
 one-is : (n : ℕ) → n < 10 → decimal n ≡ last_digit n
 one-is n h =

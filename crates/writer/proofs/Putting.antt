@@ -2,14 +2,16 @@
 -- rest of the buffer, and the lines of a list.
 use Prim.Native.Nat.{ℕ, suc, ◌+◌, ◌-◌, ◌≤◌, ◌<◌}
 use mathlib.Core.Path.{◌≡◌, refl, sym, ap, ◌∙◌}
+use mathlib.Core.Bool.{Bool, true}
 use mathlib.Core.List.{List, [], ◌∷◌, ◌++◌, append_assoc, append-nil}
 use native.Mathlib.Numerals.{add-one}
 use native.Mathlib.Omega.{arith}
 use borrow.Rule.Slice.PartMut.{put_mid}
 use lib.ListN.{length, get_or, take, drop, set, length-append, length-drop, take-append-drop, drop_of_length-le}
-use lib.Seq.{drop_at, drop-drop, get_or-take, length-take-le, set_split, split_at, take_all, take_at, take-suc, take-take}
-use Rattle.basis.specs.Lists.{over}
-use Rattle.writer.specs.Inner.Put.{Room, Put, each}
+use lib.Seq.{drop_at, drop-drop, length-take-le, set_split, split_at, take_all, take_at, take-suc}
+use Rattle.basis.specs.Lists.{all, over}
+use Rattle.basis.proofs.Lists.{all-at, get_or-in}
+use Rattle.writer.specs.Inner.Put.{Room, Put, each, always}
 
 -- ---- what was put
 
@@ -78,6 +80,13 @@ put_byte {c} {at} {b} h =
     let l : at < length b = omega (arith, h.fits) in
     record { bytes = set_split b at c l ∙ rw (drop-drop 1 at b, add-one at); end = refl; fits = omega arith }
 
+-- bytes in the places of as many
+pub put-mid : (s b : List ℕ) {at : ℕ} → Room s at b → Put s at b (put_mid at (at + length s - at) b s) (at + length s)
+unfolding over
+put-mid s b {at} h =
+    let e : at + length s - at ≡ length s = omega arith in
+    record { bytes = rw e; end = refl; fits = h.fits }
+
 -- ---- a line in the rest of the buffer
 
 module _ {t m : List ℕ} {at : ℕ} (h : Room t at m) where
@@ -99,14 +108,21 @@ module _ {t m : List ℕ} {at : ℕ} (h : Room t at m) where
           fits = part-sum;
         }
 
--- ---- the first n elements of a list, one after the other
+-- ---- the elements of a list, one after the other
 
 -- i of them were put into b from `start` on; it is m now, and the last ends at `at`
-pub record Run {A : Type 0} (f : A → List ℕ) (xs : List A) (n start : ℕ) (b : List ℕ) (i : ℕ) (m : List ℕ) (at : ℕ) : Type 0 where
-  pub places : n ≤ length xs
-  pub room : Room (each f (take n xs)) start b
-  pub most : i ≤ n
+pub record Run {A : Type 0} (f : A → List ℕ) (xs : List A) (start : ℕ) (b : List ℕ) (i : ℕ) (m : List ℕ) (at : ℕ) : Type 0 where
+  pub room : Room (each f xs) start b
   pub put : Put (each f (take i xs)) start b m at
+
+-- what passes at each element passes at a place
+pub all-get : {A : Type 0} (f : A → Bool) (d : A) (xs : List A) (i : ℕ) → i < length xs → all f xs ≡ true → f (get_or xs i d) ≡ true
+all-get f d xs i h e = all-at f xs e (get_or xs i d) (get_or-in xs i d h)
+
+pub all_always : {A : Type 0} (xs : List A) → all always xs ≡ true
+unfolding all
+all_always [] = refl
+all_always (x ∷ xs) = all_always xs
 
 pub each_append : {A : Type 0} (f : A → List ℕ) (xs ys : List A) → each f (xs ++ ys) ≡ each f xs ++ each f ys
 unfolding each
@@ -118,31 +134,28 @@ pub each_next : {A : Type 0} (f : A → List ℕ) (xs : List A) (i : ℕ) (d : A
 unfolding each
 each_next f xs i d h = rw (add-one i, take-suc xs i d h, each_append, append-nil)
 
-module _ {A : Type 0} {f : A → List ℕ} {xs : List A} {n start : ℕ} {b : List ℕ} where
-  pub run-start : n ≤ length xs → Room (each f (take n xs)) start b → Run f xs n start b 0 b start
+module _ {A : Type 0} {f : A → List ℕ} {xs : List A} {start : ℕ} {b : List ℕ} where
+  pub run-start : Room (each f xs) start b → Run f xs start b 0 b start
   unfolding each
-  run-start h l = record { places = h; room = l; most = omega arith; put = put-none b start (omega (arith, l.fits)) }
+  run-start l = record { room = l; put = put-none b start (omega (arith, l.fits)) }
 
-  module _ {i : ℕ} {m : List ℕ} {at : ℕ} (x : Run f xs n start b i m at) where
-    pub run_end : n ≤ i → Put (each f (take n xs)) start b m at
-    run_end h =
-        let e : i ≡ n = omega (arith, x.most) in
-        rw e at x.put
+  module _ {i : ℕ} {m : List ℕ} {at : ℕ} (x : Run f xs start b i m at) where
+    pub run_end : length xs ≤ i → Put (each f xs) start b m at
+    run_end h = rw (take_all i xs h) at x.put
 
     pub run_fits : at ≤ length m
     run_fits = omega (arith, x.put.fits, put-long x.put)
 
-    module _ (d : A) (h : i < n) where
+    module _ (d : A) (h : i < length xs) where
       pub run_room : Room (f (get_or xs i d)) at m
       unfolding each
       run_room =
-          let l : length (take n xs) ≡ n = length-take-le n xs x.places in
-          let e : each f (take n xs) ≡ each f (take i xs) ++ (f (get_or xs i d) ++ each f (drop (suc i) (take n xs))) =
-          ap (each f) (split_at (take n xs) i d (omega arith)) ∙ rw (take-take i n xs (omega arith), get_or-take n xs i d h, each_append) in
-          room-first (f (get_or xs i d)) (each f (drop (suc i) (take n xs))) (room_next (rw e at x.room) x.put)
+          let e : each f xs ≡ each f (take i xs) ++ (f (get_or xs i d) ++ each f (drop (suc i) xs)) =
+          ap (each f) (split_at xs i d h) ∙ rw each_append in
+          room-first (f (get_or xs i d)) (each f (drop (suc i) xs)) (room_next (rw e at x.room) x.put)
 
-      pub run-next : {m' : List ℕ} {r : ℕ} → Put (f (get_or xs i d)) at m m' r → Run f xs n start b (i + 1) m' r
-      run-next y = record { places = x.places; room = x.room; most = omega arith; put = rw (each_next f xs i d (omega (arith, x.places))) (put_next x.put y) }
+      pub run-next : {m' : List ℕ} {r : ℕ} → Put (f (get_or xs i d)) at m m' r → Run f xs start b (i + 1) m' r
+      run-next y = record { room = x.room; put = rw (each_next f xs i d h) (put_next x.put y) }
 
       -- the next element as a line in the rest of the buffer
       pub run-part : Room (f (get_or xs i d)) 0 (take (length m - at) (drop at m))
@@ -152,5 +165,5 @@ module _ {A : Type 0} {f : A → List ℕ} {xs : List A} {n start : ℕ} {b : Li
         pub run-sum : at + q ≤ length b
         run-sum = omega (arith, part-sum run_room y, put-long x.put)
 
-        pub run-line : Run f xs n start b (i + 1) (put_mid at (length m - at) m ys) (at + q)
+        pub run-line : Run f xs start b (i + 1) (put_mid at (length m - at) m ys) (at + q)
         run-line = run-next (part-put run_room y)

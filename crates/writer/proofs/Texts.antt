@@ -2,7 +2,7 @@
 -- feed.
 use Prim.Native.Nat.{ℕ}
 use mathlib.Core.Path.{◌≡◌, refl, sym, ◌∙◌}
-use mathlib.Core.List.{List, [], ◌∷◌, ◌++◌, map, map-map, append_assoc, append-nil}
+use mathlib.Core.List.{List, [], ◌∷◌, ◌++◌, map, map-map, append_assoc}
 use Rattle.seniority.specs.declared.Direct.{Direct}
 use Rattle.text.specs.Number.{decimal}
 use Rattle.text.specs.Parts.{comma, join, text_of as linesText}
@@ -20,11 +20,16 @@ use Rattle.policy.specs.declared.value.Entry.{Entry}
 use Rattle.policy.specs.declared.value.Conflict.{Conflict}
 use Rattle.policy.specs.declared.value.Pair.{Pair}
 use Rattle.policy.specs.declared.value.RuleValue.{RuleValue}
-use Rattle.writer.specs.Inner.Put.{each, feed, field, word_fields, bare_line, one_line, two_line, three_line, formula_line, direct_line, entry_line, conflict_line, pair_line}
+use Rattle.writer.specs.Inner.Put.{each, feed, field, number_fields, word_fields, bare_line, one_line, numbers_line, formula_line, direct_line, entry_line, conflict_line, pair_line}
 use Rattle.writer.specs.Inner.Put as Put
 use Rattle.writer.specs.Inner.Whole.{sides_text, lists_text}
 
 -- ---- a line by its layout
+
+each-map : {A B : Type 0} (f : B → List ℕ) (g : A → B) (xs : List A) → each f (map g xs) ≡ each (λ x. f (g x)) xs
+unfolding each
+each-map f g [] = refl
+each-map f g (x ∷ xs) = rw (each-map f g xs)
 
 -- fields, each with a comma before it, and a line feed
 pub fields-end : (f : List ℕ) (fs : List (List ℕ)) → join comma (f ∷ fs) ++ feed ≡ f ++ (each field fs ++ feed)
@@ -33,44 +38,38 @@ fields-end f [] = refl
 fields-end f (g ∷ fs) =
     append_assoc f (comma ∷ join comma (g ∷ fs)) feed ∙ rw (fields-end g fs, append_assoc g (each field fs) feed)
 
+-- a line of numbers
+pub numbers-end : (word : List ℕ) (ns : List ℕ) → join comma (word ∷ map decimal ns) ++ feed ≡ numbers_line word ns
+unfolding numbers_line
+numbers-end word ns =
+    fields-end word (map decimal ns) ∙ rw (each-map field decimal ns) (sym (append_assoc word (number_fields ns) feed))
+
 module _ (k : Kind) where
   bare : layout_of k ≡ Bare → line_text (plain k no_numbers) ++ feed ≡ bare_line (word_of k)
   unfolding line_text later_fields bare_line each
   bare e = rw (e, fields-end (word_of k) [])
 
   one : (a : ℕ) → layout_of k ≡ One → line_text (plain k (one_number a)) ++ feed ≡ one_line (word_of k) a
-  unfolding line_text later_fields one_line each
-  one a e = rw (e, fields-end (word_of k) (decimal a ∷ []), append-nil)
+  unfolding line_text later_fields
+  one a e = rw e (numbers-end (word_of k) (a ∷ []))
 
-  two : (a b : ℕ) → layout_of k ≡ Two → line_text (plain k (two_numbers a b)) ++ feed ≡ two_line (word_of k) a b
-  unfolding line_text later_fields two_line each
-  two a b e =
-      rw (e, fields-end (word_of k) (decimal a ∷ decimal b ∷ []), append-nil, append_assoc (field (decimal a)) (field (decimal b)) feed)
+  two : (a b : ℕ) → layout_of k ≡ Two → line_text (plain k (two_numbers a b)) ++ feed ≡ numbers_line (word_of k) (a ∷ b ∷ [])
+  unfolding line_text later_fields
+  two a b e = rw e (numbers-end (word_of k) (a ∷ b ∷ []))
 
-  three : (a b d : ℕ) → layout_of k ≡ Three → line_text (plain k (three_numbers a b d)) ++ feed ≡ three_line (word_of k) a b d
-  unfolding line_text later_fields three_line each
-  three a b d e =
-      rw (
-        e,
-        fields-end (word_of k) (decimal a ∷ decimal b ∷ decimal d ∷ []),
-        append-nil,
-        append_assoc (field (decimal a)) (field (decimal b) ++ field (decimal d)) feed,
-        append_assoc (field (decimal b)) (field (decimal d)) feed,
-      )
-
-each-written : (ns : List ℕ) → each field (map written (map numbered ns)) ≡ word_fields ns
-unfolding each
-each-written [] = refl
-each-written (n ∷ ns) = rw (each-written ns)
+  three : (a b d : ℕ) → layout_of k ≡ Three → line_text (plain k (three_numbers a b d)) ++ feed ≡ numbers_line (word_of k) (a ∷ b ∷ d ∷ [])
+  unfolding line_text later_fields
+  three a b d e = rw e (numbers-end (word_of k) (a ∷ b ∷ d ∷ []))
 
 rule : (r : RuleValue) → line_text (rule_line (rule_of r).action (rule_of r).words) ++ feed ≡ Put.rule_line (word_of RuleKind) r
 unfolding rule_of line_text later_fields formula_line each
 rule r =
     rw (
       fields-end (word_of RuleKind) (decimal r.action ∷ map written (rule_of r).words),
-      each-written (Put.numbers_of r),
-      append_assoc (field (decimal r.action)) (word_fields (Put.numbers_of r)) feed,
+      each-map field written (map numbered (Put.numbers_of r)),
+      each-map (λ w. field (written w)) numbered (Put.numbers_of r),
     )
+    (simp append_assoc)
 
 -- ---- the lines of a list
 
@@ -100,7 +99,7 @@ said-end = bare End refl
 -- ---- all lists
 
 abbrev pub value_text : PolicyValue → List ℕ
-value_text v = sides_text v.form v.user v.object ++ lists_text v.users v.objects v.conflicts v.rules v.pairs
+value_text v = sides_text v ++ lists_text v
 
 pub text-is : (v : PolicyValue) → text_of (policy_of v) ≡ value_text v
 unfolding text_of lines_of policy_of side_of entries_of conflicts_of rules_of pairs_of

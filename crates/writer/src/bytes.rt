@@ -1,17 +1,26 @@
-// Bytes, put into a buffer from a place on; each call gives the place where they end.
-ghost use Rattle.writer.specs.Inner.Put.{Room, Put, field, feed, lone};
+// Bytes, put into a buffer from a place on; each call gives the place where they end. Buffer and place stay two
+// parameters: each line gets the rest of the lent buffer, which document 01 asks for, so that a struct of both would be
+// made anew for each line.
+ghost use Rattle.std.specs.Prelude.{◌∷◌, []};
+ghost use Rattle.writer.specs.Inner.Put.{Room, Put, field};
 
 // The bytes s.
 pub fn put(s: &[u8], buf: &mut [u8], at: usize) -> usize
     requires { Room s.now at buf.old }
     ensures { Put s.now at buf.old buf.new result }
 {
-    let mut i = 0;
-    while i < s.len() {
-        buf[at + i] = s[i];
-        i += 1;
-    }
-    at + i
+    let end = at + s.len();
+    buf[at..end].copy_from_slice(s);
+    end
+}
+
+// One byte.
+pub fn put_byte(b: u8, buf: &mut [u8], at: usize) -> usize
+    requires { Room (b ∷ []) at buf.old }
+    ensures { Put (b ∷ []) at buf.old buf.new result }
+{
+    buf[at] = b;
+    at + 1
 }
 
 // A comma and the bytes s.
@@ -19,24 +28,6 @@ pub fn put_field(s: &[u8], buf: &mut [u8], at: usize) -> usize
     requires { Room (field s.now) at buf.old }
     ensures { Put (field s.now) at buf.old buf.new result }
 {
-    buf[at] = b',';
-    put(s, buf, at + 1)
-}
-
-// A line feed.
-pub fn put_feed(buf: &mut [u8], at: usize) -> usize
-    requires { Room feed at buf.old }
-    ensures { Put feed at buf.old buf.new result }
-{
-    buf[at] = b'\n';
-    at + 1
-}
-
-// A comma.
-pub fn put_comma(buf: &mut [u8], at: usize) -> usize
-    requires { Room lone at buf.old }
-    ensures { Put lone at buf.old buf.new result }
-{
-    buf[at] = b',';
-    at + 1
+    let at = put_byte(b',', buf, at);
+    put(s, buf, at)
 }

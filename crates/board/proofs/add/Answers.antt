@@ -10,7 +10,7 @@ ruled : (c : goal.After-of_add-ruling) → (let a = c.args in refusal_of c.of_ad
 ruled c =
     let a = c.args in let x = c.at-entry in let r = c.of-reach in let h = c.union-held in let o = c.over-over in
     add_ruled a.policy a.board c.fits.result c.fits.ensures (rw c.if-not-fits.false)
-    a.user a.session x.result x.ensures c.of_add-ruling.result r.result r.ensures
+    a.user a.session x.result x.ensures (refusal_of c.of_add-ruling.result) r.result r.ensures
     a.set h.result h.ensures o.result o.ensures c.of_add-ruling.ensures
 
 pub returns-then-not-fits : goal.returns-then-not-fits

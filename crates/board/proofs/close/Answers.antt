@@ -1,7 +1,9 @@
 -- `board::close` meets its contract: check 11, then the ruling and the session's next entry settle the call.
-use mathlib.Core.Path.{◌≡◌, ◌∙◌}
+use mathlib.Core.Path.{◌≡◌, refl, ap, ◌∙◌}
+use Rattle.basis.specs.Choice.{there}
 use Rattle.board.specs.Machine.{closes}
 use Rattle.board.specs.Inner.{refusal_of, lower}
+use Rattle.board.proofs.Users.{is_there}
 use Rattle.board.proofs.Settled.{stopped, ready, close_ruled, settled-near, closed-again}
 use Rattle.board.proofs.close.Goals as goal
 
@@ -19,7 +21,7 @@ settle-requires c =
     -- the ruling is of the call's checks
     let ruled : refusal_of c.of_close-ruling.result ≡ lower a.policy (closes a.user a.session) a.board =
     close_ruled a.policy a.board c.fits.result c.fits.ensures (rw c.if-not-fits.false)
-    a.user a.session x.result x.ensures c.of_close-ruling.result r.result r.ensures c.of_close-ruling.ensures in
+    a.user a.session x.result x.ensures (refusal_of c.of_close-ruling.result) c.is_some.result (c.is_some.ensures ∙ is_there _ ∙ ap there r.ensures) c.of_close-ruling.ensures in
     settled-near a.policy (closes a.user a.session) a.board _ ruled
 
 pub returns : goal.returns
@@ -28,6 +30,6 @@ returns c l =
     -- the ruling is of the call's checks
     let ruled : refusal_of c.of_close-ruling.result ≡ lower a.policy (closes a.user a.session) a.board =
     close_ruled a.policy a.board c.fits.result c.fits.ensures (rw c.if-not-fits.false)
-    a.user a.session x.result x.ensures c.of_close-ruling.result r.result r.ensures c.of_close-ruling.ensures in
+    a.user a.session x.result x.ensures (refusal_of c.of_close-ruling.result) c.is_some.result (c.is_some.ensures ∙ is_there _ ∙ ap there r.ensures) c.of_close-ruling.ensures in
     c.settle.ensures
-    ∙ closed-again l a.policy a.board a.user a.session _ ruled c.closed-gone.result c.closed-gone.ensures
+    ∙ closed-again l a.policy a.board a.user a.session _ ruled _ refl

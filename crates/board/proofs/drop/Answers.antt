@@ -17,7 +17,7 @@ settle-requires c =
     -- the ruling is of the call's checks
     let ruled : refusal_of c.of_drop-ruling.result ≡ lower a.policy (drops a.user a.session a.set) a.board =
     drop-ruled a.policy a.board c.fits.result c.fits.ensures (rw c.if-not-fits.false)
-    a.user a.session x.result x.ensures c.of_drop-ruling.result r.result r.ensures a.set c.of_drop-ruling.ensures in
+    a.user a.session x.result x.ensures (refusal_of c.of_drop-ruling.result) r.result r.ensures a.set c.of_drop-ruling.ensures in
     settled-near a.policy (drops a.user a.session a.set) a.board _ ruled
 
 pub returns : goal.returns
@@ -26,7 +26,7 @@ returns c l =
     -- the ruling is of the call's checks
     let ruled : refusal_of c.of_drop-ruling.result ≡ lower a.policy (drops a.user a.session a.set) a.board =
     drop-ruled a.policy a.board c.fits.result c.fits.ensures (rw c.if-not-fits.false)
-    a.user a.session x.result x.ensures c.of_drop-ruling.result r.result r.ensures a.set c.of_drop-ruling.ensures in
+    a.user a.session x.result x.ensures (refusal_of c.of_drop-ruling.result) r.result r.ensures a.set c.of_drop-ruling.ensures in
     let h = c.minus-held in
     c.settle.ensures
     ∙ dropped l a.policy a.board a.user a.session _ a.set x.result x.ensures h.result ruled h.ensures

@@ -10,7 +10,7 @@ ruled : (c : goal.After-of_open-ruling) → (let a = c.args in refusal_of c.of_o
 ruled c =
     let a = c.args in let x = c.at-entry in let r = c.of-reach in let o = c.over-over in
     open_ruled a.policy a.board c.fits.result c.fits.ensures (rw c.if-not-fits.false)
-    a.user a.session x.result x.ensures c.of_open-ruling.result r.result r.ensures a.set o.result o.ensures c.of_open-ruling.ensures
+    a.user a.session x.result x.ensures (refusal_of c.of_open-ruling.result) r.result r.ensures a.set o.result o.ensures c.of_open-ruling.ensures
 
 pub returns-then-not-fits : goal.returns-then-not-fits
 returns-then-not-fits c l = search stopped

@@ -2,4 +2,4 @@
 use Rattle.embed.proofs.helvemoik_apart.Goals as goal
 
 pub returns : goal.returns
-returns c = (c.apart.result, c.apart.ensures, c.separation.ensures)
+returns c = (c.apart.result, c.apart.ensures, c.from.ensures)

@@ -4,4 +4,4 @@ use Rattle.embed.specs.Answers.{crossed_step}
 use Rattle.embed.proofs.helvemoik_open.Goals as goal
 
 pub returns : goal.returns
-returns c l = c.step.ensures ∙ ap crossed_step (c.open.ensures l)
+returns c l = c.from.ensures ∙ ap crossed_step (c.open.ensures l)

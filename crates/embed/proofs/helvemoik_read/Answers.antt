@@ -2,4 +2,4 @@
 use Rattle.embed.proofs.helvemoik_read.Goals as goal
 
 pub returns : goal.returns
-returns c = c.reading.ensures _ c.read.ensures
+returns c = c.from.ensures _ c.read.ensures

@@ -1,7 +1,8 @@
 -- `embed::helvemoik_request_16_16` meets its contract: the board's step, crossed.
 use mathlib.Core.Path.{ap, ◌∙◌}
 use Rattle.embed.specs.Answers.{crossed_step}
+use Rattle.std.proofs.lemmas.List.{map-id}
 use Rattle.embed.proofs.helvemoik_request_16_16.Goals as goal
 
 pub returns : goal.returns
-returns c = c.step.ensures ∙ ap crossed_step (rw c.counts_of.ensures at c.request_16_16.ensures)
+returns c = c.from.ensures ∙ ap crossed_step (rw c.counts_of.ensures at (simp map-id at c.request.ensures))

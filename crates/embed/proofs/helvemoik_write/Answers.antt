@@ -6,4 +6,4 @@ use Rattle.embed.proofs.helvemoik_write.Goals as goal
 pub returns : goal.returns
 returns c =
     let w = c.write in
-    record { answer = c.written.ensures ∙ ap counted w.ensures.answer; bytes = w.ensures.bytes }
+    record { answer = c.from.ensures ∙ ap counted w.ensures.answer; bytes = w.ensures.bytes }

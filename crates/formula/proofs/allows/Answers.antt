@@ -19,27 +19,21 @@ use Rattle.formula.proofs.allows.Goals as goal
 first_lane : (xs : List ℕ) (d : ℕ) {t : Bool} → has (in_block xs 1 0 d) 0 ≡ t → eqb (get_or xs d 0 % 2) 1 ≡ t
 first_lane xs d e = ap (λ (n : ℕ). eqb (n % 2) 1) (sym (alone xs d) ∙ sym (div-one (in_block xs 1 0 d))) ∙ e
 
-pub of_action-grant-requires : goal.of_action-grant-requires
-of_action-grant-requires c = (_, c.of_policy.ensures)
-
 pub where_granted-d-requires : goal.where_granted-d-requires
 where_granted-d-requires c =
     let p = policy_of c.args.v in
-    ((p, c.requires.1), omega (arith, c.with_juniors-users.ensures.0), omega (arith, c.with_seniors-objects.ensures.0), (c.of_action-grant.ensures p c.of_policy.ensures).few, omega arith)
-
-pub bounds-stack-d : goal.bounds-stack-d
-bounds-stack-d c = omega (arith, c.where_granted-d.ensures.0)
+    ((p, c.requires.1), (c.of_action-grant.ensures p c.of_policy.ensures).few, omega arith)
 
 pub returns : goal.returns
 unfolding policy_of side_of
 returns c =
     let a = c.args in let w = c.where_granted-d in
     let p = policy_of a.v in
-    let x : InBlock p c.with_juniors-users.result c.with_seniors-objects.result 1 0 0 (at a.user a.object) =
+    let x : InBlock p c.closed-users.result c.closed-objects.result 1 0 0 (at a.user a.object) =
     record {
       lane = lit< tt;
-      user = stands-moved (λ v h. alone c.with_juniors-users.result v) (c.with_juniors-users.ensures.1 0 a.user (c.spread.ensures 0 (lit< tt)));
-      object = stands-moved (λ v h. alone c.with_seniors-objects.result v) (c.with_seniors-objects.ensures.1 0 a.object (c.spread-2.ensures 0 (lit< tt)));
+      user = stands-moved (λ v h. alone c.closed-users.result v) (c.closed-users.ensures 0 a.user (c.spread.ensures 0 (lit< tt)));
+      object = stands-moved (λ v h. alone c.closed-objects.result v) (c.closed-objects.ensures 0 a.object (c.spread-2.ensures 0 (lit< tt)));
     } in
-    first_lane w.new.stack w.result (w.ensures.2 0 (lit< tt) p 0 (at a.user a.object) c.requires.1 x)
+    first_lane w.new.stack w.result (w.ensures.2 0 (lit< tt) p 0 (at a.user a.object) (c.requires.1, x))
     ∙ (c.of_action-grant.ensures p c.of_policy.ensures).same (at a.user a.object)

@@ -1,6 +1,5 @@
 -- `formula::answer` meets its contract, answer by answer.
 use mathlib.Core.Path.{refl, sym, ◌∙◌}
-use mathlib.Core.Bool.{true, false}
 use Rattle.policy.specs.Value.{policy_of}
 use Rattle.formula.specs.Truth.{at}
 use Rattle.formula.proofs.Checked.{valid-fits}
@@ -38,20 +37,11 @@ allows-requires c =
     let f = sets-fit p c.of_sides-sides.result x (at a.user a.object) (sym (c.lacks.ensures p x) ∙ c.if-lacks.false) in
     (valid-fits a.v c.requires, x, f.0, f.1)
 
-pub returns-then-allows : goal.returns-then-allows
+pub returns : goal.returns
 unfolding policy_of
-returns-then-allows c =
+returns c =
     let a = c.args in
     let p = policy_of a.v in
-    by_formula a.v a.action (at a.user a.object) c.requires (rw c.actions.ensures at c.if-actions-action.false)
+    c.from.ensures ∙ by_formula a.v a.action (at a.user a.object) c.requires (rw c.actions.ensures at c.if-actions-action.false)
     (sym (c.lacks.ensures p (c.of_sides-sides.ensures p refl refl)) ∙ c.if-lacks.false)
-    c.allows.result true c.allows.ensures c.if-allows.true
-
-pub returns-else-allows : goal.returns-else-allows
-unfolding policy_of
-returns-else-allows c =
-    let a = c.args in
-    let p = policy_of a.v in
-    by_formula a.v a.action (at a.user a.object) c.requires (rw c.actions.ensures at c.if-actions-action.false)
-    (sym (c.lacks.ensures p (c.of_sides-sides.ensures p refl refl)) ∙ c.if-lacks.false)
-    c.allows.result false c.allows.ensures c.if-allows.false
+    c.allows.result c.allows.ensures

@@ -8,6 +8,3 @@ pub returns-then-not-check : goal.returns-then-not-check
 returns-then-not-check c =
     let a = c.args in
     invalid a.v a.action (at a.user a.object) (sym c.check.ensures ∙ c.if-not-check.true)
-
-pub answer-requires : goal.answer-requires
-answer-requires c = sym c.check.ensures ∙ c.if-not-check.false

@@ -41,8 +41,8 @@ abbrev pub lane_entry : (ℕ → ℕ) → ℕ → ℕ → ℕ
 lane_entry granted n k = set_of (λ a. has (granted a) k) (grouped n)
 
 -- unless it is kept elsewhere, the row of user set u stands here, at n object sets
-abbrev pub Stored : Policy → Bool → List ℕ → ℕ → ℕ → Type 0
-Stored p kept row u n = kept ≡ false → (o : ℕ) → o < n → get_or row o 0 ≡ entry_of p (at u o)
+abbrev pub RowStands : Policy → Bool → List ℕ → ℕ → ℕ → Type 0
+RowStands p kept row u n = kept ≡ false → (o : ℕ) → o < n → get_or row o 0 ≡ entry_of p (at u o)
 
 -- the entry in column o of a row
 abbrev pub entry_at : List ℕ → ℕ → ℕ

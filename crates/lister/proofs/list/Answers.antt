@@ -13,17 +13,17 @@ loop-buffer-init g c = (_, c.start-cursor.ensures)
 pub slice_bounds-buffer-end : goal.slice_bounds-buffer-end
 slice_bounds-buffer-end g c =
     let l = c.loop-buffer in let x = l.invariant in let y = c.next-chunk.ensures in
-    within x.0 l.buffer (y.by_index_2 x.0 x.1) (y.by_index x.0 x.1)
+    within x.0 l.buffer (y.stored x.0 x.1) (y.counted x.0 x.1)
 
 pub slice_bounds-write_all-end : goal.slice_bounds-write_all-end
 slice_bounds-write_all-end g c =
     let l = c.loop-buffer in let x = l.invariant in let y = c.next-chunk.ensures in
-    sym (length-take-le _ _ (within x.0 l.buffer (y.by_index_2 x.0 x.1) (y.by_index x.0 x.1)))
+    sym (length-take-le _ _ (within x.0 l.buffer (y.stored x.0 x.1) (y.counted x.0 x.1)))
 
 pub loop-buffer-smaller : goal.loop-buffer-smaller
-loop-buffer-smaller g c = c.next-chunk.ensures.next_bound (omega (arith, c.if-n-eq0.false))
+loop-buffer-smaller g c = c.next-chunk.ensures.falls (omega (arith, c.if-n-eq0.false))
 
 pub loop-buffer-preserved : goal.loop-buffer-preserved
 loop-buffer-preserved g c =
     let l = c.loop-buffer in let x = l.invariant in
-    (behind (length l.buffer) x.0, c.next-chunk.ensures.by_index_3 x.0 x.1)
+    (behind (length l.buffer) x.0, c.next-chunk.ensures.left_behind x.0 x.1)

@@ -1,7 +1,6 @@
 -- Policies whose lines pass checks 6 to 9, 21 and 22 one after the other, by a test for each list. Reading yields
 -- exactly these, and check 11 tests for them; nothing here is needed to say what reading or check 11 means.
-use Rattle.std.specs.Prelude.{ℕ, ◌+◌, Bool, true, ◌&&◌, List, [], ◌∷◌, leb, ltb, length}
-use Rattle.std.proofs.Math.Option.{Option, none, some}
+use Rattle.std.specs.Prelude.{ℕ, ◌+◌, Bool, true, ◌&&◌, List, [], ◌∷◌, leb, ltb, length, Option, None, Some}
 use Rattle.basis.specs.Choice.{given}
 use Rattle.basis.specs.Lists.{all}
 use Rattle.seniority.specs.declared.Direct.{Direct}
@@ -20,7 +19,7 @@ widths_sound most n (w ∷ ws) = width_fits most n w && widths_sound most (n + w
 -- elements after another: each passes a test and stands above the one before it
 unfoldable pub rising : {A : Type 0} → (A → Bool) → (A → A → Bool) → Option A → List A → Bool
 rising fits above before [] = true
-rising fits above before (x ∷ xs) = fits x && (given before true (λ b. above b x) && rising fits above (some x) xs)
+rising fits above before (x ∷ xs) = fits x && (given before true (λ b. above b x) && rising fits above (Some x) xs)
 
 -- ---- the test of each list's elements, and their order
 
@@ -58,18 +57,18 @@ pair_higher b x = pair_above x b
 -- ---- the lists
 
 unfoldable pub side_sound : ℕ → Side → Bool
-side_sound most s = widths_sound most 0 s.widths && rising (line_in (side_sizes s)) line_above none s.lines
+side_sound most s = widths_sound most 0 s.widths && rising (line_in (side_sizes s)) line_above None s.lines
 
 -- every list is sound: what holds while a text is read, from the first line on
 unfoldable pub lists_sound : Policy → Bool
 lists_sound p =
     side_sound (values p.form) p.user
     && (side_sound (values p.form) p.object
-    && (rising (number_in user_numbers (total p.user)) number_above none p.users
-    && (rising (number_in object_numbers (total p.object)) number_above none p.objects
-    && ((leb (length p.conflicts) most_conflicts && rising (conflict_fits (total p.user)) set_above none p.conflicts)
-    && (rising (rule_sound (actions p.form) (sizes p)) action_above none p.rules
-    && (leb (length p.pairs) most_pairs && rising (pair_fits (actions p.form) (total p.user) (total p.object)) pair_higher none p.pairs))))))
+    && (rising (number_in user_numbers (total p.user)) number_above None p.users
+    && (rising (number_in object_numbers (total p.object)) number_above None p.objects
+    && ((leb (length p.conflicts) most_conflicts && rising (conflict_fits (total p.user)) set_above None p.conflicts)
+    && (rising (rule_sound (actions p.form) (sizes p)) action_above None p.rules
+    && (leb (length p.pairs) most_pairs && rising (pair_fits (actions p.form) (total p.user) (total p.object)) pair_higher None p.pairs))))))
 
 -- and the form and both sides are there: what holds of an accepted text's policy
 unfoldable pub sound : Policy → Bool

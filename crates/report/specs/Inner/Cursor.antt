@@ -63,7 +63,7 @@ pub record TuplesFit (p : Policy) (t : Tuples) : Type 0 where
 
 -- the cursor is one of this policy
 pub record Standing (p : Policy) (c : Cursor) : Type 0 where
-  pub source : SourceOf p c.source c.objects
+  pub source : SourceOf p c.pairs.source c.pairs.objects
   pub grants : GrantsOf p c.grants
   pub stored : Stores (listed p) c.listed
   pub within : c.done ≤ c.listed.count
@@ -85,6 +85,10 @@ remaining c =
     (c.held.to - c.held.from)
     + (c.tuples.end - (c.tuples.first + c.tuples.marks.count))
     + (line_room + 1) * ((numbers_end c.tuples - next_number c.tuples) + (1 + most_blocks + most_tuples) * (c.listed.count - c.done))
+
+-- so many bytes handed out, and the cursor behind them
+abbrev pub up_to : ℕ → Cursor → Chunk
+up_to count next = record { count = count; next = next }
 
 -- the first of the bytes that are left at c are put at the start of a buffer, and the answer's cursor is behind them
 pub record Handed (p : Policy) (c : Cursor) (entry exit : List ℕ) (r : Chunk) : Type 0 where

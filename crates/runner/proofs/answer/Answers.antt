@@ -2,10 +2,10 @@
 use Rattle.runner.specs.Inner.{item_step}
 use Rattle.runner.proofs.answer.Goals as goal
 
-pub returns-in-Is : goal.returns-in-Is
+pub returns-in-Some : goal.returns-in-Some
 unfolding item_step
-returns-in-Is c = rw c.in-Is.is c.take.ensures
+returns-in-Some g c = rw c.in-Some.is c.take.ensures
 
-pub returns-in-NoCall : goal.returns-in-NoCall
+pub returns-in-None : goal.returns-in-None
 unfolding item_step
-returns-in-NoCall c = rw c.in-NoCall.is
+returns-in-None g c = rw c.in-None.is

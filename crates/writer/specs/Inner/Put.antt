@@ -1,5 +1,5 @@
 -- What a function that writes into a lent buffer does, and the texts that the parts of a line are.
-use Rattle.std.specs.Prelude.{ℕ, ◌+◌, ◌%◌, ◌≤◌, ◌≡◌, Bool, ◌&&◌, List, [], ◌∷◌, ◌++◌, leb, length, take, drop}
+use Rattle.std.specs.Prelude.{ℕ, ◌+◌, ◌%◌, ◌≤◌, ◌≡◌, Bool, true, ◌&&◌, List, [], ◌∷◌, ◌++◌, leb, length, take, drop}
 use Rattle.basis.specs.Bytes.{byte}
 use Rattle.basis.specs.Lists.{all, over}
 use Rattle.seniority.specs.declared.Direct.{Direct}
@@ -12,7 +12,6 @@ use Rattle.policy.specs.declared.value.Entry.{Entry}
 use Rattle.policy.specs.declared.value.Conflict.{Conflict}
 use Rattle.policy.specs.declared.value.Pair.{Pair}
 use Rattle.policy.specs.declared.value.RuleValue.{RuleValue}
-use Rattle.writer.specs.declared.word.Spelling.{Spelling}
 
 -- a buffer has room for a text from a place on
 pub record Room (t : List ℕ) (at : ℕ) (buffer : List ℕ) : Type 0 where
@@ -23,11 +22,6 @@ pub record Put (t : List ℕ) (at : ℕ) (entry exit : List ℕ) (r : ℕ) : Typ
   pub bytes : exit ≡ take at entry ++ over t (drop at entry)
   pub end : r ≡ at + length t
   pub fits : r ≤ length entry
-
--- a word's bytes
-pub record Spelt (t : List ℕ) (s : Spelling) : Type 0 where
-  pub most : s.1 ≤ length s.0
-  pub bytes : take s.1 s.0 ≡ t
 
 -- ---- lines
 
@@ -53,6 +47,9 @@ last_digit n = (byte "0" + n % 10) ∷ []
 abbrev pub number_field : ℕ → List ℕ
 number_field n = field (decimal n)
 
+abbrev pub number_fields : List ℕ → List ℕ
+number_fields ns = each number_field ns
+
 -- the field of the word that has a number
 abbrev pub word_field : ℕ → List ℕ
 word_field n = field (written (numbered n))
@@ -60,41 +57,39 @@ word_field n = field (written (numbered n))
 abbrev pub word_fields : List ℕ → List ℕ
 word_fields ns = each word_field ns
 
--- a line by its layout: a word alone, with one, two or three numbers, or with an action and words by their numbers
+-- a line by its layout: a word alone, with numbers, or with an action and words by their numbers
 unfoldable pub bare_line : List ℕ → List ℕ
 bare_line word = word ++ feed
 
-unfoldable pub one_line : List ℕ → ℕ → List ℕ
-one_line word a = word ++ (number_field a ++ feed)
-
-unfoldable pub two_line : List ℕ → ℕ → ℕ → List ℕ
-two_line word a b = word ++ (number_field a ++ (number_field b ++ feed))
-
-unfoldable pub three_line : List ℕ → ℕ → ℕ → ℕ → List ℕ
-three_line word a b c = word ++ (number_field a ++ (number_field b ++ (number_field c ++ feed)))
-
--- such a line with three numbers in two parts: up to the third number, and from there on
-unfoldable pub start_line : List ℕ → ℕ → ℕ → List ℕ
-start_line word a b = word ++ (number_field a ++ (number_field b ++ lone))
-
-unfoldable pub end_line : ℕ → List ℕ
-end_line c = decimal c ++ feed
+unfoldable pub numbers_line : List ℕ → List ℕ → List ℕ
+numbers_line word ns = (word ++ number_fields ns) ++ feed
 
 unfoldable pub formula_line : List ℕ → ℕ → List ℕ → List ℕ
-formula_line word a ns = word ++ (number_field a ++ (word_fields ns ++ feed))
+formula_line word a ns = (word ++ number_fields (a ∷ [])) ++ (word_fields ns ++ feed)
+
+-- a line with a number more in two parts: up to that number, and from there on
+unfoldable pub start_line : List ℕ → List ℕ → List ℕ
+start_line word ns = (word ++ number_fields ns) ++ lone
+
+unfoldable pub end_line : ℕ → List ℕ
+end_line n = decimal n ++ feed
+
+-- the line of a width
+abbrev pub one_line : List ℕ → ℕ → List ℕ
+one_line word a = numbers_line word (a ∷ [])
 
 -- the lines of a seniority, of a user or an object, of a conflict, of a pair, and of a rule
 abbrev pub direct_line : List ℕ → Direct → List ℕ
-direct_line word l = two_line word l.senior l.junior
+direct_line word l = numbers_line word (l.senior ∷ l.junior ∷ [])
 
 abbrev pub entry_line : List ℕ → Entry → List ℕ
-entry_line word e = two_line word e.number e.set
+entry_line word e = numbers_line word (e.number ∷ e.set ∷ [])
 
 abbrev pub conflict_line : List ℕ → Conflict → List ℕ
-conflict_line word x = two_line word x.set x.most
+conflict_line word x = numbers_line word (x.set ∷ x.most ∷ [])
 
 abbrev pub pair_line : List ℕ → Pair → List ℕ
-pair_line word x = three_line word x.action x.user x.object
+pair_line word x = numbers_line word (x.action ∷ x.user ∷ x.object ∷ [])
 
 abbrev pub numbers_of : RuleValue → List ℕ
 numbers_of r = take r.count r.words
@@ -109,3 +104,7 @@ all_in_digits ns = all (λ n. in_digits (numbered n)) ns
 -- a rule's count is within its array, and its words can be spelt
 unfoldable pub rule_writable : RuleValue → Bool
 rule_writable r = leb r.count word_places && all_in_digits (numbers_of r)
+
+-- what has no condition can be written
+abbrev pub always : {A : Type 0} → A → Bool
+always x = true

@@ -40,17 +40,18 @@ pub record Writable (v : PolicyValue) : Type 0 where
   pub pairs : PairsWithin v.pairs
 
 -- the text up to the seniorities, and the rest of it
-abbrev pub sides_text : ℕ → SideValue → SideValue → List ℕ
-sides_text form u o =
-    one_line (word_of Policy) form
-    ++ (each (one_line (word_of Uattr)) (take u.attributes u.widths)
-    ++ (each (one_line (word_of Oattr)) (take o.attributes o.widths)
-    ++ (each (direct_line (word_of Usen)) (take u.lines u.seniority) ++ each (direct_line (word_of Osen)) (take o.lines o.seniority))))
+abbrev pub sides_text : PolicyValue → List ℕ
+sides_text v =
+    one_line (word_of Policy) v.form
+    ++ (each (one_line (word_of Uattr)) (take v.user.attributes v.user.widths)
+    ++ (each (one_line (word_of Oattr)) (take v.object.attributes v.object.widths)
+    ++ (each (direct_line (word_of Usen)) (take v.user.lines v.user.seniority)
+    ++ each (direct_line (word_of Osen)) (take v.object.lines v.object.seniority))))
 
-abbrev pub lists_text : Register → Register → Conflicts → Rules → Pairs → List ℕ
-lists_text us os cs rs xs =
-    each (entry_line (word_of User)) (take us.count us.entries)
-    ++ (each (entry_line (word_of Object)) (take os.count os.entries)
-    ++ (each (conflict_line (word_of Conflict)) (take cs.count cs.entries)
-    ++ (each (rule_line (word_of Rule)) (take rs.count rs.entries)
-    ++ (each (pair_line (word_of Pair)) (take xs.count xs.entries) ++ bare_line (word_of End)))))
+abbrev pub lists_text : PolicyValue → List ℕ
+lists_text v =
+    each (entry_line (word_of User)) (take v.users.count v.users.entries)
+    ++ (each (entry_line (word_of Object)) (take v.objects.count v.objects.entries)
+    ++ (each (conflict_line (word_of Conflict)) (take v.conflicts.count v.conflicts.entries)
+    ++ (each (rule_line (word_of Rule)) (take v.rules.count v.rules.entries)
+    ++ (each (pair_line (word_of Pair)) (take v.pairs.count v.pairs.entries) ++ bare_line (word_of End)))))

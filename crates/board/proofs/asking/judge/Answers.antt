@@ -8,11 +8,11 @@ returns-then-actions-action c = search request_unknown
 pub returns-then-session-ge-SESSION_NUMBERS : goal.returns-then-session-ge-SESSION_NUMBERS
 returns-then-session-ge-SESSION_NUMBERS c = search request_nowhere
 
-pub returns-then-not-found : goal.returns-then-not-found
-returns-then-not-found c = search request_unregistered
+pub returns-in_default : goal.returns-in_default
+returns-in_default c = search request_unregistered
 
-pub returns-then-entry-ne0 : goal.returns-then-entry-ne0
-returns-then-entry-ne0 c = search request_open
+pub returns-then-entry-eq0 : goal.returns-then-entry-eq0
+returns-then-entry-eq0 c = search request_closed
 
-pub returns-else-entry-ne0 : goal.returns-else-entry-ne0
-returns-else-entry-ne0 c = search request_closed
+pub returns : goal.returns
+returns c = search request_open

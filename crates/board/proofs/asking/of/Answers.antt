@@ -14,12 +14,12 @@ returns-then-not-fits c l e =
     let a = c.args in
     stopped a.policy a.board c.fits.result c.fits.ensures l _ (rw c.if-not-fits.true) _ refl
 
-pub ask-requires : goal.ask-requires
-ask-requires c = search objects-ready
+pub set_of-set-requires : goal.set_of-set-requires
+set_of-set-requires c = search objects-ready
 
 pub returns : goal.returns
 returns c l e =
     let a = c.args in
     asked-step a.policy l a.board a.session a.action a.object c.own_widths.result (rw e c.own_widths.ensures) (rw c.if-not-own_widths.false)
     c.fits.result c.fits.ensures (rw c.if-not-fits.false) c.actions-actions.result c.actions-actions.ensures
-    c.ask.result c.ask.ensures _ refl
+    _ (λ p eo ea. rw (← c.at-entry.ensures) (c.judge.ensures p a.object ea (rw eo c.set_of-set.ensures))) _ refl

@@ -1,12 +1,9 @@
--- `board::assigned::place` meets its contract: one law for each way out.
-use borrow.Author.Tests.{lt-ltb, le-ltb}
+-- `board::assigned::place` meets its contract: the lesser number is the definition's.
+use Rattle.std.proofs.Common.{arith}
+use Rattle.std.proofs.lemmas.Bool.Decides.{nat_tests}
 use Rattle.board.specs.Inner.{place_of}
 use Rattle.board.proofs.assigned.place.Goals as goal
 
-pub returns-then-number-lt-USER_NUMBERS : goal.returns-then-number-lt-USER_NUMBERS
+pub returns : goal.returns
 unfolding place_of
-returns-then-number-lt-USER_NUMBERS c = search (lt-ltb, le-ltb)
-
-pub returns-else-number-lt-USER_NUMBERS : goal.returns-else-number-lt-USER_NUMBERS
-unfolding place_of
-returns-else-number-lt-USER_NUMBERS c = search (lt-ltb, le-ltb)
+returns c = let e = c.min.ensures in grind (arith, nat_tests)

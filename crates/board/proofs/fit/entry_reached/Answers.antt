@@ -1,9 +1,6 @@
--- `board::fit::entry_reached` meets its contract: one law for each way out.
-use Rattle.board.proofs.Fitting.{reached-closed, reached-live}
+-- `board::fit::entry_reached` meets its contract: an open session's set is held against the reach.
+use Rattle.board.proofs.Fitting.{reached-live}
 use Rattle.board.proofs.fit.entry_reached.Goals as goal
 
-pub returns-then-entry-ne0 : goal.returns-then-entry-ne0
-returns-then-entry-ne0 c = search reached-live
-
-pub returns-else-entry-ne0 : goal.returns-else-entry-ne0
-returns-else-entry-ne0 c = search reached-closed
+pub returns-else-entry-eq0 : goal.returns-else-entry-eq0
+returns-else-entry-eq0 c p es q = reached-live p c.args.entry c.args.side es c.args.assigned q c.if-entry-eq0.false c.covers.result c.covers.ensures

@@ -1,37 +1,18 @@
--- `board::reach::set_of` meets its contract: the number is not among the entries before place i.
-use Prim.Native.Nat.{◌≤◌}
-use mathlib.Core.Path.{◌≡◌, refl, ◌∙◌}
-use native.Mathlib.Omega.{arith}
-use lib.ListN.{length}
-use borrow.Author.Rules.{rules}
-use Rattle.basis.proofs.Lists.{long}
-use Rattle.policy.specs.Value.{entry_places, entries_of}
-use Rattle.board.proofs.Users.{set_here, set-later, set-nowhere}
+-- `board::reach::set_of` meets its contract: the first entry with the number is found.
+use Rattle.std.proofs.Common.{◌≡◌, ◌∙◌, ap, eqb, take, rules}
+use Rattle.std.specs.Option.{option_map}
+use Rattle.std.proofs.lemmas.Iterator.{YieldsList-from_slice}
+use Rattle.std.proofs.lemmas.Iterator.Search.{find_from_yields_List}
+use borrow.Author.Tests.{tests}
+use Rattle.policy.specs.Value.{entries_of}
+use Rattle.policy.specs.declared.value.Entry.{Entry}
+use Rattle.board.proofs.Chains.{set-found}
 use Rattle.board.proofs.reach.set_of.Goals as goal
-
-pub loop-i-init : goal.loop-i-init
-loop-i-init c = (omega arith, refl)
-
-pub offset_bounds-entries-i : goal.offset_bounds-entries-i
-offset_bounds-entries-i c = omega (arith, c.requires)
-
-pub bounds-entries-i : goal.bounds-entries-i
-bounds-entries-i c = omega (arith, c.requires)
-
-pub returns-then-e-number : goal.returns-then-e-number
-unfolding entries_of
-returns-then-e-number c =
-    let size : length c.args.register.entries ≡ entry_places = search (rules, long) in
-    let fits : c.args.register.count ≤ length c.args.register.entries = omega (arith, c.requires) in
-    let e = c.loop-i.invariant.1 ∙ set_here _ _ _ _ c.loop-i-test.true fits c.if-e-number.true in
-    record { registered = rw e; set = rw e }
-
-pub loop-i-preserved : goal.loop-i-preserved
-loop-i-preserved c =
-    let size : length c.args.register.entries ≡ entry_places = search (rules, long) in
-    let fits : c.args.register.count ≤ length c.args.register.entries = omega (arith, c.requires) in
-    (omega arith, c.loop-i.invariant.1 ∙ set-later _ _ _ _ c.loop-i-test.true fits c.if-e-number.false)
 
 pub returns : goal.returns
 unfolding entries_of
-returns c = let e = c.loop-i.invariant.1 ∙ set-nowhere _ _ _ _ c.loop-i-test.false in record { registered = rw e; set = rw e }
+returns c =
+    let r = c.args.register in
+    let found = find_from_yields_List (λ (e : Entry). eqb e.number c.args.number) _ _ c.find.result c.find.ensures.ran (YieldsList-from_slice (take r.count r.entries) cc) (λ x b q k. search (rules, tests)) in
+    let mapped : c.map.result ≡ option_map (λ (e : Entry). e.set) (option_map (λ y. y.now) c.find.result) = search rules in
+    mapped ∙ ap (option_map (λ (e : Entry). e.set)) found ∙ set-found (take r.count r.entries) c.args.number

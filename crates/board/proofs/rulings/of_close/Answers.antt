@@ -12,7 +12,7 @@ pub returns-then-entry-eq0 : goal.returns-then-entry-eq0
 returns-then-entry-eq0 c = search close_closed
 
 pub returns-then-entry-user : goal.returns-then-entry-user
-returns-then-entry-user c = search close_allowed
+returns-then-entry-user c = search close_other
 
-pub returns-else-entry-user : goal.returns-else-entry-user
-returns-else-entry-user c = search close_other
+pub returns : goal.returns
+returns c = search close_allowed

@@ -5,8 +5,8 @@ use Rattle.board.proofs.rulings.of_open.Goals as goal
 pub returns-then-session-ge-SESSION_NUMBERS : goal.returns-then-session-ge-SESSION_NUMBERS
 returns-then-session-ge-SESSION_NUMBERS c p u h q = search open_unknown
 
-pub returns-then-not-reach : goal.returns-then-not-reach
-returns-then-not-reach c p u h q = search open_unregistered
+pub returns-in_default : goal.returns-in_default
+returns-in_default c p u h q = search open_unregistered
 
 pub returns-then-entry-ne0 : goal.returns-then-entry-ne0
 returns-then-entry-ne0 c p u h q = search open_open

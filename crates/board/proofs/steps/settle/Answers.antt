@@ -3,13 +3,13 @@ use mathlib.Core.Path.{ap}
 use Rattle.board.specs.Inner.{refusal_of, settled}
 use Rattle.board.proofs.steps.settle.Goals as goal
 
-pub bounds-after-i : goal.bounds-after-i
-bounds-after-i c = c.requires (ap refusal_of c.in-Allowed.is)
+pub bounds-after-session : goal.bounds-after-session
+bounds-after-session c = c.requires (ap refusal_of c.in-Ok.is)
 
-pub returns-in-Allowed : goal.returns-in-Allowed
+pub returns-in-Ok : goal.returns-in-Ok
 unfolding settled
-returns-in-Allowed c = rw c.in-Allowed.is
+returns-in-Ok c = rw c.in-Ok.is
 
-pub returns-in-Refused : goal.returns-in-Refused
+pub returns-in-Err : goal.returns-in-Err
 unfolding settled
-returns-in-Refused c = rw c.in-Refused.is
+returns-in-Err c = rw c.in-Err.is

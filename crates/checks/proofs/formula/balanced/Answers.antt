@@ -1,20 +1,18 @@
 -- `checks::formula::balanced` meets its contract: the words before place i leave `depth` truth values.
-use borrow.Author.Rules.{rules}
-use Rattle.checks.proofs.Words.{leaves_none, leaves_one, leaves_more, leaves_few}
+use mathlib.Core.Path.{refl}
+use Rattle.checks.proofs.Words.{balanced-walk, walked_none, walked_all, walked-stuck, walked-more}
 use Rattle.checks.proofs.formula.balanced.Goals as goal
 
-pub loop-i-init : goal.loop-i-init
-loop-i-init c = leaves_none
+pub loop-n-init : goal.loop-n-init
+loop-n-init c = walked_none
 
-pub returns-then-depth-k : goal.returns-then-depth-k
-returns-then-depth-k c =
-    leaves_few c.loop-i.invariant (search rules) (search rules)
-    c.of_number-w.ensures c.takes-k.ensures c.if-depth-k.true
+pub returns-in_default : goal.returns-in_default
+returns-in_default c =
+    walked-stuck balanced-walk c.loop-n.invariant c.loop-n-test.true c.from.ensures c.after.ensures c.in_default.is
 
-pub loop-i-preserved : goal.loop-i-preserved
-loop-i-preserved c =
-    leaves_more c.loop-i.invariant (search rules) (search rules)
-    c.of_number-w.ensures c.takes-k.ensures c.if-depth-k.false
+pub loop-n-preserved : goal.loop-n-preserved
+loop-n-preserved c =
+    walked-more balanced-walk c.loop-n.invariant c.loop-n-test.true c.from.ensures c.after.ensures refl refl c.in-Some.is
 
 pub returns : goal.returns
-returns c = leaves_one c.loop-i.invariant c.loop-i-test.false
+returns c = walked_all balanced-walk c.loop-n.invariant c.loop-n-test.false

@@ -4,15 +4,15 @@ use Rattle.policy.specs.Policy.{Side, total}
 use Rattle.policy.specs.Value.{side_of}
 use Rattle.formula.proofs.attributes.of_sides.Goals as goal
 
-pub starts-user_starts-requires : goal.starts-user_starts-requires
+pub starts-requires : goal.starts-requires
 unfolding total side_of
-starts-user_starts-requires c = c.requires.0.most
+starts-requires c = c.requires.0.most
 
-pub starts-object_starts-requires : goal.starts-object_starts-requires
+pub starts-requires-2 : goal.starts-requires-2
 unfolding total side_of
-starts-object_starts-requires c = c.requires.1.most
+starts-requires-2 c = c.requires.1.most
 
 pub returns : goal.returns
 unfolding side_of
 returns c p e f =
-    record { user = c.starts-user_starts.ensures p.user (ap (λ (s : Side). s.widths) e); object = c.starts-object_starts.ensures p.object (ap (λ (s : Side). s.widths) f) }
+    record { user = c.starts.ensures p.user (ap (λ (s : Side). s.widths) e); object = c.starts-2.ensures p.object (ap (λ (s : Side). s.widths) f) }

@@ -1,10 +1,6 @@
 -- `formula::attributes::start` meets its contract: past the last entry stands the number of values.
-use native.Mathlib.Omega.{arith}
 use Rattle.formula.proofs.Widths.{start-past}
 use Rattle.formula.proofs.attributes.start.Goals as goal
-
-pub returns-then-i-lt-MOST_VALUES : goal.returns-then-i-lt-MOST_VALUES
-returns-then-i-lt-MOST_VALUES c s x = x.at c.args.i (omega arith)
 
 pub returns-else-i-lt-MOST_VALUES : goal.returns-else-i-lt-MOST_VALUES
 returns-else-i-lt-MOST_VALUES c s x = start-past s c.args.starts x c.args.i c.if-i-lt-MOST_VALUES.false

@@ -8,14 +8,8 @@ use Rattle.formula.proofs.Numbering.{side-blocks}
 use Rattle.formula.proofs.Placing.{stands-moved}
 use Rattle.formula.proofs.blocks.of_side.Goals as goal
 
-pub blocks_of-count-requires : goal.blocks_of-count-requires
-blocks_of-count-requires c = omega (arith, c.requires.1)
-
 pub loop-b-init : goal.loop-b-init
 loop-b-init c = (omega arith, rw c.blocks_of-count.ensures (side-blocks _ c.requires.1), refl, λ i k h. absurd (not-suc-le-zero h))
-
-pub put-requires : goal.put-requires
-put-requires c = let l = c.loop-b in (c.loop-b-test.true, l.invariant.1, l.invariant.2)
 
 pub loop-b-preserved : goal.loop-b-preserved
 loop-b-preserved c =
@@ -28,6 +22,3 @@ loop-b-preserved c =
         | no q ↦ let j : i < l.b = omega arith in let r : i < c.blocks_of-count.result = omega arith in stands-moved (λ v m. x.2 i v r q) (l.invariant.3 i k j g)
       ],
     )
-
-pub returns : goal.returns
-returns c = let e = c.blocks_of-count.ensures in let l = c.loop-b in (l.invariant.2, λ b k h g. rw e at (l.invariant.3 b k (omega (arith, e)) g))

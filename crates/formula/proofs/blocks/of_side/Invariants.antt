@@ -1,5 +1,5 @@
 -- `formula::blocks::of_side` meets its contract: the blocks before b have the sets of their numbers.
-use Prim.Native.Nat.{ℕ, ◌+◌, ◌*◌, ◌-◌, ◌%◌, ◌^◌, ◌≤◌, ◌<◌}
+use Prim.Native.Nat.{ℕ, ◌+◌, ◌*◌, ◌%◌, ◌^◌, ◌≤◌, ◌<◌}
 use mathlib.Core.Path.{◌≡◌}
 use lib.ListN.{length}
 use Rattle.policy.specs.Value.{side_of}
@@ -11,6 +11,3 @@ abbrev pub invariant-loop-b : goal.invariant-loop-b
 invariant-loop-b l =
     (l.b ≤ l.count) × (l.count ≤ most_blocks) × (length l.vectors ≡ side_vectors)
     × ((i k : ℕ) → i < l.b → k < lanes → Stands (grown_by l.user (side_of l.side).lines) (in_block l.vectors l.count i) k ((i * lanes + k) % 2 ^ l.n))
-
-abbrev pub decreases-loop-b : goal.decreases-loop-b
-decreases-loop-b l = l.count - l.b

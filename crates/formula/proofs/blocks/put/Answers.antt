@@ -1,26 +1,10 @@
 -- `formula::blocks::put` meets its contract: the vectors before v have been put, and the other blocks are left.
-use mathlib.Core.Path.{refl, ◌∙◌}
+use mathlib.Core.Path.{◌∙◌}
 use native.Mathlib.Omega.{arith}
-use native.Mathlib.Nat.{not-suc-le-zero}
 use native.Mathlib.Decide.{ℕ_discrete}
 use lib.ListN.{length-set}
 use Rattle.formula.proofs.Placing.{cell_room, cell-here, cell-above, cell-beside}
 use Rattle.formula.proofs.blocks.put.Goals as goal
-
-pub loop-v-init : goal.loop-v-init
-loop-v-init c = (omega arith, c.requires.2, λ w h. absurd (not-suc-le-zero h), λ d w h q. refl)
-
-pub overflow_mul-vectors : goal.overflow_mul-vectors
-overflow_mul-vectors c = let h = cell_room c.args.n c.args.b c.loop-v.v c.requires.1 c.requires.0 c.loop-v-test.true in omega (arith, h)
-
-pub overflow_add-vectors : goal.overflow_add-vectors
-overflow_add-vectors c = let h = cell_room c.args.n c.args.b c.loop-v.v c.requires.1 c.requires.0 c.loop-v-test.true in omega (arith, h)
-
-pub offset_bounds-vectors-v : goal.offset_bounds-vectors-v
-offset_bounds-vectors-v c = let h = cell_room c.args.n c.args.b c.loop-v.v c.requires.1 c.requires.0 c.loop-v-test.true in omega (arith, h)
-
-pub bounds-vectors-v : goal.bounds-vectors-v
-bounds-vectors-v c = let h = cell_room c.args.n c.args.b c.loop-v.v c.requires.1 c.requires.0 c.loop-v-test.true in omega (arith, h)
 
 pub loop-v-preserved : goal.loop-v-preserved
 loop-v-preserved c =
@@ -34,6 +18,3 @@ loop-v-preserved c =
       ],
       λ d w g q. cell-beside a.n a.b l.v _ l.vectors c.requires.0 d w g q ∙ l.invariant.3 d w g q,
     )
-
-pub returns : goal.returns
-returns c = let l = c.loop-v in (l.invariant.1, λ w h. l.invariant.2 w (omega arith), l.invariant.3)

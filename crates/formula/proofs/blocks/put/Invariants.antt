@@ -1,5 +1,5 @@
 -- `formula::blocks::put` meets its contract: the vectors before v have been put, and the other blocks are left.
-use Prim.Native.Nat.{ℕ, ◌-◌, ◌≤◌, ◌<◌}
+use Prim.Native.Nat.{ℕ, ◌≤◌, ◌<◌}
 use mathlib.Core.Path.{◌≡◌}
 use lib.ListN.{length, get_or}
 use Rattle.formula.specs.Inner.Lane.{vector_places, in_block}
@@ -11,6 +11,3 @@ invariant-loop-v l =
     (l.v ≤ vector_places) × (length l.vectors ≡ side_vectors)
     × ((w : ℕ) → w < l.v → in_block l.vectors l.n l.b w ≡ get_or l.block w 0)
     × ((c w : ℕ) → c < l.n → (c ≡ l.b → ⊥) → in_block l.vectors l.n c w ≡ in_block l.initial.vectors l.n c w)
-
-abbrev pub decreases-loop-v : goal.decreases-loop-v
-decreases-loop-v l = vector_places - l.v

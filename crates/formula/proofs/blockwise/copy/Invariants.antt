@@ -1,5 +1,5 @@
 -- `formula::blockwise::copy` meets its contract, number by number.
-use Prim.Native.Nat.{◌-◌, ◌≤◌}
+use Prim.Native.Nat.{◌≤◌}
 use mathlib.Core.Path.{◌≡◌}
 use Rattle.formula.proofs.Placing.{Placing}
 use Rattle.formula.specs.Inner.Lane.{in_block}
@@ -7,6 +7,3 @@ use Rattle.formula.proofs.blockwise.copy.Given as goal
 
 abbrev pub invariant-loop-b : goal.invariant-loop-b
 invariant-loop-b l = (l.b ≤ l.n) × Placing l.start l.b (λ a y. y ≡ in_block l.from l.n a l.i) l.initial.to l.to
-
-abbrev pub decreases-loop-b : goal.decreases-loop-b
-decreases-loop-b l = l.n - l.b

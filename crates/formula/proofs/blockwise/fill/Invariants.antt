@@ -1,11 +1,8 @@
 -- `formula::blockwise::fill` meets its contract, number by number.
-use Prim.Native.Nat.{◌-◌, ◌≤◌}
+use Prim.Native.Nat.{◌≤◌}
 use mathlib.Core.Path.{◌≡◌}
 use Rattle.formula.proofs.Placing.{Placing}
 use Rattle.formula.proofs.blockwise.fill.Given as goal
 
 abbrev pub invariant-loop-b : goal.invariant-loop-b
 invariant-loop-b l = (l.b ≤ l.n) × Placing l.start l.b (λ a y. y ≡ l.x) l.initial.to l.to
-
-abbrev pub decreases-loop-b : goal.decreases-loop-b
-decreases-loop-b l = l.n - l.b

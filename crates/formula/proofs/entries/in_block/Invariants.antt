@@ -1,5 +1,5 @@
 -- `formula::entries::in_block` meets its contract: the actions before a have their numbers.
-use Prim.Native.Nat.{ℕ, ◌-◌, ◌≤◌, ◌<◌}
+use Prim.Native.Nat.{ℕ, ◌≤◌, ◌<◌}
 use mathlib.Core.Path.{◌≡◌}
 use lib.ListN.{length, get_or}
 use Rattle.policy.specs.Limits.{most_actions}
@@ -8,6 +8,3 @@ use Rattle.formula.proofs.entries.in_block.Given as goal
 
 abbrev pub invariant-loop-a : goal.invariant-loop-a
 invariant-loop-a l = (l.a ≤ most_actions) × (length l.r ≡ most_actions) × ((j : ℕ) → j < l.a → get_or l.r j 0 ≡ in_block l.granted l.n l.b j)
-
-abbrev pub decreases-loop-a : goal.decreases-loop-a
-decreases-loop-a l = most_actions - l.a

@@ -1,6 +1,6 @@
 -- `formula::evaluate::combine` meets its contract: below the lowest place lies false.
-use Prim.Native.Nat.{ℕ, ◌+◌, ◌-◌}
-use mathlib.Core.Path.{◌≡◌, refl, sym, ap, ◌∙◌}
+use Prim.Native.Nat.{ℕ, ◌-◌}
+use mathlib.Core.Path.{refl, sym, ap, ◌∙◌}
 use mathlib.Core.Bool.{Bool, false}
 use native.Mathlib.Omega.{arith}
 use Rattle.sets.specs.Set.{has}
@@ -8,12 +8,6 @@ use Rattle.sets.proofs.Laws.{has-zero}
 use Rattle.formula.specs.Inner.Lane.{in_block, combined}
 use Rattle.formula.proofs.Stack.{taken-lowest, taken-lower}
 use Rattle.formula.proofs.evaluate.combine.Goals as goal
-
-pub fill-requires : goal.fill-requires
-fill-requires c = omega (arith, c.requires, c.if-d-eq0.true)
-
-pub shape_of-stack-then-d-eq0 : goal.shape_of-stack-then-d-eq0
-shape_of-stack-then-d-eq0 c = c.fill.ensures.long
 
 pub returns-then-both : goal.returns-then-both
 returns-then-both c = (
@@ -35,18 +29,6 @@ returns-else-both c = (
       taken-lowest (in_block a.stack.now a.n b) _ a.d k a.both c.if-d-eq0.true
       (sym (ap (λ (t : Bool). combined t false (has (in_block a.stack.now a.n b 0) k)) c.if-both.false)),
 )
-
-pub overflow_sub-d : goal.overflow_sub-d
-overflow_sub-d c = omega (arith, c.if-d-eq0.false)
-
-pub combine-requires : goal.combine-requires
-combine-requires c = let e : c.args.d - 1 + 1 ≡ c.args.d = omega (arith, c.if-d-eq0.false) in rw e c.requires
-
-pub overflow_sub-result : goal.overflow_sub-result
-overflow_sub-result c = omega (arith, c.if-d-eq0.false)
-
-pub shape_of-stack : goal.shape_of-stack
-shape_of-stack c = c.combine.ensures.long
 
 pub returns : goal.returns
 returns c =

@@ -1,5 +1,5 @@
 -- `formula::pairs::none_paired` meets its contract: r is 0 exactly where the sets before v are.
-use mathlib.Core.Path.{◌≡◌, refl, ap, ◌∙◌}
+use mathlib.Core.Path.{refl, ap, ◌∙◌}
 use mathlib.Core.Bool.{Bool, ◌&&◌}
 use native.Mathlib.Numerals.{add-one}
 use native.Mathlib.Omega.{arith}
@@ -7,7 +7,6 @@ use lib.Dec.{eqb}
 use lib.ListN.{get_or}
 use Rattle.basis.specs.Numbers.{every}
 use Rattle.validity.proofs.Stored.{zero-both}
-use Rattle.policy.specs.Limits.{most_values}
 use Rattle.formula.proofs.pairs.none_paired.Goals as goal
 
 pub loop-v-init : goal.loop-v-init
@@ -19,6 +18,3 @@ unfolding every
 loop-v-preserved c =
     let l = c.loop-v in let x = get_or c.args.paired l.v 0 in
     (omega arith, rw (add-one l.v) (zero-both l.r x ∙ ap (λ (b : Bool). b && eqb x 0) l.invariant.1))
-
-pub returns : goal.returns
-returns c = let l = c.loop-v in let e : l.v ≡ most_values = omega arith in rw e at l.invariant.1

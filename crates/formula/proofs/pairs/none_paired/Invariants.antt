@@ -1,5 +1,5 @@
 -- `formula::pairs::none_paired` meets its contract: r is 0 exactly where the sets before v are.
-use Prim.Native.Nat.{◌-◌, ◌≤◌}
+use Prim.Native.Nat.{◌≤◌}
 use mathlib.Core.Path.{◌≡◌}
 use lib.Dec.{eqb}
 use lib.ListN.{get_or}
@@ -9,6 +9,3 @@ use Rattle.formula.proofs.pairs.none_paired.Given as goal
 
 abbrev pub invariant-loop-v : goal.invariant-loop-v
 invariant-loop-v l = (l.v ≤ most_values) × (eqb l.r 0 ≡ every (λ u. eqb (get_or l.paired u 0) 0) l.v)
-
-abbrev pub decreases-loop-v : goal.decreases-loop-v
-decreases-loop-v l = most_values - l.v

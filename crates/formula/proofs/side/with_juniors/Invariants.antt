@@ -1,12 +1,10 @@
--- `formula::side::with_juniors` meets its contract: in every lane r is what the lines from i on make of the set.
-use Prim.Native.Nat.{◌≤◌}
-use lib.ListN.{length, take, drop}
+-- `formula::side::with_juniors` meets its contract: in every lane r is what the lines gone through make of the set.
+use mathlib.Core.Path.{◌≡◌}
+use mathlib.Core.List.{List, ◌++◌}
+use Rattle.seniority.specs.declared.Direct.{Direct}
 use Rattle.seniority.proofs.Laws.{lowered}
 use Rattle.formula.proofs.Vectors.{Grown}
 use Rattle.formula.proofs.side.with_juniors.Given as goal
 
-abbrev pub invariant-loop-i : goal.invariant-loop-i
-invariant-loop-i l = (l.i ≤ l.n) × (l.n ≤ length l.lines) × Grown l.initial.r l.r (lowered (drop l.i (take l.n l.lines)))
-
-abbrev pub decreases-loop-i : goal.decreases-loop-i
-decreases-loop-i l = l.i
+abbrev pub invariant-loop-line : goal.invariant-loop-line
+invariant-loop-line l = (done : List Direct) × (l.lines ≡ l.line-iterator.iter.rest.now ++ done) × Grown l.initial.r l.r (lowered done)

@@ -5,16 +5,10 @@ use native.Mathlib.Omega.{arith}
 use lib.ListN.{get_or}
 use lib.Pow.{pow_pos}
 use Rattle.formula.specs.Inner.Group.{group_size}
-use Rattle.formula.proofs.Squares.{rows_none, rows_next, has_part}
+use Rattle.formula.proofs.Squares.{rows_next, has_part}
 use Rattle.formula.proofs.turn.by_action.Goals as goal
-
-pub loop-a-init : goal.loop-a-init
-loop-a-init c = (omega arith, rows_none _)
 
 pub loop-a-preserved : goal.loop-a-preserved
 loop-a-preserved c =
     let l = c.loop-a in let b = c.args in
     (omega arith, rows_next _ l.a l.r _ (omega arith) l.invariant.1 (mod-lt _ (pow_pos group_size)) (λ j h. has_part (get_or b.granted.now (b.from + l.a) 0) b.q j h))
-
-pub returns : goal.returns
-returns c i j hi hj = c.loop-a.invariant.1.bits i j (omega arith) hj

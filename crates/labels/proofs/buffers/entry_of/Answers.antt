@@ -16,5 +16,5 @@ returns-then-kept c = λ p kept row.
 pub bounds-row-o : goal.bounds-row-o
 bounds-row-o c = let s = c.requires in omega (arith, s.3, s.1.1.few-objects)
 
-pub returns : goal.returns
-returns c = λ p kept row. row c.if-kept.false _ c.requires.3
+pub returns-else-kept : goal.returns-else-kept
+returns-else-kept c = λ p kept row. row c.if-kept.false _ c.requires.3

@@ -1,15 +1,13 @@
 -- `labels::buffers::put_table` meets its contract: a turn of the inner loop fills one place, one of the outer a row.
 use Prim.Native.Nat.{ℕ, ◌+◌, ◌*◌, ◌-◌, ◌/◌, ◌%◌, ◌≤◌}
-use mathlib.Core.Path.{◌≡◌}
 use mathlib.Core.List.{List}
-use lib.ListN.{length, get_or}
+use lib.ListN.{get_or}
+use Rattle.std.proofs.Common.{map}
 use Rattle.basis.proofs.Filled.{Filled, Further}
-use Rattle.policy.specs.Limits.{most_sets}
 use Rattle.policy.specs.Policy.{Policy}
 use Rattle.formula.specs.Truth.{at}
 use Rattle.labels.specs.Compile.{entry_of}
 use Rattle.labels.specs.Inner.Grid.{grid_places, ViewOf, Kept}
-use Rattle.labels.specs.Inner.Lending.{lent_in}
 use Rattle.labels.specs.Inner.Rows.{RowsOf}
 use Rattle.labels.specs.declared.grid.View.{View}
 use Rattle.labels.specs.declared.rows.Rows.{Rows}
@@ -26,17 +24,15 @@ pub record Of (p : Policy) (from : Rows) (view : View) (grid : List ℕ) : Type 
   pub kept : view.rows * view.columns ≤ grid_places → Kept p grid view
 
 abbrev pub invariant-loop-l : goal.invariant-loop-l
-invariant-loop-l l =
-    (l.l ≤ l.no) × ((p : Policy) → Of p l.from l.view l.grid → Further (at_place p l.user_leaders l.object_leaders l.no) (l.k * l.no) (l.k * l.no + l.l) (lent_in l.width l.initial.bytes l.initial.wide) (lent_in l.width l.bytes l.wide))
-    × (length l.bytes ≡ length l.initial.bytes) × (length l.wide ≡ length l.initial.wide)
+invariant-loop-l g l =
+    (l.l ≤ l.no) × ((p : Policy) → Of p l.from l.view l.grid → Further (at_place p l.users.leaders l.objects.leaders l.no) (l.k * l.no) (l.k * l.no + l.l) (map g.E.Stored.number l.initial.table) (map g.E.Stored.number l.table))
 
 abbrev pub decreases-loop-l : goal.decreases-loop-l
-decreases-loop-l l = l.no - l.l
+decreases-loop-l g l = l.no - l.l
 
 abbrev pub invariant-loop-k : goal.invariant-loop-k
-invariant-loop-k l =
-    (l.k ≤ l.nu) × ((p : Policy) → Of p l.from l.view l.grid → Filled (at_place p l.user_leaders l.object_leaders l.no) (l.k * l.no) (lent_in l.width l.initial.bytes l.initial.wide) (lent_in l.width l.bytes l.wide))
-    × (length l.bytes ≡ length l.initial.bytes) × (length l.wide ≡ length l.initial.wide) × (length l.row ≡ most_sets)
+invariant-loop-k g l =
+    (l.k ≤ l.nu) × ((p : Policy) → Of p l.from l.view l.grid → Filled (at_place p l.users.leaders l.objects.leaders l.no) (l.k * l.no) (map g.E.Stored.number l.initial.table) (map g.E.Stored.number l.table))
 
 abbrev pub decreases-loop-k : goal.decreases-loop-k
-decreases-loop-k l = l.nu - l.k
+decreases-loop-k g l = l.nu - l.k

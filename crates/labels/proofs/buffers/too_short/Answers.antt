@@ -1,35 +1,21 @@
 -- `labels::buffers::too_short` meets its contract: the first buffer that is too short tells, and else the table.
-use Prim.Native.Nat.{◌≤◌}
-use mathlib.Core.Path.{sym}
-use native.Mathlib.Nat.{mul-le-mul}
-use native.Mathlib.Omega.{arith}
-use Rattle.labels.specs.Inner.Lending.{lent_as}
-use Rattle.labels.proofs.Storing.{users-short, objects-short, table-short}
+use Rattle.std.proofs.Common.{◌<◌, ◌∙◌, ⊎_elim, length, arith}
+use Rattle.std.proofs.lemmas.List.{length-map}
+use borrow.Author.Tests.{lt-ltb, le-ltb}
+use Rattle.labels.proofs.Storing.{too_short-by_length}
+use Rattle.labels.proofs.buffers.too_short.Goals.{then-users-view, else-users-view}
 use Rattle.labels.proofs.buffers.too_short.Goals as goal
 
-pub returns-then-length-view : goal.returns-then-length-view
-returns-then-length-view c =
-    let a = c.args in
-    let b = lent_as a.widths a.users.now a.objects.now a.table.now a.wide_users.now a.wide_objects.now a.wide_table.now in
-    λ p v nu no. sym (users-short p b (rw (c.length.ensures, v.users) at c.if-length-view.true))
+pub returns-then-objects-view : goal.returns-then-objects-view
+returns-then-objects-view g c = λ p v nu no.
+    rw (too_short-by_length, ← v.users, ← v.objects, length-map, length-map, length-map)
+    (elim c.if-users-view.branch [
+      | then-users-view w ↦ w.t-7-is ∙ rw (lt-ltb _ _ w.if-users-view.true)
+      | else-users-view w ↦
+          let l : length c.args.objects.now < c.args.view.columns = ⊎_elim (λ a. absurd (omega (arith, a, w.if-users-view.false))) (λ b. b.1) c.if-objects-view.either in
+          w.t-7-is ∙ rw (le-ltb _ _ w.if-users-view.false, lt-ltb _ _ l)
+    ])
 
-pub returns-then-length-view-2 : goal.returns-then-length-view-2
-returns-then-length-view-2 c =
-    let a = c.args in
-    let b = lent_as a.widths a.users.now a.objects.now a.table.now a.wide_users.now a.wide_objects.now a.wide_table.now in
-    λ p v nu no. sym (objects-short p b (rw (c.length-2.ensures, v.objects) at c.if-length-view-2.true))
-
-pub overflow_mul-places : goal.overflow_mul-places
-overflow_mul-places c =
-    let a = c.args.counts in
-    let u : a.users ≤ 4294967295 = omega arith in
-    let o : a.objects ≤ 4294967295 = omega arith in
-    omega (arith, mul-le-mul u o)
-
-pub returns : goal.returns
-returns c =
-    let a = c.args in
-    let b = lent_as a.widths a.users.now a.objects.now a.table.now a.wide_users.now a.wide_objects.now a.wide_table.now in
-    λ p v nu no.
-    rw (c.length-3.ensures, nu, no)
-    (table-short p b (rw (c.length.ensures, v.users) at c.if-length-view.false) (rw (c.length-2.ensures, v.objects) at c.if-length-view-2.false))
+pub returns-else-objects-view : goal.returns-else-objects-view
+returns-else-objects-view g c = λ p v nu no.
+    rw (too_short-by_length, ← v.users, ← v.objects, ← nu, ← no, length-map, length-map, length-map, le-ltb _ _ c.if-objects-view.false.0, le-ltb _ _ c.if-objects-view.false.1)

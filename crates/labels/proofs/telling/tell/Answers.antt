@@ -5,7 +5,6 @@ use mathlib.Core.Path.{◌≡◌}
 use mathlib.Core.Bool.{true, not}
 use native.Mathlib.Nat.{lt_of_lt_of_le}
 use native.Mathlib.Omega.{arith}
-use lib.ListN.{length-replicate}
 use Rattle.policy.specs.Policy.{Policy, sets}
 use Rattle.policy.specs.Value.{policy_of}
 use Rattle.policy.specs.Limits.{most_sets}
@@ -28,13 +27,13 @@ column-below : {from : Rows} {n r : ℕ} (f g : ℕ → ℕ) → from.user ≡ t
     → r ≡ first_unlike f g n → (r ≡ n → ⊥) → r < most_sets
 column-below f g user p x h q e = lt_of_lt_of_le (unlike-below f g _ _ q e) (few user p x h)
 
-pub put-requires : goal.put-requires
-put-requires c =
-    let h = c.requires in ((h.1.0, h.1.1, rw h.0 (omega (arith, h.1.2))), h.2, length-replicate {A = ℕ} most_sets 0)
+pub put_row-requires : goal.put_row-requires
+put_row-requires c =
+    let h = c.requires in ((h.1.0, h.1.1, rw h.0 (omega (arith, h.1.2))), h.2)
 
-pub put-requires-2 : goal.put-requires-2
-put-requires-2 c =
-    let h = c.requires in ((h.1.0, h.1.1, rw h.0 (omega (arith, h.1.2))), h.3, length-replicate {A = ℕ} most_sets 0)
+pub put_row-requires-2 : goal.put_row-requires-2
+put_row-requires-2 c =
+    let h = c.requires in ((h.1.0, h.1.1, rw h.0 (omega (arith, h.1.2))), h.3)
 
 pub first_unlike-o-requires : goal.first_unlike-o-requires
 first_unlike-o-requires c = let h = c.requires in few h.0 h.1.0 h.1.1 h.1.2
@@ -42,8 +41,8 @@ first_unlike-o-requires c = let h = c.requires in few h.0 h.1.0 h.1.1 h.1.2
 pub returns-then-o-n : goal.returns-then-o-n
 returns-then-o-n c = λ v e s q.
     let h = c.requires.0 in
-    let b : c.args.n ≤ sets (side_at (not c.args.from.user) (policy_of v)) = rw h (omega (arith, q)) in
-    (e, rows-tell_alike (policy_of v) _ _ _ c.put.new.row c.put-2.new.row q (λ o l. rw h at (c.put.ensures.1 (policy_of v) o s b l)) (λ o l. rw h at (c.put-2.ensures.1 (policy_of v) o s b l)) _ c.first_unlike-o.ensures c.if-o-n.true)
+    let b : c.args.n ≤ sets (side_at (not c.args.from.now.user) (policy_of v)) = rw h (omega (arith, q)) in
+    (e, rows-tell_alike (policy_of v) _ _ _ c.put_row.new.row c.put_row-2.new.row q (λ o l. rw h at (c.put_row.ensures (policy_of v) o s b l)) (λ o l. rw h at (c.put_row-2.ensures (policy_of v) o s b l)) _ c.first_unlike-o.ensures c.if-o-n.true)
 
 pub offset_bounds-row-o : goal.offset_bounds-row-o
 offset_bounds-row-o c = let h = c.requires in omega (arith, column-below _ _ h.0 h.1.0 h.1.1 h.1.2 c.first_unlike-o.ensures c.if-o-n.false)
@@ -63,8 +62,8 @@ overflow_cast-result c = let h = c.requires in omega (arith, column-below _ _ h.
 pub returns : goal.returns
 returns c = λ v e s q.
     let h = c.requires.0 in
-    let b : c.args.n ≤ sets (side_at (not c.args.from.user) (policy_of v)) = rw h (omega (arith, q)) in (
+    let b : c.args.n ≤ sets (side_at (not c.args.from.now.user) (policy_of v)) = rw h (omega (arith, q)) in (
       e,
-      rows-tell_apart (policy_of v) _ _ _ c.put.new.row c.put-2.new.row q (λ o l. rw h at (c.put.ensures.1 (policy_of v) o s b l)) (λ o l. rw h at (c.put-2.ensures.1 (policy_of v) o s b l)) _ c.first_unlike-o.ensures
+      rows-tell_apart (policy_of v) _ _ _ c.put_row.new.row c.put_row-2.new.row q (λ o l. rw h at (c.put_row.ensures (policy_of v) o s b l)) (λ o l. rw h at (c.put_row-2.ensures (policy_of v) o s b l)) _ c.first_unlike-o.ensures
           _ c.first_action-action.ensures c.if-o-n.false,
     )

@@ -1,12 +1,11 @@
--- `labels::whole::fill` meets its contract: the places before `start` have the entries of their numbers, and the lanes of
--- the next row of blocks stand for the next numbers.
-use Prim.Native.Nat.{ℕ, ◌-◌, ◌*◌, ◌/◌, ◌%◌, ◌<◌}
+-- `labels::whole::fill` meets its contract: the places before row q of blocks have the entries of their numbers, and the
+-- lanes of that row stand for the next numbers.
+use Prim.Native.Nat.{ℕ, ◌*◌, ◌/◌, ◌%◌, ◌<◌}
 use mathlib.Core.Path.{◌≡◌}
 use lib.ListN.{length, get_or}
 use Rattle.policy.specs.Limits.{most_actions}
 use Rattle.policy.specs.Policy.{Policy, sets as sets_of}
 use Rattle.formula.specs.Truth.{at}
-use Rattle.formula.specs.Inner.Lane.{lanes}
 use Rattle.formula.specs.Inner.Source.{most_blocks, side_vectors}
 use Rattle.labels.specs.Compile.{entry_of}
 use Rattle.labels.specs.Inner.Grid.{grid_places}
@@ -17,11 +16,7 @@ use Rattle.labels.proofs.whole.fill.Given as goal
 abbrev pub numbered : Policy → ℕ → ℕ
 numbered p i = entry_of p (at (i / sets_of p.object) (i % sets_of p.object))
 
-abbrev pub invariant-loop-start : goal.invariant-loop-start
-invariant-loop-start l =
-    (l.start ≡ l.q * l.n * lanes) × (length l.grid ≡ grid_places) × (length l.users ≡ side_vectors)
-    × (length l.granted ≡ most_actions * most_blocks)
-    × ((p : Policy) → RowsOf p l.from → l.places ≡ sets_of p.user * sets_of p.object → (i : ℕ) → i < l.start → i < l.places → get_or l.grid i 0 ≡ numbered p i)
-
-abbrev pub decreases-loop-start : goal.decreases-loop-start
-decreases-loop-start l = l.places - l.start
+abbrev pub invariant-loop-q : goal.invariant-loop-q
+invariant-loop-q l =
+    (length l.grid ≡ grid_places) × (length l.users ≡ side_vectors) × (length l.granted ≡ most_actions * most_blocks)
+    × ((p : Policy) → RowsOf p l.from → l.places ≡ sets_of p.user * sets_of p.object → (i : ℕ) → i < l.q * l.row → i < l.places → get_or l.grid i 0 ≡ numbered p i)

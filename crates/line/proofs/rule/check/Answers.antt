@@ -2,11 +2,11 @@
 use Rattle.line.proofs.Rules.{rule-range, rule-level, rule-formula}
 use Rattle.line.proofs.rule.check.Goals as goal
 
-pub returns-then-least-rule : goal.returns-then-least-rule
-returns-then-least-rule c = search rule-formula
+pub returns-then-not-in_range : goal.returns-then-not-in_range
+returns-then-not-in_range c = search rule-range
 
-pub returns-then-in_range : goal.returns-then-in_range
-returns-then-in_range c = search rule-level
+pub returns-then-rule-least : goal.returns-then-rule-least
+returns-then-rule-least c = search rule-level
 
 pub returns : goal.returns
-returns c = search rule-range
+returns c = search rule-formula

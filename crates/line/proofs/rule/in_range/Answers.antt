@@ -5,5 +5,5 @@ use Rattle.line.proofs.rule.in_range.Goals as goal
 pub returns-then-rule-actions : goal.returns-then-rule-actions
 returns-then-rule-actions c = search range-words
 
-pub returns : goal.returns
-returns c = search range-action
+pub returns-else-rule-actions : goal.returns-else-rule-actions
+returns-else-rule-actions c = search range-action

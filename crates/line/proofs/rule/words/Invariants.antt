@@ -4,8 +4,8 @@ use lib.ListN.{length}
 use Rattle.line.proofs.Rules.{Sofar}
 use Rattle.line.proofs.rule.words.Given as goal
 
-abbrev pub invariant-loop-w : goal.invariant-loop-w
-invariant-loop-w l = Sofar l.line l.from l.words l.n l.at
+abbrev pub invariant-loop-word : goal.invariant-loop-word
+invariant-loop-word l = Sofar l.line l.from l.words l.count l.at
 
-abbrev pub decreases-loop-w : goal.decreases-loop-w
-decreases-loop-w l = length l.line - l.at
+abbrev pub decreases-loop-word : goal.decreases-loop-word
+decreases-loop-word l = length l.line - l.at

@@ -1,44 +1,16 @@
--- `reader::pairs::read` meets its contract: what is held stands for the pairs read, and each line leaves less.
-use Rattle.basis.specs.Lists.{padded}
-use Rattle.policy.specs.Value.{pairs_value}
-use Rattle.reader.proofs.Cursors.{ahead_there, next-less, stop_less}
-use Rattle.reader.proofs.LimitedLines.{none-held, held-read, held-room, held_more, held_out}
-use borrow.Author.Rules.{rules}
+-- `reader::pairs::read` meets its contract: what is read stands in a list that was blank.
+use Rattle.reader.proofs.RisingLines.{limited-roomy}
+use Rattle.std.proofs.lemmas.Result.{err_from_is_err_and}
+use Rattle.reader.proofs.Whole.{pair-places, pairs-from}
 use Rattle.reader.proofs.pairs.read.Goals as goal
 
-pub loop-last-init : goal.loop-last-init
-unfolding padded
-loop-last-init c = none-held _ _ _ _ _ c.requires
-
-pub loop-last-smaller-in-Is : goal.loop-last-smaller-in-Is
-loop-last-smaller-in-Is c = search stop_less
-
-pub loop-last-preserved-in-Is : goal.loop-last-preserved-in-Is
-loop-last-preserved-in-Is c =
-    held_out c.loop-last.invariant _ c.fits-fits.ensures _ c.rises-rising.ensures _ c.fault-f.ensures _ c.is_at.ensures c.loop-last-test.true _
-    _ c.in-Is.is c.stop-c.ensures
-
-pub bounds-entries-count : goal.bounds-entries-count
-bounds-entries-count c =
-    held-room c.loop-last.invariant _ c.fits-fits.ensures _ c.rises-rising.ensures _ c.fault-f.ensures c.in_default.is
-
-pub offset_bounds-entries-count : goal.offset_bounds-entries-count
-offset_bounds-entries-count c = let h = bounds-entries-count c in search rules
-
-pub overflow_add-count : goal.overflow_add-count
-overflow_add-count c = let h = bounds-entries-count c in search rules
-
-pub next-c-requires : goal.next-c-requires
-next-c-requires c = (c.loop-last.invariant.lines.stands, search ahead_there)
-
-pub loop-last-smaller : goal.loop-last-smaller
-loop-last-smaller c = search next-less
-
-pub loop-last-preserved : goal.loop-last-preserved
-loop-last-preserved c =
-    held_more c.loop-last.invariant _ c.fits-fits.ensures _ c.rises-rising.ensures _ c.fault-f.ensures _ c.is_at.ensures c.loop-last-test.true _
-    c.in_default.is c.next-c.ensures
+pub returns-in_err-count : goal.returns-in_err-count
+returns-in_err-count c =
+    let p = err_from_is_err_and c.from_residual.result c.from_residual.ensures.1 in
+    let places = pair-places c.args.list.now c.requires.1 in
+    rw (p.1, p.2) (c.in_err-count.ensures (limited-roomy _ _ _ _ _ places))
 
 pub returns : goal.returns
-unfolding pairs_value
-returns c = let h = c.loop-last.invariant in record { list = h.items; pairs = rw (h.counted, h.stored); lines = held-read h _ c.is_at.ensures c.loop-last-test.false }
+returns c =
+    let places = pair-places c.args.list.now c.requires.1 in
+    pairs-from _ c.requires.1 (c.in_ok-count.ensures (limited-roomy _ _ _ _ _ places))

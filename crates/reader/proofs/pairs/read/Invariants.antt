@@ -1,13 +1,9 @@
--- `reader::pairs::read` meets its contract: what is held stands for the pairs read, and each line leaves less.
-use Rattle.text.specs.declared.kind.Kind.TheVariants as kind
-use Rattle.policy.specs.Policy.{pair}
-use Rattle.reader.specs.Inner.Lists.{pairs_by}
-use Rattle.reader.proofs.Cursors.{to_read}
-use Rattle.reader.proofs.LimitedLines.{Held}
+-- `reader::pairs::read` meets its contract: there is room up to the limit.
+use Rattle.std.specs.Prelude.{length, ltb}
+use Rattle.policy.specs.Limits.{most_pairs}
+use Rattle.policy.specs.declared.refusal.Refusal.TheVariants.{TooManyPairs}
+use Rattle.reader.specs.Inner.Lists.{room_by}
 use Rattle.reader.proofs.pairs.read.Given as goal
 
-abbrev pub invariant-loop-last : goal.invariant-loop-last
-invariant-loop-last l = Held l.text kind.Pair (pairs_by l.actions l.users l.objects) (pair 0 0 0) l.initial.c l.count l.entries l.last l.c
-
-abbrev pub decreases-loop-last : goal.decreases-loop-last
-decreases-loop-last l = to_read l.text l.c
+abbrev pub ghost-read : goal.ghost-read
+ghost-read a = λ xs. room_by (ltb (length xs) most_pairs) TooManyPairs

@@ -1,10 +1,11 @@
 -- `reader::rules::read` meets its contract: what is held stands for the rules read, and each line leaves less.
-use Rattle.reader.proofs.Cursors.{to_read}
+use Prim.Native.Nat.{◌-◌}
+use lib.ListN.{length}
 use Rattle.reader.proofs.RuleLines.{RulesHeld}
 use Rattle.reader.proofs.rules.read.Given as goal
 
-abbrev pub invariant-loop-user : goal.invariant-loop-user
-invariant-loop-user l = RulesHeld l.text l.form l.user l.object l.initial.c (record { count = l.count; entries = l.entries }) l.least l.c
+abbrev pub invariant-loop-action : goal.invariant-loop-action
+invariant-loop-action l = RulesHeld l.text l.form l.shapes l.fn.cursor l.list l.least l.c
 
-abbrev pub decreases-loop-user : goal.decreases-loop-user
-decreases-loop-user l = to_read l.text l.c
+abbrev pub decreases-loop-action : goal.decreases-loop-action
+decreases-loop-action l = length l.text - l.c.at

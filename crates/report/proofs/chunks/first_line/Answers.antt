@@ -11,33 +11,31 @@ use Rattle.report.proofs.chunks.first_line.Goals as goal
 
 pub count_labels-counts-requires : goal.count_labels-counts-requires
 count_labels-counts-requires c =
-    read-valid c.requires.0 c.requires.1 c.in-Accepted.is
+    read-valid c.requires.0 c.in-Ok.policy (rw c.in-Ok.is at c.requires.1)
 
 pub labels_line-to-requires : goal.labels_line-to-requires
 labels_line-to-requires c = omega (arith, c.blank-bytes.ensures)
 
-pub overflow_cast-line : goal.overflow_cast-line
-overflow_cast-line c =
-    omega (arith, read-line c.requires.0 c.requires.1 c.in-Refused.is)
+pub overflow_cast-rejection : goal.overflow_cast-rejection
+overflow_cast-rejection c =
+    omega (arith, read-line c.requires.0 c.in-Err.rejection (rw c.in-Err.is at c.requires.1))
 
 pub refusal_line-to-requires : goal.refusal_line-to-requires
 refusal_line-to-requires c = omega (arith, c.blank-bytes.ensures)
 
-pub returns-in-Accepted : goal.returns-in-Accepted
-returns-in-Accepted c =
+pub returns-in-Ok : goal.returns-in-Ok
+returns-in-Ok c =
     let y = c.labels_line-to.ensures in
-    let n = c.count_labels-counts.ensures in
-    let v = c.in-Accepted.is in (
+    let n = c.count_labels-counts.ensures in (
       held_fits y c.blank-bytes.ensures,
-      λ t x. held-put y ∙ ap ended (accepted-first t x v n.0 n.1),
+      λ t x. held-put y ∙ ap ended (accepted-first t c.in-Ok.policy (rw c.in-Ok.is at x) n.0 n.1),
     )
 
-pub returns-in-Refused : goal.returns-in-Refused
-returns-in-Refused c =
-    let y = c.refusal_line-to.ensures in
-    let v = c.in-Refused.is in (
+pub returns-in-Err : goal.returns-in-Err
+returns-in-Err c =
+    let y = c.refusal_line-to.ensures in (
       held_fits y c.blank-bytes.ensures,
       λ t x.
           held-put y
-          ∙ ap ended (ap (λ (k : ℕ). refusal_line k c.in-Refused.line) c.number_of.ensures ∙ refused-first (read_text t) x v),
+          ∙ ap ended (ap (λ (k : ℕ). refusal_line k c.in-Err.rejection.line) c.from-number.ensures ∙ refused-first (read_text t) c.in-Err.rejection (rw c.in-Err.is at x)),
     )

@@ -2,16 +2,15 @@
 -- what remains.
 use Prim.Native.Nat.{◌≤◌, ◌<◌}
 use Rattle.policy.specs.Policy.{Policy}
-use Rattle.report.specs.Inner.Cursor.{Standing, Handed, remaining}
-use Rattle.report.proofs.Handing.{up_to}
+use Rattle.report.specs.Inner.Cursor.{Standing, Handed, up_to, remaining}
 use Rattle.report.proofs.chunks.next.Given as goal
 
-abbrev pub invariant-loop-at : goal.invariant-loop-at
-invariant-loop-at l =
-    ((p : Policy) → Standing p l.initial.c → Handed p l.initial.c l.initial.buffer l.buffer (up_to l.at l.c))
-    × ((p : Policy) × Standing p l.initial.c)
-    × (remaining l.c ≤ remaining l.initial.c)
-    × (0 < l.at → remaining l.c < remaining l.initial.c)
+abbrev pub invariant-loop-count : goal.invariant-loop-count
+invariant-loop-count l =
+    ((p : Policy) → Standing p l.initial.next → Handed p l.initial.next l.initial.buffer l.buffer (up_to l.count l.next))
+    × ((p : Policy) × Standing p l.initial.next)
+    × (remaining l.next ≤ remaining l.initial.next)
+    × (0 < l.count → remaining l.next < remaining l.initial.next)
 
-abbrev pub decreases-loop-at : goal.decreases-loop-at
-decreases-loop-at l = remaining l.c
+abbrev pub decreases-loop-count : goal.decreases-loop-count
+decreases-loop-count l = remaining l.next

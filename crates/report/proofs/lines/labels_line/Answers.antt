@@ -2,11 +2,11 @@
 use borrow.Author.Rules.{rules}
 use lib.Dec.{lit≤}
 use Rattle.basis.specs.Bytes.{bytes}
-use Rattle.report.proofs.Short.{two_is, two-room}
+use Rattle.report.proofs.Short.{line-is, two-room}
 use Rattle.report.proofs.lines.labels_line.Goals as goal
 
-pub put_two-requires : goal.put_two-requires
-put_two-requires c = two-room (bytes "labels") _ _ (lit≤ tt) (search rules) (search rules) c.requires
+pub put-requires : goal.put-requires
+put-requires c = (search rules, two-room (bytes "labels") _ _ (lit≤ tt) (search rules) (search rules) c.requires)
 
 pub returns : goal.returns
-returns c = rw two_is at c.put_two.ensures
+returns c = rw line-is at c.put.ensures

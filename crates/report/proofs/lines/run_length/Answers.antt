@@ -21,5 +21,4 @@ returns c =
     let l : a.t % 2 ^ a.values < 2 ^ a.values = mod-lt a.t (pow_pos a.values) in
     let m : a.x % lanes < lanes = mod-lt a.x (lit< tt) in
     let o = c.object_set.ensures in
-    let r = c.least.ensures in
-    (r.2 (omega (arith, e, l, o)) (omega (arith, m)), omega (arith, r.0, e, l, o), omega (arith, r.1, m))
+    (omega (arith, e, l, o, m), omega (arith, e, l, o), omega (arith, m))

@@ -34,17 +34,17 @@ shape_of-buf-then-count-next c = put-long c.loop-rest.invariant.0.put
 pub returns-then-count-next : goal.returns-then-count-next
 returns-then-count-next c = going_none c.loop-rest.invariant.0 (λ k h l. (turn _ _ c.loop-rest.rest c.loop-rest.k c.loop-rest.invariant.1 c.loop-rest-test.true).next.passed k h (omega (arith, c.if-count-next.true)))
 
-pub put_start-end-requires : goal.put_start-end-requires
-put_start-end-requires c = (c.requires.0.least, omega (arith, c.requires.0.most, c.requires.0.long), head-room _ _ c.requires.0.most (omega (arith, c.requires.0.most, c.requires.0.long)) (omega (arith, c.if-buf-at-lt-ROOM.false)))
+pub put-end-requires : goal.put-end-requires
+put-end-requires c = let h = c.args.head.now in head-room h.text h.count h.most (omega (arith, h.most, h.long)) (omega (arith, c.if-buf-at-lt-ROOM.false))
 
 pub overflow_cast-next-in-loop-rest : goal.overflow_cast-next-in-loop-rest
-overflow_cast-next-in-loop-rest c = omega (arith, c.if-count-next.false, c.requires.3)
+overflow_cast-next-in-loop-rest c = omega (arith, c.if-count-next.false, c.requires.0)
 
 pub overflow_add-object : goal.overflow_add-object
-overflow_add-object c = omega (arith, c.if-count-next.false, c.requires.4)
+overflow_add-object c = omega (arith, c.if-count-next.false, c.requires.1)
 
-pub put_end-at-requires : goal.put_end-at-requires
-put_end-at-requires c = (omega (arith, c.requires.1), c.requires.2, tail_room _ _ c.requires.0.most (omega (arith, c.requires.0.most, c.requires.0.long)) (omega (arith, c.if-buf-at-lt-ROOM.false)) _ (omega (arith, c.if-count-next.false, c.requires.4)) c.put_start-end.ensures)
+pub put-at-requires : goal.put-at-requires
+put-at-requires c = let h = c.args.head.now in tail_room h.text h.count h.most (omega (arith, h.most, h.long)) (omega (arith, c.if-buf-at-lt-ROOM.false)) _ (omega (arith, c.if-count-next.false, c.requires.1)) c.put-end.ensures
 
 pub overflow_cast-rest : goal.overflow_cast-rest
 overflow_cast-rest c = omega (arith, (turn _ _ c.loop-rest.rest c.loop-rest.k c.loop-rest.invariant.1 c.loop-rest-test.true).lane)
@@ -59,10 +59,10 @@ pub loop-rest-smaller : goal.loop-rest-smaller
 loop-rest-smaller c = omega (arith, (turn _ _ c.loop-rest.rest c.loop-rest.k c.loop-rest.invariant.1 c.loop-rest-test.true).within)
 
 pub loop-rest-preserved : goal.loop-rest-preserved
-loop-rest-preserved c = (going_line c.loop-rest.invariant.0 (turn _ _ c.loop-rest.rest c.loop-rest.k c.loop-rest.invariant.1 c.loop-rest-test.true).next c.if-count-next.false (put_next c.put_start-end.ensures c.put_end-at.ensures), (turn _ _ c.loop-rest.rest c.loop-rest.k c.loop-rest.invariant.1 c.loop-rest-test.true).left)
+loop-rest-preserved c = (going_line c.loop-rest.invariant.0 (turn _ _ c.loop-rest.rest c.loop-rest.k c.loop-rest.invariant.1 c.loop-rest-test.true).next c.if-count-next.false (put_next c.put-end.ensures c.put-at.ensures), (turn _ _ c.loop-rest.rest c.loop-rest.k c.loop-rest.invariant.1 c.loop-rest-test.true).left)
 
 pub shape_of-buf : goal.shape_of-buf
 shape_of-buf c = put-long c.loop-rest.invariant.0.put
 
 pub returns : goal.returns
-returns c = going_none c.loop-rest.invariant.0 (λ k h l. passed-word {words = c.args.w ∷ []} {b = 0} (record { low = omega arith; passed = λ n i j. absurd (omega arith); left = c.loop-rest.invariant.1 }) c.loop-rest-test.false k h (omega (arith, l, c.requires.3)))
+returns c = going_none c.loop-rest.invariant.0 (λ k h l. passed-word {words = c.args.w ∷ []} {b = 0} (record { low = omega arith; passed = λ n i j. absurd (omega arith); left = c.loop-rest.invariant.1 }) c.loop-rest-test.false k h (omega (arith, l, c.requires.0)))

@@ -12,7 +12,7 @@ use Rattle.report.proofs.runs.run_lines.Given as goal
 
 abbrev pub invariant-loop-rest : goal.invariant-loop-rest
 invariant-loop-rest l =
-    Going (λ i. take l.length l.start ++ end_line (l.object + i)) (marked (l.w ∷ [])) l.count 0 l.initial.buf l.buf l.at l.k × Left (marked (l.w ∷ [])) lanes l.rest l.k
+    Going (λ i. take l.head.count l.head.text ++ end_line (l.object + i)) (marked (l.w ∷ [])) l.count 0 l.initial.buf l.buf l.at l.k × Left (marked (l.w ∷ [])) lanes l.rest l.k
 
 abbrev pub decreases-loop-rest : goal.decreases-loop-rest
 decreases-loop-rest l = lanes - l.k

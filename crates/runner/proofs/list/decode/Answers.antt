@@ -1,8 +1,17 @@
 -- `runner::list::decode` meets its contract, kind by kind.
 use native.Mathlib.Omega.{arith}
-use borrow.Author.Tests.{eq-eqb, ne_eqb}
-use Rattle.runner.specs.Calls.{call_in}
+use borrow.Author.Tests.{ne_eqb}
+use Rattle.std.proofs.Common.{◌≡◌, ℕ, Bool, true, false, cond, eqb, Some, None, refl}
+use Rattle.std.specs.Bool.{then_some}
+use Rattle.board.specs.Machine.{closes}
+use Rattle.board.specs.declared.Call.TheVariants.{Close}
+use Rattle.runner.specs.Calls.{item_of, call_in}
 use Rattle.runner.proofs.list.decode.Goals as goal
+
+-- close has 0 for the third argument, or is no call
+closed_by : (t : Bool) (a b : ℕ) → item_of (then_some t (Close a b)) ≡ cond t (Some (closes a b)) None
+closed_by true a b = refl
+closed_by false a b = refl
 
 pub returns-in-0 : goal.returns-in-0
 unfolding call_in
@@ -16,13 +25,9 @@ pub returns-in-2 : goal.returns-in-2
 unfolding call_in
 returns-in-2 c = rw c.in-2.is
 
-pub returns-then-c-eq0 : goal.returns-then-c-eq0
+pub returns-in-3 : goal.returns-in-3
 unfolding call_in
-returns-then-c-eq0 c = rw (c.in-3.is, eq-eqb c.args.c 0 c.if-c-eq0.true)
-
-pub returns-else-c-eq0 : goal.returns-else-c-eq0
-unfolding call_in
-returns-else-c-eq0 c = rw (c.in-3.is, ne_eqb c.args.c 0 c.if-c-eq0.false)
+returns-in-3 c = rw (c.in-3.is, c.then_some.ensures) (closed_by (eqb c.args.c 0) c.args.a c.args.b)
 
 pub returns-in-4 : goal.returns-in-4
 unfolding call_in

@@ -7,13 +7,13 @@ pub put_digits-at-requires : goal.put_digits-at-requires
 unfolding end_line
 put_digits-at-requires c = room-first _ _ c.requires
 
-pub put_feed-requires : goal.put_feed-requires
+pub put_byte-requires : goal.put_byte-requires
 unfolding end_line
-put_feed-requires c = room_next c.requires c.put_digits-at.ensures
+put_byte-requires c = room_next c.requires c.put_digits-at.ensures
 
 pub returns : goal.returns
 unfolding end_line
-returns c = search put_next
+returns c = put_next c.put_digits-at.ensures c.put_byte.ensures
 
 pub shape_of-buf : goal.shape_of-buf
 shape_of-buf c = put-long (returns c)

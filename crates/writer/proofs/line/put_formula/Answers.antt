@@ -1,27 +1,24 @@
--- `writer::line::put_formula` meets its contract: the action, the words and the line feed stand after the word.
+-- `writer::line::put_formula` meets its contract: the words and the line feed stand after the action.
+use borrow.Author.Rules.{rules}
 use Rattle.writer.specs.Inner.Put.{formula_line}
 use Rattle.writer.proofs.Putting.{put-long, room-first, room_next, put_next}
 use Rattle.writer.proofs.line.put_formula.Goals as goal
 
-pub put-at-requires : goal.put-at-requires
+pub put_fields-at-requires : goal.put_fields-at-requires
 unfolding formula_line
-put-at-requires c = room-first _ _ c.requires.2
+put_fields-at-requires c = (search rules, room-first _ _ c.requires.room)
 
-pub put-at-requires-2 : goal.put-at-requires-2
+pub put_words-at-requires-clause-room : goal.put_words-at-requires-clause-room
 unfolding formula_line
-put-at-requires-2 c = room-first _ _ (room_next c.requires.2 c.put-at.ensures)
+put_words-at-requires-clause-room c = room-first _ _ (room_next c.requires.room c.put_fields-at.ensures)
 
-pub put_words-at-requires : goal.put_words-at-requires
+pub put_byte-requires : goal.put_byte-requires
 unfolding formula_line
-put_words-at-requires c = (c.requires.0, c.requires.1, room-first _ _ (room_next (room_next c.requires.2 c.put-at.ensures) c.put-at-2.ensures))
-
-pub put_feed-requires : goal.put_feed-requires
-unfolding formula_line
-put_feed-requires c = room_next (room_next (room_next c.requires.2 c.put-at.ensures) c.put-at-2.ensures) c.put_words-at.ensures
+put_byte-requires c = room_next (room_next c.requires.room c.put_fields-at.ensures) c.put_words-at.ensures
 
 pub returns : goal.returns
 unfolding formula_line
-returns c = search put_next
+returns c = put_next c.put_fields-at.ensures (put_next c.put_words-at.ensures c.put_byte.ensures)
 
 pub shape_of-buf : goal.shape_of-buf
 shape_of-buf c = put-long (returns c)

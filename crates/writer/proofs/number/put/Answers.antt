@@ -4,17 +4,17 @@ use Rattle.writer.specs.Inner.Put.{field, lone}
 use Rattle.writer.proofs.Putting.{put-long, room-first, room_next, put_next}
 use Rattle.writer.proofs.number.put.Goals as goal
 
-pub put_comma-digits-requires : goal.put_comma-digits-requires
+pub put_byte-at-requires : goal.put_byte-at-requires
 unfolding field
-put_comma-digits-requires c = room-first lone (decimal _) c.requires
+put_byte-at-requires c = room-first lone (decimal _) c.requires
 
 pub put_digits-requires : goal.put_digits-requires
 unfolding field
-put_digits-requires c = room_next {s = lone} c.requires c.put_comma-digits.ensures
+put_digits-requires c = room_next {s = lone} c.requires c.put_byte-at.ensures
 
 pub returns : goal.returns
 unfolding field
-returns c = put_next {s = lone} c.put_comma-digits.ensures c.put_digits.ensures
+returns c = put_next {s = lone} c.put_byte-at.ensures c.put_digits.ensures
 
 pub shape_of-buf : goal.shape_of-buf
 shape_of-buf c = put-long (returns c)

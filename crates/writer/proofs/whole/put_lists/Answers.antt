@@ -1,28 +1,31 @@
 -- `writer::whole::put_lists` meets its contract: each list stands after those before it, and the end line after them
 -- all.
-use Rattle.writer.proofs.Putting.{put-long, room-first, room_next, put_next}
+use borrow.Author.Rules.{rules}
+use Rattle.writer.specs.Inner.Put.{bare_line, numbers_line, each}
+use Rattle.writer.proofs.Putting.{all_always, put-long, room_next, put_next, part_room, part-put}
 use Rattle.writer.proofs.whole.put_lists.Goals as goal
 
-pub put_entries-at-requires : goal.put_entries-at-requires
-put_entries-at-requires c = (c.requires.0.entries, room-first _ _ c.requires.5)
+pub put_each-at-requires-clause-can : goal.put_each-at-requires-clause-can
+put_each-at-requires-clause-can c = all_always _
 
-pub put_entries-at-requires-2 : goal.put_entries-at-requires-2
-put_entries-at-requires-2 c = (c.requires.1.entries, room-first _ _ (room_next c.requires.5 c.put_entries-at.ensures))
+pub put_each-at-requires-2-clause-can : goal.put_each-at-requires-2-clause-can
+put_each-at-requires-2-clause-can c = all_always _
 
-pub put_conflicts-at-requires : goal.put_conflicts-at-requires
-put_conflicts-at-requires c = (c.requires.2.entries, room-first _ _ (room_next (room_next c.requires.5 c.put_entries-at.ensures) c.put_entries-at-2.ensures))
+pub put_each-at-requires-3-clause-can : goal.put_each-at-requires-3-clause-can
+put_each-at-requires-3-clause-can c = all_always _
 
-pub put_rules-at-requires : goal.put_rules-at-requires
-put_rules-at-requires c = (c.requires.3.entries, c.requires.3.words, room-first _ _ (room_next (room_next (room_next c.requires.5 c.put_entries-at.ensures) c.put_entries-at-2.ensures) c.put_conflicts-at.ensures))
+pub put_each-at-requires-5-clause-can : goal.put_each-at-requires-5-clause-can
+put_each-at-requires-5-clause-can c = all_always _
 
-pub put_pairs-at-requires : goal.put_pairs-at-requires
-put_pairs-at-requires c = (c.requires.4.entries, room-first _ _ (room_next (room_next (room_next (room_next c.requires.5 c.put_entries-at.ensures) c.put_entries-at-2.ensures) c.put_conflicts-at.ensures) c.put_rules-at.ensures))
-
-pub put_bare-requires : goal.put_bare-requires
-put_bare-requires c = room_next (room_next (room_next (room_next (room_next c.requires.5 c.put_entries-at.ensures) c.put_entries-at-2.ensures) c.put_conflicts-at.ensures) c.put_rules-at.ensures) c.put_pairs-at.ensures
+pub put-requires : goal.put-requires
+unfolding bare_line numbers_line each
+put-requires c = (search rules, part_room (room_next (room_next (room_next (room_next (room_next c.requires.room c.put_each-at.ensures) c.put_each-at-2.ensures) c.put_each-at-3.ensures) c.put_each-at-4.ensures) c.put_each-at-5.ensures))
 
 pub returns : goal.returns
-returns c = put_next c.put_entries-at.ensures (put_next c.put_entries-at-2.ensures (put_next c.put_conflicts-at.ensures (put_next c.put_rules-at.ensures (put_next c.put_pairs-at.ensures c.put_bare.ensures))))
+unfolding bare_line numbers_line each
+returns c =
+    let r = (room_next (room_next (room_next (room_next (room_next c.requires.room c.put_each-at.ensures) c.put_each-at-2.ensures) c.put_each-at-3.ensures) c.put_each-at-4.ensures) c.put_each-at-5.ensures) in
+    put_next c.put_each-at.ensures (put_next c.put_each-at-2.ensures (put_next c.put_each-at-3.ensures (put_next c.put_each-at-4.ensures (put_next c.put_each-at-5.ensures (part-put r c.put.ensures)))))
 
 pub shape_of-buf : goal.shape_of-buf
 shape_of-buf c = put-long (returns c)

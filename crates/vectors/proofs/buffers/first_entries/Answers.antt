@@ -1,6 +1,0 @@
--- `vectors::buffers::first_entries` is safe: the buffer has the entries that are lent.
-use Rattle.std.proofs.Common.{sym, length-take-le, rules}
-use Rattle.vectors.proofs.buffers.first_entries.Goals as goal
-
-pub slice_bounds-result-end : goal.slice_bounds-result-end
-slice_bounds-result-end c = sym (length-take-le _ _ (search rules))

@@ -1,6 +1,0 @@
--- `writer::bytes::put_feed` meets its contract.
-use Rattle.writer.proofs.Putting.{put_byte}
-use Rattle.writer.proofs.bytes.put_feed.Goals as goal
-
-pub returns : goal.returns
-returns c = search put_byte
