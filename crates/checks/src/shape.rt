@@ -2,7 +2,7 @@
 ghost use Rattle.std.specs.Prelude.{◌≡◌, ◌≤◌, ◌<◌, ◌^◌, take};
 ghost use Rattle.basis.specs.Lists.{sum};
 ghost use Rattle.policy.specs.Limits.{most_values};
-ghost use Rattle.policy.specs.Checks.{width_fits, pair_fits};
+ghost use Rattle.policy.specs.Checks.{width_fits, entry_fits, conflict_fits, pair_fits};
 ghost use Rattle.policy.specs.Value.{width_places};
 
 use policy::limits::MOST_TOGETHER;
@@ -33,6 +33,22 @@ pub fn width_fits(most: u32, total: u32, w: u32) -> bool
     1 <= w && w <= most && total <= most - w
 }
 
+// Check 6 of a user or an object, of which there are so many numbers, on a side of so many values.
+pub fn entry_fits(numbers: u32, values: u32, e: &Entry) -> bool
+    requires { values ≤ most_values }
+    ensures { result ≡ entry_fits numbers values e.now.number e.now.set }
+{
+    e.number < numbers && e.set <= crate::mask::first(values)
+}
+
+// Check 6 of a conflict, where there are so many user values.
+pub fn conflict_fits(values: u32, x: &Conflict) -> bool
+    requires { values ≤ most_values }
+    ensures { result ≡ conflict_fits values x.now }
+{
+    x.set <= crate::mask::first(values) && x.most <= MOST_TOGETHER
+}
+
 // Check 6 of a pair, where there are so many actions, user values and object values.
 pub fn pair_fits(actions: u32, users: u32, objects: u32, x: &Pair) -> bool
     ensures { result ≡ pair_fits actions users objects x.now }
@@ -43,10 +59,10 @@ pub fn pair_fits(actions: u32, users: u32, objects: u32, x: &Pair) -> bool
 impl Shape {
     ghost use Rattle.std.specs.Prelude.{get_or};
     ghost use Rattle.policy.specs.Policy.{attribute_of};
-    ghost use Rattle.policy.specs.Checks.{direct_fits, entry_fits, conflict_fits};
+    ghost use Rattle.policy.specs.Checks.{direct_fits};
     ghost use Rattle.checks.specs.Inner.{sizes_in};
 
-    // The shape of a side with these widths. A caller that has their sum writes the fields.
+    // The shape of a side with these widths.
     pub fn of(widths: [u32; WIDTH_PLACES], attributes: usize) -> Shape
         requires { (attributes ≤ width_places) × (sum (take attributes widths) < 2 ^ 32) }
         ensures { (result.attributes ≡ attributes) × (result.widths ≡ widths) × (result.total ≡ sum (take attributes widths)) }
@@ -100,7 +116,7 @@ impl Shape {
         requires { self.now.total ≤ most_values }
         ensures { result ≡ entry_fits numbers self.now.total e.now.number e.now.set }
     {
-        e.number < numbers && e.set <= crate::mask::first(self.total)
+        entry_fits(numbers, self.total, e)
     }
 
     // Check 6 of a conflict, on the shape of the user side.
@@ -108,7 +124,7 @@ impl Shape {
         requires { self.now.total ≤ most_values }
         ensures { result ≡ conflict_fits self.now.total x.now }
     {
-        x.set <= crate::mask::first(self.total) && x.most <= MOST_TOGETHER
+        conflict_fits(self.total, x)
     }
 }
 

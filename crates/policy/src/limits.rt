@@ -60,22 +60,25 @@ pub struct Widths {
 }
 
 // The stored widths that calls are made for.
-const WIDTHS_8_8: Widths = Widths { label: 8, entry: 8 };
+pub const WIDTHS_8_8: Widths = Widths { label: 8, entry: 8 };
 
-const WIDTHS_8_16: Widths = Widths {
+pub const WIDTHS_8_16: Widths = Widths {
     label: 8,
     entry: 16,
 };
 
-const WIDTHS_16_16: Widths = Widths {
+pub const WIDTHS_16_16: Widths = Widths {
     label: 16,
     entry: 16,
 };
 
-// The stored widths of tuples.
-const TUPLE_16: u32 = 16;
+// The width of what is stored in a byte.
+pub const BYTE: u32 = 8;
 
-const TUPLE_32: u32 = 32;
+// The stored widths of tuples.
+pub const TUPLE_16: u32 = 16;
+
+pub const TUPLE_32: u32 = 32;
 
 pub fn is_form(form: u32) -> bool
     ensures { result ≡ limits.is_form form }

@@ -5,14 +5,14 @@ use mathlib.Core.Bool.{Bool, true, false}
 use mathlib.Core.List.{List, [], ◌∷◌, ◌++◌}
 use native.Mathlib.Omega.{arith}
 use Rattle.std.specs.Prelude.{Some}
-use lib.ListN.{length, set, drop}
+use lib.ListN.{length, set, take, drop}
 use Rattle.text.specs.Parts.{lines}
 use Rattle.policy.specs.Policy.{Policy}
 use Rattle.policy.specs.Read.{read_lines}
 use Rattle.policy.specs.declared.value.Rejection.{Rejection}
 use Rattle.checks.specs.declared.shape.Shape.{Shape}
 use Rattle.basis.specs.Lists.{sum, padded}
-use Rattle.basis.proofs.Padded.{padded-more}
+use Rattle.basis.proofs.Padded.{take-padded, padded-more}
 use Rattle.basis.proofs.Snoc.{length-snoc, sum-snoc}
 use Rattle.text.specs.Kind.{place_of}
 use Rattle.text.specs.declared.kind.Kind.{Kind}
@@ -42,11 +42,14 @@ no_widths t k most c s =
     record { widths = []; stored = refl; count = refl; total = refl; few = omega arith; small = omega arith; lines = none_read t k (TestedBy k (width_test most)) c s }
 
 module _ {t : List ℕ} {k : Kind} {most : ℕ} {c : Cursor} {ws : List ℕ} {n u : ℕ} {d : Cursor} (h : WidthsHeld t k most c ws n u d) where
-  pub widths-read : (x : Shape) → x.attributes ≡ n → x.widths ≡ ws → x.total ≡ u → most ≤ most_values → ahead_is d.ahead k ≡ false → WidthsFrom t k most c x d
+  pub widths-sum : sum (take n ws) ≡ u
+  widths-sum = rw (h.stored, h.count, take-padded width_places 0 h.widths) (sym h.total)
+
+  pub widths-read : (x : Shape) → x.attributes ≡ n → x.widths ≡ ws → x.total ≡ sum (take n ws) → most ≤ most_values → ahead_is d.ahead k ≡ false → WidthsFrom t k most c x d
   widths-read x a b e m f =
       record {
         widths = h.widths;
-        shape = record { attributes = a ∙ h.count; widths = b ∙ h.stored; total = e ∙ h.total; small = omega (arith, e, h.total, h.small, m) };
+        shape = record { attributes = a ∙ h.count; widths = b ∙ h.stored; total = e ∙ widths-sum ∙ h.total; small = omega (arith, e, widths-sum, h.total, h.small, m) };
         few = h.few;
         small = h.small;
         lines = all_read t k (TestedBy k (width_test most)) h.lines f;

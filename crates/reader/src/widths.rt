@@ -35,10 +35,5 @@ pub fn read(
         total += w;
         c = c.next(text, kind)?;
     }
-    let shape = Shape {
-        attributes,
-        widths,
-        total,
-    };
-    Ok((shape, c))
+    Ok((Shape::of(widths, attributes), c))
 }

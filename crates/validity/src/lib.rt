@@ -8,6 +8,7 @@ ghost use Rattle.checks.specs.Inner.{both_in};
 ghost use Rattle.validity.specs.Inner.{lists_valid};
 
 mod behind;
+pub mod lent;
 mod list;
 mod side;
 
@@ -29,19 +30,10 @@ fn lists_valid(v: &PolicyValue, shapes: &Shapes) -> bool
         && pairs_valid(actions, shapes, &v.pairs)
 }
 
-// Check 11.
+// Check 11. Not inlined: a caller that hands the value on would keep a copy of it below its deepest call.
+#[inline(never)]
 pub fn check(v: PolicyValue) -> bool
     ensures { result ≡ valid v }
 {
-    if !limits::is_form(v.form) {
-        return false;
-    }
-    let most = limits::values(v.form);
-    let Some(user) = side::shape(most, &v.user) else {
-        return false;
-    };
-    let Some(object) = side::shape(most, &v.object) else {
-        return false;
-    };
-    lists_valid(&v, &Shapes { user, object })
+    lent::check(&v)
 }

@@ -12,7 +12,7 @@ ghost use Rattle.validity.specs.Inner.{register_valid, conflicts_valid, rule_val
 use crate::behind::all_blank;
 use checks::rising::Rising;
 use checks::shape::{Shape, Shapes};
-use policy::value::{Conflicts, Pairs, Register, RuleValue, Rules, WORD_PLACES};
+use policy::value::{Conflicts, Entry, Pairs, Register, RuleValue, Rules, WORD_PLACES};
 
 // Check 11 of a list: no more elements than places, each fits and rises, and nothing is behind the last. What is blank is
 // told by one test and not by `==`, which tests field by field, so that several places can be looked at at once.
@@ -47,12 +47,8 @@ pub fn register_valid(numbers: u32, side: &Shape, x: &Register) -> bool
     requires { side.now.total ≤ most_values }
     ensures { result ≡ register_valid numbers side.now.total x.now }
 {
-    list_valid(
-        &x.entries,
-        x.count,
-        |e| side.entry_fits(numbers, e),
-        |e| (e.number | e.set) == 0,
-    )
+    let fits = |e: &Entry| side.entry_fits(numbers, e);
+    list_valid(&x.entries, x.count, fits, |e| (e.number | e.set) == 0)
 }
 
 pub fn conflicts_valid(user: &Shape, x: &Conflicts) -> bool

@@ -36,11 +36,7 @@ fn measure(most: u32, widths: &[u32; WIDTH_PLACES], n: usize) -> Option<Shape>
     if !all_blank(&widths[n..], |w| *w == 0) {
         return None;
     }
-    Some(Shape {
-        attributes: n,
-        widths: *widths,
-        total,
-    })
+    Some(Shape::of(*widths, n))
 }
 
 // Check 11 of a side: its shape, where it is valid.

@@ -1,9 +1,10 @@
 -- `reader::widths::read` meets its contract: what is held stands for the widths read, and each line leaves less.
+use mathlib.Core.Path.{sym, ◌∙◌}
 use native.Mathlib.Omega.{arith}
 use Rattle.basis.specs.Lists.{padded}
 use Rattle.std.proofs.lemmas.Result.{err_from_is_err_and}
 use Rattle.reader.proofs.Cursors.{ahead_there, next-less}
-use Rattle.reader.proofs.WidthLines.{no_widths, width_room, width-sum, width-more, width-out, width-next}
+use Rattle.reader.proofs.WidthLines.{no_widths, widths-sum, widths-read, width_room, width-sum, width-more, width-out, width-next}
 use borrow.Author.Rules.{rules}
 use Rattle.reader.proofs.widths.read.Goals as goal
 
@@ -45,5 +46,14 @@ pub loop-kind-preserved : goal.loop-kind-preserved
 loop-kind-preserved c =
     width-more c.loop-kind.invariant (ahead_there _ _ _ c.is_at.ensures c.loop-kind-test.true) _ c.width_fits.ensures c.if-not-width_fits.false c.requires.1 _ c.in_ok-c.ensures
 
-pub invariant_of-shape : goal.invariant_of-shape
-invariant_of-shape c = let h = c.loop-kind.invariant in omega (arith, h.count, h.few, h.small, c.requires.1)
+pub of-requires : goal.of-requires
+of-requires c =
+    let h = c.loop-kind.invariant in (
+      omega (arith, h.count, h.few, h.small, c.requires.1),
+      omega (arith, widths-sum h, h.total, h.small, c.requires.1),
+    )
+
+pub returns : goal.returns
+returns c =
+    let s = c.of.ensures in
+    widths-read c.loop-kind.invariant c.of.result s.0 s.1 s.2 c.requires.1 (sym c.is_at.ensures ∙ c.loop-kind-test.false)

@@ -39,17 +39,23 @@ returns-then-not-all_blank c =
     (summed_all c.loop-w.invariant c.loop-w-test.false).0 (c.all_blank.ensures (eqb 0) (λ x r k. search (rules, eqb_swap)))
     ∙ c.if-not-all_blank.true
 
-pub invariant_of-result : goal.invariant_of-result
-invariant_of-result c = omega arith
+pub of-requires : goal.of-requires
+of-requires c =
+    let h = c.loop-w.invariant in (
+      c.if-n-gt-WIDTH_PLACES.false,
+      omega (arith, h.small, (summed_all h c.loop-w-test.false).1),
+    )
 
 pub returns : goal.returns
 returns c =
-    let a = c.args in (
-      widths-left a.most a.widths.now a.n (search rules) c.if-n-lt1.false c.if-n-gt-WIDTH_PLACES.false
-          (summed_all c.loop-w.invariant c.loop-w-test.false).0 (c.all_blank.ensures (eqb 0) (λ x r k. search (rules, eqb_swap)))
+    let a = c.args in
+    let h = c.loop-w.invariant in
+    let e = summed_all h c.loop-w-test.false in
+    let s = c.of.ensures in (
+      widths-left a.most a.widths.now a.n (search rules) c.if-n-lt1.false c.if-n-gt-WIDTH_PLACES.false e.0 (c.all_blank.ensures (eqb 0) (λ x r k. search (rules, eqb_swap)))
           ∙ c.if-not-all_blank.false,
-      refl,
-      refl,
-      (summed_all c.loop-w.invariant c.loop-w-test.false).1,
-      omega (arith, c.loop-w.invariant.small),
+      s.0,
+      s.1,
+      s.2,
+      omega (arith, h.small, e.1, s.2),
     )
