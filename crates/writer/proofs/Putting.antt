@@ -80,13 +80,6 @@ put_byte {c} {at} {b} h =
     let l : at < length b = omega (arith, h.fits) in
     record { bytes = set_split b at c l ∙ rw (drop-drop 1 at b, add-one at); end = refl; fits = omega arith }
 
--- bytes in the places of as many
-pub put-mid : (s b : List ℕ) {at : ℕ} → Room s at b → Put s at b (put_mid at (at + length s - at) b s) (at + length s)
-unfolding over
-put-mid s b {at} h =
-    let e : at + length s - at ≡ length s = omega arith in
-    record { bytes = rw e; end = refl; fits = h.fits }
-
 -- ---- a line in the rest of the buffer
 
 module _ {t m : List ℕ} {at : ℕ} (h : Room t at m) where

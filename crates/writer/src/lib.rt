@@ -20,7 +20,7 @@ pub fn write(v: PolicyValue, buffer: &mut [u8]) -> Result<usize, Refusal>
     ensures answer { answer_of result ≡ spec.write v buffer.old }
     ensures bytes { buffer.new ≡ spec.write_buffer v buffer.old }
 {
-    if !validity::check(v) {
+    if !validity::lent::check(&v) {
         return Err(Refusal::InvalidState);
     }
     if !whole::fits(&v, buffer.len()) {
