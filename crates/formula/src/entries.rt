@@ -9,7 +9,7 @@ ghost use Rattle.policy.specs.Value.{rules_of, pairs_of};
 ghost use Rattle.formula.specs.Truth as truth;
 ghost use Rattle.formula.specs.Truth.{Sets, truth as trueAt, pair_holds};
 ghost use Rattle.formula.specs.Inner.Fits.{RulesFit, PairsFit};
-ghost use Rattle.formula.specs.Inner.Blocks.{AtLane};
+ghost use Rattle.formula.specs.Inner.Blocks.{SetsAt, AtLane};
 ghost use Rattle.formula.specs.Inner.Grant.{GrantsOf};
 ghost use Rattle.formula.specs.Inner.Source.{most_blocks};
 ghost use Rattle.formula.specs.Inner.Lane.{stack_places, in_block, AttributesOf};
@@ -58,7 +58,7 @@ impl<'a> Blocks<'a> {
     // Adds for each action where one of its pairs holds.
     fn add_pairs(&self, pairs: Pairs, granted: &mut [u64])
         requires { PairsFit most_actions pairs × (most_actions * self.now.count ≤ length granted.old) }
-        ensures { let n = self.now.count in (length granted.new ≡ length granted.old) × ((b : ℕ) → b < n → (p : Policy) (k : ℕ) (s : Sets) → AtLane p self.now b k s → (a : ℕ) → a < most_actions → has (in_block granted.new n b a) k ≡ (has (in_block granted.old n b a) k || any (λ x. eqb x.action a && pair_holds p s x) (pairs_of pairs))) }
+        ensures { let n = self.now.count in (length granted.new ≡ length granted.old) × ((b : ℕ) → b < n → (p : Policy) (k : ℕ) (s : Sets) → SetsAt p self.now b k s → (a : ℕ) → a < most_actions → has (in_block granted.new n b a) k ≡ (has (in_block granted.old n b a) k || any (λ x. eqb x.action a && pair_holds p s x) (pairs_of pairs))) }
     {
         for pair in &pairs.entries[..pairs.count] {
             self.add_held(

@@ -9,7 +9,7 @@ ghost use Rattle.policy.specs.Checks.{sizes, equal_width};
 ghost use Rattle.policy.specs.Value.{word_places};
 ghost use Rattle.policy.specs.Limits.{most_values};
 ghost use Rattle.formula.specs.Truth.{Sets, holds, place_held, compares, top, below, step};
-ghost use Rattle.formula.specs.Inner.Blocks.{AtLane};
+ghost use Rattle.formula.specs.Inner.Blocks.{SetsAt, AtLane};
 ghost use Rattle.formula.specs.Inner.Grant.{rule_true};
 ghost use Rattle.formula.specs.Inner.Lane.{lanes, vector_places, stack_places, in_block, Placed, AttributesOf, Stands, held_as, passes, combined, column};
 
@@ -70,7 +70,7 @@ impl<'a> Blocks<'a> {
     // Puts on a place where a holding is true.
     fn put_held(&self, h: Holding, stack: &mut [u64], to: usize)
         requires { to * self.now.count + self.now.count ≤ length stack.old }
-        ensures { Placed self.now.count to (λ b y. (p : Policy) (k : ℕ) (s : Sets) → AtLane p self.now b k s → has y k ≡ holds p s h) stack.old stack.new }
+        ensures { Placed self.now.count to (λ b y. (p : Policy) (k : ℕ) (s : Sets) → SetsAt p self.now b k s → has y k ≡ holds p s h) stack.old stack.new }
     {
         match h {
             Holding::User(v) => put_taken(self.users, self.count, v, stack, to),
@@ -99,7 +99,7 @@ impl<'a> Blocks<'a> {
     // senior stands in for a place of the user sets, unless the places are to be the same.
     fn put_passing(&self, w: u8, a: u8, c: u8, exact: bool, stack: &mut [u64], to: usize)
         requires { (a + w ≤ most_values) × (c + w ≤ most_values) × (to * self.now.count + self.now.count ≤ length stack.old) }
-        ensures { Placed self.now.count to (λ b y. (p : Policy) (k : ℕ) (s : Sets) → AtLane p self.now b k s → has y k ≡ every (λ q. passes exact (has s.object (c + q)) (held_as exact (held_or_senior p.user.lines) s.user (a + q))) w) stack.old stack.new }
+        ensures { Placed self.now.count to (λ b y. (p : Policy) (k : ℕ) (s : Sets) → SetsAt p self.now b k s → has y k ≡ every (λ q. passes exact (has s.object (c + q)) (held_as exact (held_or_senior p.user.lines) s.user (a + q))) w) stack.old stack.new }
     {
         blockwise::fill(stack, to, self.count, ALL);
         for q in 0..w {
@@ -172,7 +172,7 @@ impl<'a> Blocks<'a> {
     // Works out where the formula of a rule is true, and says on which place of the stack it is.
     pub fn where_true(&self, rule: RuleValue, stack: &mut [u64]) -> usize
         requires { ((p : Policy) × AttributesOf p self.now.sides) × (rule.count ≤ word_places) × (stack_places * self.now.count ≤ length stack.old) }
-        ensures { let n = self.now.count in (result ≤ word_places) × (length stack.new ≡ length stack.old) × ((b : ℕ) → b < n → (p : Policy) (k : ℕ) (s : Sets) → AtLane p self.now b k s → has (in_block stack.new n b result) k ≡ rule_true p rule s) }
+        ensures { let n = self.now.count in (result ≤ rule.count) × (length stack.new ≡ length stack.old) × ((b : ℕ) → b < n → (p : Policy) (k : ℕ) (s : Sets) → AtLane p self.now b k s → has (in_block stack.new n b result) k ≡ rule_true p rule s) }
     {
         blockwise::fill(stack, 0, self.count, 0);
         let mut d: usize = 0;

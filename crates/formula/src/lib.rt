@@ -51,9 +51,9 @@ impl From<bool> for Decision {
 }
 
 // Whether an action is granted at a user set and an object set, which stand in every lane.
-fn allows(v: PolicyValue, sides: Attributes, action: u32, user: u32, object: u32) -> bool
-    requires { ValueFits v × AttributesOf (policy_of v) sides × (user < 2 ^ most_values) × (object < 2 ^ most_values) }
-    ensures { result ≡ grants (policy_of v) action (at user object) }
+fn allows(v: &PolicyValue, sides: Attributes, action: u32, user: u32, object: u32) -> bool
+    requires { ValueFits v.now × AttributesOf (policy_of v.now) sides × (user < 2 ^ most_values) × (object < 2 ^ most_values) }
+    ensures { result ≡ grants (policy_of v.now) action (at user object) }
 {
     let users = side::closed(side::spread(user), v.user, true);
     let objects = side::closed(side::spread(object), v.object, false);
@@ -63,16 +63,16 @@ fn allows(v: PolicyValue, sides: Attributes, action: u32, user: u32, object: u32
         objects: &objects,
         count: 1,
     };
-    let grant = grant::of_action(grant::of_policy(v), action);
+    let grant = grant::of_action(grant::of_policy(*v), action);
     let mut stack = [0u64; ONE_STACK];
     let d = blocks.where_granted(grant, &mut stack);
     stack[d] % 2 == 1
 }
 
 // The answer where check 11 passes.
-fn answer(v: PolicyValue, action: u32, user: u32, object: u32) -> Result<Decision, Refusal>
-    requires { valid v ≡ true }
-    ensures { reply_of result ≡ spec.decide v action (at user object) }
+fn answer(v: &PolicyValue, action: u32, user: u32, object: u32) -> Result<Decision, Refusal>
+    requires { valid v.now ≡ true }
+    ensures { reply_of result ≡ spec.decide v.now action (at user object) }
 {
     if limits::actions(v.form) <= action {
         return Err(Refusal::UnknownAction);
@@ -88,8 +88,8 @@ fn answer(v: PolicyValue, action: u32, user: u32, object: u32) -> Result<Decisio
 pub fn decide(v: PolicyValue, action: u32, user: u32, object: u32) -> Result<Decision, Refusal>
     ensures { reply_of result ≡ spec.decide v action (at user object) }
 {
-    if !validity::check(v) {
+    if !validity::lent::check(&v) {
         return Err(Refusal::InvalidState);
     }
-    answer(v, action, user, object)
+    answer(&v, action, user, object)
 }

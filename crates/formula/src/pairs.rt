@@ -9,7 +9,7 @@ ghost use Rattle.policy.specs.Policy.{Policy};
 ghost use Rattle.policy.specs.Value.{pairs_of};
 ghost use Rattle.formula.specs.Truth.{Sets, holds};
 ghost use Rattle.formula.specs.Inner.Fits.{PairsFit};
-ghost use Rattle.formula.specs.Inner.Blocks.{AtLane};
+ghost use Rattle.formula.specs.Inner.Blocks.{SetsAt};
 ghost use Rattle.formula.specs.Inner.Grant.{partner_held, paired_at, Paired};
 ghost use Rattle.formula.specs.Inner.Lane.{in_block, Placed};
 
@@ -22,7 +22,7 @@ impl<'a> Blocks<'a> {
     // object value w.
     pub(crate) fn add_held(&self, v: usize, w: usize, to: &mut [u64], i: usize)
         requires { (v < most_values) × (w < most_values) × (i * self.now.count + self.now.count ≤ length to.old) }
-        ensures { let n = self.now.count in Placed n i (λ b y. (p : Policy) (k : ℕ) (s : Sets) → AtLane p self.now b k s → has y k ≡ (has (in_block to.old n b i) k || (holds p s (User v) && holds p s (Object w)))) to.old to.new }
+        ensures { let n = self.now.count in Placed n i (λ b y. (p : Policy) (k : ℕ) (s : Sets) → SetsAt p self.now b k s → has y k ≡ (has (in_block to.old n b i) k || (holds p s (User v) && holds p s (Object w)))) to.old to.new }
     {
         let n = self.count;
         let users = self.users;
@@ -38,7 +38,7 @@ impl<'a> Blocks<'a> {
     // Adds to a place where user value v and an object value of this set are held so.
     fn add_partners(&self, v: usize, set: u32, to: &mut [u64], i: usize)
         requires { (v < most_values) × (i * self.now.count + self.now.count ≤ length to.old) }
-        ensures { let n = self.now.count in Placed n i (λ b y. (p : Policy) (k : ℕ) (s : Sets) → AtLane p self.now b k s → has y k ≡ (has (in_block to.old n b i) k || (holds p s (User v) && partner_held p s set))) to.old to.new }
+        ensures { let n = self.now.count in Placed n i (λ b y. (p : Policy) (k : ℕ) (s : Sets) → SetsAt p self.now b k s → has y k ≡ (has (in_block to.old n b i) k || (holds p s (User v) && partner_held p s set))) to.old to.new }
     {
         for w in 0..MOST_VALUES {
             if sets::holds(set, w as u32) {
@@ -50,7 +50,7 @@ impl<'a> Blocks<'a> {
     // Adds to a place where a user value and one of the object values that it is paired with are held so.
     pub(crate) fn add_paired(&self, paired: [u32; MOST_VALUES], to: &mut [u64], i: usize)
         requires { i * self.now.count + self.now.count ≤ length to.old }
-        ensures { let n = self.now.count in Placed n i (λ b y. (p : Policy) (k : ℕ) (s : Sets) → AtLane p self.now b k s → has y k ≡ (has (in_block to.old n b i) k || paired_at p paired s)) to.old to.new }
+        ensures { let n = self.now.count in Placed n i (λ b y. (p : Policy) (k : ℕ) (s : Sets) → SetsAt p self.now b k s → has y k ≡ (has (in_block to.old n b i) k || paired_at p paired s)) to.old to.new }
     {
         for v in 0..MOST_VALUES {
             let set = paired[v];

@@ -21,14 +21,14 @@ first_lane xs d e = ap (λ (n : ℕ). eqb (n % 2) 1) (sym (alone xs d) ∙ sym (
 
 pub where_granted-d-requires : goal.where_granted-d-requires
 where_granted-d-requires c =
-    let p = policy_of c.args.v in
+    let p = policy_of c.args.v.now in
     ((p, c.requires.1), (c.of_action-grant.ensures p c.of_policy.ensures).few, omega arith)
 
 pub returns : goal.returns
 unfolding policy_of side_of
 returns c =
     let a = c.args in let w = c.where_granted-d in
-    let p = policy_of a.v in
+    let p = policy_of a.v.now in
     let x : InBlock p c.closed-users.result c.closed-objects.result 1 0 0 (at a.user a.object) =
     record {
       lane = lit< tt;

@@ -5,6 +5,10 @@ use Rattle.formula.specs.Truth.{Sets}
 use Rattle.formula.specs.Inner.Lane.{AttributesOf, InBlock}
 use Rattle.formula.specs.declared.both.Blocks.{Blocks}
 
--- lane k of block b stands for these sets of the policy, whose attributes lie where the blocks say
+-- lane k of block b stands for these sets of the policy
+abbrev pub SetsAt : Policy → Blocks → ℕ → ℕ → Sets → Type 0
+SetsAt p x b k s = InBlock p x.users.now x.objects.now x.count b k s
+
+-- and the policy's attributes lie where the blocks say
 abbrev pub AtLane : Policy → Blocks → ℕ → ℕ → Sets → Type 0
-AtLane p x b k s = AttributesOf p x.sides × InBlock p x.users.now x.objects.now x.count b k s
+AtLane p x b k s = AttributesOf p x.sides × SetsAt p x b k s

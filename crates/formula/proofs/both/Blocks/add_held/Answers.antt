@@ -14,7 +14,7 @@ loop-b-preserved c =
     placing_next l.invariant _ (omega (arith, c.requires.2))
     (λ p k s x. has-union _ _ k
     ∙ ap₂ (λ (y z : Bool). y || z) (ap (λ (y : ℕ). has y k) (still l.invariant _ (omega arith)))
-    (has_meet _ _ k ∙ ap₂ (λ (y z : Bool). y && z) (x.1.user.taken a.v c.requires.0) (x.1.object.taken a.w c.requires.1)))
+    (has_meet _ _ k ∙ ap₂ (λ (y z : Bool). y && z) (x.user.taken a.v c.requires.0) (x.object.taken a.w c.requires.1)))
 
 pub returns : goal.returns
 returns c = placing_all c.loop-b.invariant (omega arith)

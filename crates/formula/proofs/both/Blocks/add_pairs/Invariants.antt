@@ -6,7 +6,7 @@ use lib.Dec.{eqb}
 use lib.ListN.{length}
 use Rattle.policy.specs.Policy.{Policy}
 use Rattle.formula.specs.Truth.{Sets, pair_holds}
-use Rattle.formula.specs.Inner.Blocks.{AtLane}
+use Rattle.formula.specs.Inner.Blocks.{SetsAt}
 use Rattle.formula.specs.Inner.Lane.{in_block}
 use Rattle.formula.proofs.Pairing.{OrLater, Leads}
 use Rattle.formula.proofs.both.Blocks.add_pairs.Given as goal
@@ -14,5 +14,5 @@ use Rattle.formula.proofs.both.Blocks.add_pairs.Given as goal
 abbrev pub invariant-loop-pair : goal.invariant-loop-pair
 invariant-loop-pair l =
     (length l.granted ≡ length l.initial.granted)
-    × ((b : ℕ) → b < l.self.count → (p : Policy) (k : ℕ) (s : Sets) → AtLane p l.self b k s
+    × ((b : ℕ) → b < l.self.count → (p : Policy) (k : ℕ) (s : Sets) → SetsAt p l.self b k s
     → Leads p s l.pair-items l.pair-index (in_block l.granted l.self.count b) k (λ a. OrLater (λ x. eqb x.action a && pair_holds p s x) l.pair-items 0 (in_block l.initial.granted l.self.count b a) k))

@@ -32,7 +32,7 @@ copy-requires c =
     let l = c.loop-rule.invariant in let left = c.next.new.self.iter.rest.now in let r = c.in-Some.rule.now in
     let m = moved-in left l.0 r (moved left l.0 r l.1 c.in-Some.ensures.steps) in
     let g = c.requires in let w = c.where_true-d.ensures in (
-      place-room stack_places _ _ _ (omega (arith, g.2, l.2, w.1)) (omega (arith, w.0)),
+      place-room stack_places _ _ _ (omega (arith, g.2, l.2, w.1)) (omega (arith, w.0, (g.1.each r m).words)),
       place-room most_actions _ _ _ (omega (arith, g.3, l.3)) (g.1.each r m).action,
     )
 

@@ -42,7 +42,7 @@ pub returns-then-grants-ne0 : goal.returns-then-grants-ne0
 returns-then-grants-ne0 c =
     let x = c.put_rules.ensures in let y = c.add_pairs.ensures in (
       y.0 ∙ x.0 ∙ cleared-length _ c.args.granted.now c.fill.new.self c.requires.2 (c.fill.ensures.after (λ y e. e)),
-      λ b h p k s z g a l. y.1 b h p k s z a l ∙ rw (x.1 b h p k s z a l) (grants-stored p s c.args.grants a g),
+      λ b h p k s z g a l. y.1 b h p k s z.1 a l ∙ rw (x.1 b h p k s z a l) (grants-stored p s c.args.grants a g),
     )
 
 pub returns-else-grants-ne0 : goal.returns-else-grants-ne0

@@ -38,7 +38,7 @@ loop-number-preserved c =
 pub returns : goal.returns
 returns c =
     let l = c.loop-number in let r = c.args.rule in let ns = take r.count r.words in (
-      omega (arith, l.invariant.0, c.requires.1),
+      omega (arith, l.invariant.0),
       l.invariant.1 ∙ c.fill.ensures.long,
       λ b h p k s y.
           let e : words_in l.number-index ns ≡ words_in r.count r.words = ap (map numbered) (take_all l.number-index ns c.loop-number-test.false) in

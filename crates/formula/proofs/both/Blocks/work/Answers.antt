@@ -45,7 +45,7 @@ returns-in-Holds c =
       λ b h p k s y.
           let a = c.args in
           column-put a.self.now.count b (a.d + 1) x h k
-          ∙ rw c.in-Holds.is (ap (λ (e : Bool). e ∷ column (in_block a.stack.now a.self.now.count b) (a.d + 1) k) (x.here b h p k s y)),
+          ∙ rw c.in-Holds.is (ap (λ (e : Bool). e ∷ column (in_block a.stack.now a.self.now.count b) (a.d + 1) k) (x.here b h p k s y.1)),
     )
 
 pub returns-in-Compares : goal.returns-in-Compares
