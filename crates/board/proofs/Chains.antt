@@ -1,7 +1,7 @@
 -- What the library's chains answer, by the definitions.
 use Rattle.std.specs.Prelude.{Some}
-use Prim.Native.Nat.{ℕ, suc, ◌-◌, ◌<◌}
-use mathlib.Core.Path.{◌≡◌, refl, sym, ap₂, ◌∙◌}
+use Prim.Native.Nat.{ℕ, ◌-◌, ◌<◌}
+use mathlib.Core.Path.{◌≡◌, refl, sym, ◌∙◌}
 use mathlib.Core.Bool.{Bool, true, false, cond, ◌||◌, or-false, or_assoc}
 use mathlib.Core.List.{List, [], ◌∷◌, ◌++◌, map, reverse, Memᴰ}
 use native.Mathlib.Omega.{arith}
@@ -56,12 +56,3 @@ pub read-in : {A : Type 0} (all : List A) (k : ℕ) (x : A) → (k < length (rev
 read-in all k x h =
     let l : k < length all = rw length-reverse at h.0 in
     rw (h.1, get_or-reverse all k x l) (get_or-in all (length all - 1 - k) x (omega arith))
-
--- a list with the images of another's elements, place by place
-pub mapped-each : {A B : Type 0} (f : A → B) (xs : List A) (ys : List B) (d : A) (e : B) → length ys ≡ length xs
-    → ((i : ℕ) → i < length xs → get_or ys i e ≡ f (get_or xs i d)) → ys ≡ map f xs
-mapped-each f [] [] d e l h = refl
-mapped-each f [] (y ∷ ys) d e l h = absurd (omega (arith, l))
-mapped-each f (x ∷ xs) [] d e l h = absurd (omega (arith, l))
-mapped-each {B = B} f (x ∷ xs) (y ∷ ys) d e l h =
-    ap₂ (λ (b : B) (bs : List B). b ∷ bs) (h 0 (omega arith)) (mapped-each f xs ys d e (omega (arith, l)) (λ i k. h (suc i) (omega arith)))

@@ -49,14 +49,14 @@ fn judge(
 
 // A request that is made for these widths: check 11, then the others.
 pub fn of(
-    board: Board,
-    policy: PolicyValue,
+    board: &Board,
+    policy: &PolicyValue,
     widths: Widths,
     session: u32,
     action: u32,
     object: u32,
 ) -> Result<Asked, Refusal>
-    ensures { (l : Labels) → l.buffers.widths ≡ widths → record { reply = answered l action (asked_of result); state = board } ≡ board_step policy l (requests session action object) board }
+    ensures { (l : Labels) → l.buffers.widths ≡ widths → record { reply = answered l action (asked_of result); state = board.now } ≡ board_step policy.now l (requests session action object) board.now }
 {
     if !limits::own_widths(policy.form, widths) {
         return Err(Refusal::InvalidState);
@@ -65,7 +65,7 @@ pub fn of(
         return Err(Refusal::InvalidState);
     }
     let actions = limits::actions(policy.form);
-    let entry = entries::at(board.sessions, session);
-    let set = reach::set_of(policy.objects, object);
+    let entry = entries::at(&board.sessions, session);
+    let set = reach::set_of(&policy.objects, object);
     judge(actions, entry, set, session, action)
 }

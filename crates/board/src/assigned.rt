@@ -17,9 +17,9 @@ pub fn place(number: u32) -> usize
 }
 
 // The set that each user number is assigned. From the last entry to the first, so that a number's first entry counts.
-pub fn table(users: Register) -> [Option<u32>; PLACES]
-    requires { users.count ≤ entry_places }
-    ensures { ByNumber (entries_of users) result }
+pub fn table(users: &Register) -> [Option<u32>; PLACES]
+    requires { users.now.count ≤ entry_places }
+    ensures { ByNumber (entries_of users.now) result }
 {
     let mut found = [None; PLACES];
     for e in users.entries[..users.count].iter().rev() {

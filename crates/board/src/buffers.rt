@@ -38,8 +38,10 @@ fn look_up<L: Stored, E: Stored>(
     ensures { reply_of result ≡ looked_up (labels_of lent.entry.counts (lent_as (bits L.BITS E.BITS) (map L.number lent.entry.users.now) (map L.number lent.entry.objects.now) (map E.number lent.entry.table.now))) action (sets_of asked) }
 {
     let user = at(lent.users, asked.held as usize)?;
+    let user = UserLabel(user);
     let object = at(lent.objects, asked.object as usize)?;
-    let place = labels::place(UserLabel(user), ObjectLabel(object), lent.counts.objects);
+    let object = ObjectLabel(object);
+    let place = labels::place(user, object, lent.counts.objects);
     let entry = at(lent.table, place)?;
     if sets::holds(entry, action) {
         Ok(Reply::Granted)

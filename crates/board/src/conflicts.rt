@@ -14,10 +14,14 @@ fn held_by(entry: Session) -> u32
 }
 
 // The sets that the sessions of a board hold.
-pub fn held(sessions: [Session; SESSION_PLACES]) -> [u32; SESSION_PLACES]
-    ensures { result ≡ map held_at sessions }
+pub fn held(sessions: &[Session; SESSION_PLACES]) -> [u32; SESSION_PLACES]
+    ensures { result ≡ map held_at sessions.now }
 {
-    sessions.map(held_by)
+    let mut held = [0; SESSION_PLACES];
+    for (i, entry) in sessions.iter().enumerate() {
+        held[i] = held_by(*entry);
+    }
+    held
 }
 
 // Whether one of these sets has too many values of a conflict. The chain has no early way out, so that the compiler can
@@ -32,9 +36,9 @@ fn exceeded(conflict: Conflict, sets: &[u32]) -> bool
 }
 
 // Whether one of these sets has too many values of some conflict.
-pub fn over(conflicts: Conflicts, sets: &[u32]) -> bool
-    requires { conflicts.count ≤ conflict_places }
-    ensures { result ≡ over (conflicts_of conflicts) sets.now }
+pub fn over(conflicts: &Conflicts, sets: &[u32]) -> bool
+    requires { conflicts.now.count ≤ conflict_places }
+    ensures { result ≡ over (conflicts_of conflicts.now) sets.now }
 {
     conflicts.entries[..conflicts.count]
         .iter()

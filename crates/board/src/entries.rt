@@ -12,8 +12,8 @@ pub const CLOSED: Session = Session {
 };
 
 // The entry of a session number; a closed one past the last.
-pub fn at(sessions: [Session; SESSION_PLACES], session: u32) -> Session
-    ensures { result ≡ get_or sessions session closed }
+pub fn at(sessions: &[Session; SESSION_PLACES], session: u32) -> Session
+    ensures { result ≡ get_or sessions.now session closed }
 {
     sessions.get(session as usize).copied().unwrap_or(CLOSED)
 }

@@ -11,22 +11,22 @@ use crate::{Board, SESSION_PLACES, Session, assigned, conflicts, reach};
 use policy::value::{PolicyValue, Register, SideValue};
 
 // Whether an entry is closed, or its user registered and its set in the user's reach, by what its user is assigned.
-fn entry_reached(assigned: Option<u32>, side: SideValue, entry: Session) -> bool
-    requires { Rising side × (given assigned 0 (λ s. s) < policy.sets (side_of side)) }
-    ensures { (p : policy.Policy) → p.user ≡ side_of side → assigned ≡ policy.set_of_number p.users entry.user → result ≡ given (entry_of entry) true (reached p) }
+fn entry_reached(assigned: Option<u32>, side: &SideValue, entry: Session) -> bool
+    requires { Rising side.now × (given assigned 0 (λ s. s) < policy.sets (side_of side.now)) }
+    ensures { (p : policy.Policy) → p.user ≡ side_of side.now → assigned ≡ policy.set_of_number p.users entry.user → result ≡ given (entry_of entry) true (reached p) }
 {
     entry.live == 0 || reach::covers(assigned, side, entry.held)
 }
 
 // Whether that holds of each entry.
-fn all_reached(users: Register, side: SideValue, sessions: [Session; SESSION_PLACES]) -> bool
-    requires { Reachable side users }
-    ensures { (p : policy.Policy) → p.users ≡ entries_of users → p.user ≡ side_of side → result ≡ all_reached p sessions }
+fn all_reached(users: &Register, side: &SideValue, sessions: &[Session; SESSION_PLACES]) -> bool
+    requires { Reachable side.now users.now }
+    ensures { (p : policy.Policy) → p.users ≡ entries_of users.now → p.user ≡ side_of side.now → result ≡ all_reached p sessions.now }
 {
     let table = assigned::table(users);
     for entry in sessions {
         let assigned = table[assigned::place(entry.user)];
-        if !entry_reached(assigned, side, entry) {
+        if !entry_reached(assigned, side, *entry) {
             return false;
         }
     }
@@ -34,16 +34,16 @@ fn all_reached(users: Register, side: SideValue, sessions: [Session; SESSION_PLA
 }
 
 // Whether the policy value is valid, and each entry of the board in reach and within every conflict.
-pub fn fits(policy: PolicyValue, board: Board) -> bool
-    ensures { result ≡ fits policy board }
+pub fn fits(policy: &PolicyValue, board: &Board) -> bool
+    ensures { result ≡ fits policy.now board.now }
 {
-    if !validity::check(policy) {
+    if !validity::lent::check(policy) {
         return false;
     }
-    if !all_reached(policy.users, policy.user, board.sessions) {
+    if !all_reached(&policy.users, &policy.user, &board.sessions) {
         return false;
     }
     // Most policies have no conflict, and then the sets need not be gathered.
     policy.conflicts.count == 0
-        || !conflicts::over(policy.conflicts, &conflicts::held(board.sessions))
+        || !conflicts::over(&policy.conflicts, &conflicts::held(&board.sessions))
 }

@@ -100,19 +100,19 @@ pub fn fresh() -> Board
 }
 
 // The calls take what document 01 names, in its order.
-// Each of these four begins by check 11 and the session's entry. One function of these lines for all would be handed
-// board and policy, which are large, once more by value.
+// Each of these four begins by check 11 and the session's entry. One function of these lines for all would save none of
+// them, since its answer would be taken apart again.
 
 // Opens a session of the user that holds the set.
 pub fn open(board: Board, policy: PolicyValue, user: u32, session: u32, set: u32) -> Step
     ensures { (l : Labels) → out_of result ≡ board_step policy l (opens user session set) board }
 {
-    if !fit::fits(policy, board) {
+    if !fit::fits(&policy, &board) {
         return steps::invalid(board);
     }
-    let entry = entries::at(board.sessions, session);
-    let reach = reach::of(policy.users, policy.user, user);
-    let over = conflicts::over(policy.conflicts, &[set]);
+    let entry = entries::at(&board.sessions, session);
+    let reach = reach::of(&policy.users, &policy.user, user);
+    let over = conflicts::over(&policy.conflicts, &[set]);
     let ruling = rulings::of_open(entry, reach, over, session, set);
     let next = Session {
         live: 1,
@@ -126,13 +126,13 @@ pub fn open(board: Board, policy: PolicyValue, user: u32, session: u32, set: u32
 pub fn add(board: Board, policy: PolicyValue, user: u32, session: u32, set: u32) -> Step
     ensures { (l : Labels) → out_of result ≡ board_step policy l (adds user session set) board }
 {
-    if !fit::fits(policy, board) {
+    if !fit::fits(&policy, &board) {
         return steps::invalid(board);
     }
-    let entry = entries::at(board.sessions, session);
-    let reach = reach::of(policy.users, policy.user, user);
+    let entry = entries::at(&board.sessions, session);
+    let reach = reach::of(&policy.users, &policy.user, user);
     let held = sets::union(entry.held, set);
-    let over = conflicts::over(policy.conflicts, &[held]);
+    let over = conflicts::over(&policy.conflicts, &[held]);
     let ruling = rulings::of_add(entry, reach, over, user, session, set);
     let next = Session {
         live: 1,
@@ -146,11 +146,11 @@ pub fn add(board: Board, policy: PolicyValue, user: u32, session: u32, set: u32)
 pub fn drop(board: Board, policy: PolicyValue, user: u32, session: u32, set: u32) -> Step
     ensures { (l : Labels) → out_of result ≡ board_step policy l (drops user session set) board }
 {
-    if !fit::fits(policy, board) {
+    if !fit::fits(&policy, &board) {
         return steps::invalid(board);
     }
-    let entry = entries::at(board.sessions, session);
-    let reach = reach::of(policy.users, policy.user, user);
+    let entry = entries::at(&board.sessions, session);
+    let reach = reach::of(&policy.users, &policy.user, user);
     let ruling = rulings::of_drop(entry, reach, user, session, set);
     let held = sets::minus(entry.held, set);
     let next = Session {
@@ -165,11 +165,11 @@ pub fn drop(board: Board, policy: PolicyValue, user: u32, session: u32, set: u32
 pub fn close(board: Board, policy: PolicyValue, user: u32, session: u32) -> Step
     ensures { (l : Labels) → out_of result ≡ board_step policy l (closes user session) board }
 {
-    if !fit::fits(policy, board) {
+    if !fit::fits(&policy, &board) {
         return steps::invalid(board);
     }
-    let entry = entries::at(board.sessions, session);
-    let found = reach::set_of(policy.users, user);
+    let entry = entries::at(&board.sessions, session);
+    let found = reach::set_of(&policy.users, user);
     let ruling = rulings::of_close(entry, found.is_some(), user, session);
     steps::settle(board, session, ruling, entries::CLOSED)
 }
@@ -190,7 +190,7 @@ pub fn request<L: Stored, E: Stored>(
         label: L::BITS,
         entry: E::BITS,
     };
-    let asked = asking::of(board, policy, widths, session, action, object);
+    let asked = asking::of(&board, &policy, widths, session, action, object);
     let answer = buffers::answer(lent, action, asked);
     Step { answer, board }
 }

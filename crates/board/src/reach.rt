@@ -9,9 +9,9 @@ use crate::juniors;
 use policy::value::{Register, SideValue};
 
 // The set of a number, where it is registered.
-pub fn set_of(register: Register, number: u32) -> Option<u32>
-    requires { register.count ≤ entry_places }
-    ensures { result ≡ policy.set_of_number (entries_of register) number }
+pub fn set_of(register: &Register, number: u32) -> Option<u32>
+    requires { register.now.count ≤ entry_places }
+    ensures { result ≡ policy.set_of_number (entries_of register.now) number }
 {
     register.entries[..register.count]
         .iter()
@@ -20,9 +20,9 @@ pub fn set_of(register: Register, number: u32) -> Option<u32>
 }
 
 // The reach of a registered user: the assigned values and all juniors of them.
-pub fn of(users: Register, side: SideValue, user: u32) -> Option<u32>
-    requires { Reachable side users }
-    ensures { (p : policy.Policy) → p.users ≡ entries_of users → p.user ≡ side_of side → result ≡ reach_if p user }
+pub fn of(users: &Register, side: &SideValue, user: u32) -> Option<u32>
+    requires { Reachable side.now users.now }
+    ensures { (p : policy.Policy) → p.users ≡ entries_of users.now → p.user ≡ side_of side.now → result ≡ reach_if p user }
 {
     let set = set_of(users, user)?;
     Some(juniors::with_juniors(&side.seniority[..side.lines], set))
@@ -30,9 +30,9 @@ pub fn of(users: Register, side: SideValue, user: u32) -> Option<u32>
 
 // Whether a number is registered and the set within the reach of what it is assigned. Assigned values need no look at
 // seniority.
-pub fn covers(assigned: Option<u32>, side: SideValue, set: u32) -> bool
-    requires { Rising side × (given assigned 0 (λ s. s) < policy.sets (side_of side)) }
-    ensures { result ≡ covered side assigned set }
+pub fn covers(assigned: Option<u32>, side: &SideValue, set: u32) -> bool
+    requires { Rising side.now × (given assigned 0 (λ s. s) < policy.sets (side_of side.now)) }
+    ensures { result ≡ covered side.now assigned set }
 {
     let Some(assigned) = assigned else {
         return false;

@@ -113,12 +113,20 @@ module _ {p : Policy} {users objects : Classes} (L : LabelsOf p users objects) w
   counts-are = (L.users.counted, L.objects.counted)
 
   -- and that they are few
-  module _ {a : Attributes} (x : AttributesOf p a) where
+  module _ {view : View} (v : ViewOf p view) where
     pub users-few : users.count ≤ most_sets
-    users-few = le_trans (labelled-few L.users) (pow_mono x.user.most)
+    users-few = omega (arith, labelled-few L.users, v.users, v.few-users)
 
     pub objects-few : objects.count ≤ most_sets
-    objects-few = le_trans (labelled-few L.objects) (pow_mono x.object.most)
+    objects-few = omega (arith, labelled-few L.objects, v.objects, v.few-objects)
+
+  -- the same by the values of each side, where no view is taken
+  module _ {a : Attributes} (x : AttributesOf p a) where
+    pub users-limited : users.count ≤ most_sets
+    users-limited = le_trans (labelled-few L.users) (pow_mono x.user.most)
+
+    pub objects-limited : objects.count ≤ most_sets
+    objects-limited = le_trans (labelled-few L.objects) (pow_mono x.object.most)
 
 -- ---- the widths
 

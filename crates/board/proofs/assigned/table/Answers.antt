@@ -23,6 +23,6 @@ loop-e-preserved c =
 pub returns : goal.returns
 unfolding entries_of
 returns c =
-    let u = c.args.users in
+    let u = c.args.users.now in
     let t = YieldsList-end (YieldsList-from_rev_slice (take u.count u.entries) cc) c.loop-e.yielded _ c.loop-e.yielded_by _ _ c.in-None.is c.next.ensures.steps in
     rw (back-all c.loop-e.yielded (take u.count u.entries) t.0) at c.loop-e.invariant.1

@@ -1,14 +1,23 @@
--- `board::conflicts::held` meets its contract: each place has what its session holds.
-use Rattle.std.proofs.Common.{◌≡◌, ◌∙◌, sym, rules, length}
+-- `board::conflicts::held` meets its contract: the places before place i have what their sessions hold.
+use Rattle.std.proofs.Common.{◌≡◌, ◌∙◌, ℕ, sym, arith, rules, length}
+use lib.ListN.{length-replicate}
 use Rattle.basis.proofs.Lists.{long}
+use Rattle.basis.proofs.Mapped.{mapped_none, mapped_more, mapped_all}
 use Rattle.policy.specs.Limits.{session_numbers}
 use Rattle.board.specs.Board.{closed}
-use Rattle.board.specs.Inner.{held_at}
-use Rattle.board.proofs.Chains.{mapped-each}
 use Rattle.board.proofs.conflicts.held.Goals as goal
+
+pub loop-i-init : goal.loop-i-init
+loop-i-init c =
+    let size : length c.args.sessions.now ≡ session_numbers = search (rules, long) in
+    mapped_none (length-replicate {A = ℕ} session_numbers 0 ∙ sym size)
+
+pub loop-i-preserved : goal.loop-i-preserved
+loop-i-preserved c =
+    let size : length c.args.sessions.now ≡ session_numbers = search (rules, long) in
+    mapped_more c.loop-i.invariant closed (omega (arith, c.loop-i-test.true)) c.held_by.ensures
 
 pub returns : goal.returns
 returns c =
-    let size : length c.args.sessions ≡ session_numbers = search (rules, long) in
-    mapped-each held_at c.args.sessions c.map.result closed 0 (c.map.ensures.items.long ∙ sym size)
-    (λ i k. let t = c.map.ensures.items.at i closed 0 (rw size at k) in search rules)
+    let size : length c.args.sessions.now ≡ session_numbers = search (rules, long) in
+    mapped_all c.loop-i.invariant (omega (arith, c.loop-i-test.false))

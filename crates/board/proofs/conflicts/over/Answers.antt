@@ -12,6 +12,6 @@ use Rattle.board.proofs.conflicts.over.Goals as goal
 pub returns : goal.returns
 unfolding conflicts_of over
 returns c =
-    let xs = c.args.conflicts in
+    let xs = c.args.conflicts.now in
     let some = any_from_yields_List (λ (x : Conflict). exceeded x c.args.sets.now) _ _ c.any.result c.any.ensures.ran (YieldsList-from_slice (take xs.count xs.entries) cc) (λ x b q k. search (rules, tests)) in
     some ∙ any-list (λ (x : Conflict). exceeded x c.args.sets.now) (take xs.count xs.entries)

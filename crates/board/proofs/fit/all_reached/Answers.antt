@@ -28,33 +28,33 @@ pub entry_reached-requires : goal.entry_reached-requires
 entry_reached-requires c = (
   c.requires.seniority,
   rw c.place.ensures
-      (found_lt c.args.side c.args.users c.requires c.table-table.result c.table-table.ensures _),
+      (found_lt c.args.side.now c.args.users.now c.requires c.table-table.result c.table-table.ensures _),
 )
 
 pub returns-then-not-entry_reached : goal.returns-then-not-entry_reached
 returns-then-not-entry_reached c p eu es =
-    let size : length c.args.sessions ≡ session_numbers = search (rules, long) in
-    let inside : c.loop-entry.entry-index < length c.args.sessions = omega arith in
-    let x = get_or c.args.sessions c.loop-entry.entry-index closed in
-    let q = assigns c.args.side c.args.users c.requires c.table-table.result c.table-table.ensures p eu in
+    let size : length c.args.sessions.now ≡ session_numbers = search (rules, long) in
+    let inside : c.loop-entry.entry-index < length c.args.sessions.now = omega arith in
+    let x = get_or c.args.sessions.now c.loop-entry.entry-index closed in
+    let q = assigns c.args.side.now c.args.users.now c.requires c.table-table.result c.table-table.ensures p eu in
     -- the turn's test is the call's answer
     let tested : c.entry_reached.result ≡ reached_in p x = c.entry_reached.ensures p es (rw c.place.ensures (q x.user)) in
-    sym (c.loop-entry.invariant p es q ∙ next-fails p c.args.sessions c.loop-entry.entry-index inside (sym tested ∙ c.if-not-entry_reached.true))
+    sym (c.loop-entry.invariant p es q ∙ next-fails p c.args.sessions.now c.loop-entry.entry-index inside (sym tested ∙ c.if-not-entry_reached.true))
 
 pub loop-entry-preserved : goal.loop-entry-preserved
 loop-entry-preserved c =
-    let size : length c.args.sessions ≡ session_numbers = search (rules, long) in
-    let inside : c.loop-entry.entry-index < length c.args.sessions = omega arith in
-    let x = get_or c.args.sessions c.loop-entry.entry-index closed in
+    let size : length c.args.sessions.now ≡ session_numbers = search (rules, long) in
+    let inside : c.loop-entry.entry-index < length c.args.sessions.now = omega arith in
+    let x = get_or c.args.sessions.now c.loop-entry.entry-index closed in
     λ p es q.
     -- the turn's test is the call's answer
     let tested : c.entry_reached.result ≡ reached_in p x = c.entry_reached.ensures p es (rw c.place.ensures (q x.user)) in
-    c.loop-entry.invariant p es q ∙ next-reached p c.args.sessions c.loop-entry.entry-index inside (sym tested ∙ c.if-not-entry_reached.false)
+    c.loop-entry.invariant p es q ∙ next-reached p c.args.sessions.now c.loop-entry.entry-index inside (sym tested ∙ c.if-not-entry_reached.false)
 
 pub returns : goal.returns
 returns c p eu es =
     let a = c.args in
-    let size : length a.sessions ≡ session_numbers = search (rules, long) in
-    let q = assigns a.side a.users c.requires c.table-table.result c.table-table.ensures p eu in
-    let h : length a.sessions ≤ c.loop-entry.entry-index = omega arith in
-    sym (c.loop-entry.invariant p es q ∙ none_left p a.sessions c.loop-entry.entry-index h)
+    let size : length a.sessions.now ≡ session_numbers = search (rules, long) in
+    let q = assigns a.side.now a.users.now c.requires c.table-table.result c.table-table.ensures p eu in
+    let h : length a.sessions.now ≤ c.loop-entry.entry-index = omega arith in
+    sym (c.loop-entry.invariant p es q ∙ none_left p a.sessions.now c.loop-entry.entry-index h)

@@ -10,4 +10,4 @@ use Rattle.board.proofs.fit.all_reached.Given as goal
 
 abbrev pub invariant-loop-entry : goal.invariant-loop-entry
 invariant-loop-entry l =
-    (p : Policy) → p.user ≡ side_of l.side → Assigns p l.table → all (reached_in p) l.entry-items ≡ all (reached_in p) (drop l.entry-index l.entry-items)
+    (p : Policy) → p.user ≡ side_of l.side → Assigns p l.table → all (reached_in p) l.sessions ≡ all (reached_in p) (drop l.entry-index l.sessions)

@@ -3,4 +3,4 @@ use Rattle.board.proofs.Fitting.{reached-live}
 use Rattle.board.proofs.fit.entry_reached.Goals as goal
 
 pub returns-else-entry-eq0 : goal.returns-else-entry-eq0
-returns-else-entry-eq0 c p es q = reached-live p c.args.entry c.args.side es c.args.assigned q c.if-entry-eq0.false c.covers.result c.covers.ensures
+returns-else-entry-eq0 c p es q = reached-live p c.args.entry c.args.side.now es c.args.assigned q c.if-entry-eq0.false c.covers.result c.covers.ensures

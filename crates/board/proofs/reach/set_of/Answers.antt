@@ -12,7 +12,7 @@ use Rattle.board.proofs.reach.set_of.Goals as goal
 pub returns : goal.returns
 unfolding entries_of
 returns c =
-    let r = c.args.register in
+    let r = c.args.register.now in
     let found = find_from_yields_List (λ (e : Entry). eqb e.number c.args.number) _ _ c.find.result c.find.ensures.ran (YieldsList-from_slice (take r.count r.entries) cc) (λ x b q k. search (rules, tests)) in
     let mapped : c.map.result ≡ option_map (λ (e : Entry). e.set) (option_map (λ y. y.now) c.find.result) = search rules in
     mapped ∙ ap (option_map (λ (e : Entry). e.set)) found ∙ set-found (take r.count r.entries) c.args.number

@@ -18,7 +18,9 @@ of-view-requires g c = (_, c.requires.1.rows.sides)
 
 pub of-counts-requires : goal.of-counts-requires
 of-counts-requires g c =
-    let s = c.requires.1 in (users-few s.labels s.rows.sides, objects-few s.labels s.rows.sides)
+    let s = c.requires.1 in
+    let w = c.of-view.ensures _ s.rows.sides in
+    (users-few s.labels w, objects-few s.labels w)
 
 pub returns-then-too_short : goal.returns-then-too_short
 returns-then-too_short g c = λ v s own.
@@ -71,7 +73,7 @@ put_table-requires g c =
     let q = c.of-counts.ensures in
     let room = none-short _ b (sym (c.too_short.ensures _ w (q.0 ∙ n.0) (q.1 ∙ n.1)) ∙ c.if-too_short.false) in
     record {
-      user_value = (s.user, (_, s.rows, w, s.kept _ w), users-few L s.rows.sides, objects-few L s.rows.sides, rw (n.0, n.1) (simp length-map at room.2), rw s.rows.actions (actions-few _ _ c.requires.2));
+      user_value = (s.user, (_, s.rows, w, s.kept _ w), users-few L w, objects-few L w, rw (n.0, n.1) (simp length-map at room.2), rw s.rows.actions (actions-few _ _ c.requires.2));
       leading = (rw w.users (labelled-leads (like_users-equivalence _ _) L.users), rw w.objects (labelled-leads (like_objects-equivalence _ _) L.objects));
     }
 
