@@ -125,6 +125,8 @@ pub fn run_lines(
     requires { (count ≤ lanes) × (object + count ≤ 2 ^ 32) }
     ensures { Some (λ k. take head.now.count head.now.text ++ end_line (object + k)) (marked (w ∷ [])) count 0 buf.old buf.new result }
 {
+    // A copy of its own: what stands behind a reference may be read again after each byte that is stored.
+    let head = *head;
     let mut at = 0;
     let mut k: usize = 0;
     let mut rest = w;
