@@ -35,7 +35,7 @@ def line_of(text, at):
 
 
 def functions(text):
-    for m in re.finditer(r"^( *)(?:pub )?(?:final )?(?:extern \"C\" )?fn (\w+)(.*?)(?:\n\1| )\{\n(.*?)^\1\}", text, re.S | re.M):
+    for m in re.finditer(r"^( *)(?:pub(?:\(crate\))? )?(?:final )?(?:extern \"C\" )?fn (\w+)(.*?)(?:\n\1| )\{\n(.*?)^\1\}", text, re.S | re.M):
         yield m.start(), m.group(2), m.group(3), m.group(4)
 
 
